@@ -1,0 +1,7 @@
+pub mod Limits
+pub mod BitSet
+pub mod Outcome
+pub mod Rule
+pub mod Table
+pub mod Held
+pub mod Lookup
