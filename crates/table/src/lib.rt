@@ -1,0 +1,3 @@
+// Rule tables: reader, writer, the read table as arrays of arrays, and the look-up of successors.
+pub mod cursor;
+pub mod limits;

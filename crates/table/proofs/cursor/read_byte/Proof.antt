@@ -1,0 +1,55 @@
+-- Questions 4 and 5 at one byte.
+use borrow.Author.Needs.{needs}
+use mathlib.Core.Path.{sym, _∙_}
+use Rattle.table.proofs.CellByte.{byte-missing, byte-accepted, byte-refused}
+use Rattle.table.proofs.cursor.read_byte.Statement.{statement}
+use Rattle.table.proofs.cursor.read_byte.Tie as tie
+use Rattle.table.proofs.cursor.read_byte.Reads as reads
+use Rattle.table.proofs.cursor.read_byte.Lts as lts
+use Rattle.table.proofs.cursor.Cursor.next.Reads as next-reads
+use Rattle.table.proofs.cursor.widen.Reads as widen-reads
+
+next-requires : tie.Need-next-requires
+next-requires c κs = search needs
+
+enum-told : tie.Need-enum-told
+enum-told c = search needs
+
+enum-known-x : tie.Need-enum-known-x
+enum-known-x c = search needs
+
+widen-requires : tie.Need-widen-requires
+widen-requires c κs = search needs
+
+cast-if1 : tie.Need-cast-if1
+cast-if1 c = search needs
+
+shl-if1 : tie.Need-shl-if1
+shl-if1 c = search needs
+
+returns : tie.Need-returns
+returns c = byte-missing _ _ _ (sym (c .before .before .next .ensures) ∙ c .enum-told .given .1)
+
+returns-2 : tie.Need-returns-2
+returns-2 c =
+    let a = c .before .before .before .before .before in
+    byte-accepted _ _ _ _ _ _ (sym (a .next .ensures) ∙ c .before .before .before .x .given .1) (a .before .before .pre) (c .before .widen .ensures) (c .if1 .taken)
+
+returns-3 : tie.Need-returns-3
+returns-3 c =
+    let a = c .before .before .before .before .before in
+    byte-refused _ _ _ _ _ _ (sym (a .next .ensures) ∙ c .before .before .before .x .given .1) (a .before .before .pre) (c .before .widen .ensures) (c .if1 .left)
+
+pub read-byte-spec : {M : Type 1} → statement M
+read-byte-spec =
+    tie.close
+    (tie.spec
+    next-requires
+    enum-told
+    enum-known-x
+    widen-requires
+    cast-if1
+    shl-if1
+    returns
+    returns-2
+    returns-3)

@@ -1,0 +1,22 @@
+-- What the answers of the functions over the cursor say, for the contracts inside this crate.
+use mathlib.Core.Bool.{cond}
+use mathlib.Core.List.{List}
+use Prim.Native.Nat.{ℕ, _+_}
+use lib.Dec.{ltb}
+use lib.ListN.{length, getD, drop}
+use Rattle.table.specs.Outcome.{Outcome, refused, accepted}
+use Rattle.table.specs.Table.{Read}
+use Rattle.table.specs.declared.cursor.Cursor.{Cursor}
+use Rattle.table.specs.declared.cursor.Next.{Next}
+use Rattle.table.specs.declared.cursor.Next.the-variants.{Byte, End}
+use Rattle.table.specs.declared.cursor.CellByte.{CellByte}
+use Rattle.table.specs.declared.cursor.CellByte.the-variants.{Byte as CellByte·Byte, Refused}
+
+-- the byte at a place and the place behind it, or the end
+unfoldable pub nextAt : List ℕ → ℕ → Next
+nextAt s at = cond (ltb at (length s)) (Byte (getD s at 0) (record { at = at + 1 })) End
+
+-- a byte with the bytes behind it, or question 4's or 5's number
+abbrev pub byteRead : List ℕ → CellByte → Read ℕ
+byteRead s (CellByte·Byte x c) = accepted (x, drop (c .at) s)
+byteRead s (Refused number) = refused number
