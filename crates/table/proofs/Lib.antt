@@ -1,1 +1,3 @@
 pub mod CellByte
+pub mod RowReading
+pub mod Sequence

@@ -11,6 +11,8 @@ use Rattle.table.specs.declared.cursor.Next.{Next}
 use Rattle.table.specs.declared.cursor.Next.the-variants.{Byte, End}
 use Rattle.table.specs.declared.cursor.CellByte.{CellByte}
 use Rattle.table.specs.declared.cursor.CellByte.the-variants.{Byte as CellByte·Byte, Refused}
+use Rattle.table.specs.declared.reader.Progress.{Progress}
+use Rattle.table.specs.declared.reader.Progress.the-variants.{At, Refused as Progress·Refused}
 
 -- the byte at a place and the place behind it, or the end
 unfoldable pub nextAt : List ℕ → ℕ → Next
@@ -20,3 +22,8 @@ nextAt s at = cond (ltb at (length s)) (Byte (getD s at 0) (record { at = at + 1
 abbrev pub byteRead : List ℕ → CellByte → Read ℕ
 byteRead s (CellByte·Byte x c) = accepted (x, drop (c .at) s)
 byteRead s (Refused number) = refused number
+
+-- what was read up to a place, with the bytes behind it, or the number of the question that failed
+abbrev pub progress : {A : Type 0} → List ℕ → Progress → A → Read A
+progress s (At c) x = accepted (x, drop (c .at) s)
+progress s (Progress·Refused number) x = refused number

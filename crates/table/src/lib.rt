@@ -1,3 +1,4 @@
 // Rule tables: reader, writer, the read table as arrays of arrays, and the look-up of successors.
 pub mod cursor;
 pub mod limits;
+pub mod reader;
