@@ -1,3 +1,4 @@
 pub mod CellByte
+pub mod ManyReading
 pub mod RowReading
 pub mod Sequence

@@ -1,11 +1,14 @@
 -- What the answers of the functions over the cursor say, for the contracts inside this crate.
 use mathlib.Core.Bool.{cond}
-use mathlib.Core.List.{List}
+use mathlib.Core.List.{List, _++_}
 use Prim.Native.Nat.{ℕ, _+_}
 use lib.Dec.{ltb}
 use lib.ListN.{length, getD, drop}
-use Rattle.table.specs.Outcome.{Outcome, refused, accepted}
-use Rattle.table.specs.Table.{Read}
+use Rattle.table.specs.Limits.{maxStates}
+use Rattle.table.specs.Outcome.{Outcome, refused, accepted, _then_}
+use Rattle.table.specs.Rule.{Grid}
+use Rattle.table.specs.Table.{Read, readCell, readMany}
+use Rattle.table.specs.Held.{blankSquare, blankCells}
 use Rattle.table.specs.declared.cursor.Cursor.{Cursor}
 use Rattle.table.specs.declared.cursor.Next.{Next}
 use Rattle.table.specs.declared.cursor.Next.the-variants.{Byte, End}
@@ -27,3 +30,15 @@ byteRead s (Refused number) = refused number
 abbrev pub progress : {A : Type 0} → List ℕ → Progress → A → Read A
 progress s (At c) x = accepted (x, drop (c .at) s)
 progress s (Progress·Refused number) x = refused number
+
+-- c things that were read, stored over the first c elements of a list
+abbrev pub replaced : {A : Type 0} → ℕ → List A → Read (List A) → Read (List A)
+replaced c old o = o then λ x. accepted (x .0 ++ drop c old, x .1)
+
+-- the cells of one letter, in an array that was blank
+unfoldable pub readSquare : ℕ → ℕ → List ℕ → Read (List (List ℕ))
+readSquare n k bytes = replaced n blankSquare (readMany (readCell n k maxStates) n bytes)
+
+-- the cells of all letters, in arrays that were blank
+unfoldable pub readHeld : ℕ → ℕ → ℕ → List ℕ → Read Grid
+readHeld n m k bytes = replaced m blankCells (readMany (readSquare n k) m bytes)

@@ -16,6 +16,9 @@ blankRow = replicate maxStates noTransition
 abbrev pub blankSquare : List (List ℕ)
 blankSquare = replicate maxStates blankRow
 
+abbrev pub blankCells : Grid
+blankCells = replicate maxLetters blankSquare
+
 unfoldable pub heldRow : List ℕ → List ℕ
 heldRow row = pad maxStates noTransition row
 

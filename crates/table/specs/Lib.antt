@@ -3,6 +3,6 @@ pub mod BitSet
 pub mod Outcome
 pub mod Rule
 pub mod Table
-pub mod Cursor
 pub mod Held
+pub mod Cursor
 pub mod Lookup

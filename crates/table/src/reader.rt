@@ -1,13 +1,14 @@
 // The reader: questions 1 to 6 put to a table, and the read table as arrays of arrays.
 use crate::cursor::{CellByte, Cursor, read_byte};
-use crate::limits::{NO_TRANSITION, Row, STATES};
+use crate::limits::{Cells, NO_TRANSITION, Row, STATES, Square};
 
 ghost use mathlib.Core.Path.{_≡_};
-ghost use Prim.Native.Nat.{_^_, _<_};
+ghost use Prim.Native.Nat.{_^_, _<_, _≤_};
 ghost use lib.ListN.{drop};
-ghost use Rattle.table.specs.Limits.{maxStates};
-ghost use Rattle.table.specs.Table.{readRow};
-ghost use Rattle.table.specs.Cursor.{progress};
+ghost use Rattle.table.specs.Limits.{maxLetters, maxStates};
+ghost use Rattle.table.specs.Table.{readCell, readRow};
+ghost use Rattle.table.specs.Held.{blankCells, blankSquare};
+ghost use Rattle.table.specs.Cursor.{progress, readHeld, readSquare};
 
 // The cursor behind what was read, or the number of the question that failed.
 pub enum Progress {
@@ -51,4 +52,64 @@ fn read_row(s: &[u8], from: Cursor, standing: u16, k: usize) -> RowRead
         }
     }
     RowRead { cells: cells, next: Progress::At(at) }
+}
+
+// A cell: its map byte, in which bits below n may stand, then its set bytes.
+fn read_cell(s: &[u8], from: Cursor, n: usize, k: usize) -> RowRead
+    requires { ⌜ (n < 16) × (k < 16) ⌝ }
+    ensures { λ r. ⌜ progress (now (s .entry)) (r .next) (r .cells) ≡ readCell n k maxStates (drop (from .at) (now (s .entry))) ⌝ }
+{
+    match read_byte(s, from, n) {
+        CellByte::Refused(number) => RowRead {
+            cells: [NO_TRANSITION; STATES],
+            next: Progress::Refused(number),
+        },
+        CellByte::Byte(map, next) => read_row(s, next, map as u16, k),
+    }
+}
+
+// The n cells of one letter, states 0 to n−1.
+fn read_letter(s: &[u8], from: Cursor, n: usize, k: usize, square: &mut Square) -> Progress
+    requires { ⌜ ((n ≤ maxStates) × (k < 16)) × (now square ≡ blankSquare) ⌝ }
+    ensures { λ r. ⌜ progress (now (s .entry)) r (now (square .exit)) ≡ readSquare n k (drop (from .at) (now (s .entry))) ⌝ }
+{
+    let mut at = from;
+    let mut state = 0usize;
+    while state < n {
+        let cell = read_cell(s, at, n, k);
+        let row = cell.cells;
+        let behind = cell.next;
+        match behind {
+            Progress::Refused(number) => {
+                return Progress::Refused(number);
+            }
+            Progress::At(next) => {
+                square[state] = row;
+                at = next;
+                state += 1;
+            }
+        }
+    }
+    Progress::At(at)
+}
+
+// "m times n cells, letter 0 with states 0 to n−1 first".
+fn read_cells(s: &[u8], from: Cursor, n: usize, m: usize, k: usize, cells: &mut Cells) -> Progress
+    requires { ⌜ ((n ≤ maxStates) × (m ≤ maxLetters)) × ((k < 16) × (now cells ≡ blankCells)) ⌝ }
+    ensures { λ r. ⌜ progress (now (s .entry)) r (now (cells .exit)) ≡ readHeld n m k (drop (from .at) (now (s .entry))) ⌝ }
+{
+    let mut at = from;
+    let mut letter = 0usize;
+    while letter < m {
+        match read_letter(s, at, n, k, &mut cells[letter]) {
+            Progress::Refused(number) => {
+                return Progress::Refused(number);
+            }
+            Progress::At(next) => {
+                at = next;
+                letter += 1;
+            }
+        }
+    }
+    Progress::At(at)
 }

@@ -1,0 +1,41 @@
+-- A cell is its map byte and the row that the set bytes give.
+use borrow.Author.Needs.{needs}
+use Rattle.table.specs.Table.{readCell}
+use Rattle.table.proofs.reader.read_cell.Statement.{statement}
+use Rattle.table.proofs.reader.read_cell.Tie as tie
+
+read-byte-requires : tie.Need-read-byte-requires
+read-byte-requires c κs = search needs
+
+enum-known-number : tie.Need-enum-known-number
+enum-known-number c = search needs
+
+enum-known-map : tie.Need-enum-known-map
+enum-known-map c = search needs
+
+cast-read-row : tie.Need-cast-read-row
+cast-read-row c = search needs
+
+read-row-requires : tie.Need-read-row-requires
+read-row-requires c κs = search needs
+
+returns : tie.Need-returns
+unfolding readCell
+returns c = rw (← (rw (c .before .number .given .1) at (c .before .before .before .read-byte .ensures)))
+
+returns-2 : tie.Need-returns-2
+unfolding readCell
+returns-2 c =
+    rw (← (rw (c .before .before .map .given .1) at (c .before .before .before .before .read-byte .ensures))) (c .read-row .ensures)
+
+pub read-cell-spec : {M : Type 1} → statement M
+read-cell-spec =
+    tie.close
+    (tie.spec
+    read-byte-requires
+    enum-known-number
+    enum-known-map
+    cast-read-row
+    read-row-requires
+    returns
+    returns-2)

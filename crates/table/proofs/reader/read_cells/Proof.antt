@@ -1,0 +1,81 @@
+-- The cells letter by letter, by the laws of ManyReading.
+use Prim.Native.Nat.{_-_}
+use mathlib.Core.List.{[]}
+use mathlib.Core.Path.{_∙_}
+use native.Mathlib.Omega.{arith}
+use borrow.Author.Needs.{needs}
+use lib.ListN.{drop, getD-replicate}
+use Rattle.table.specs.Limits.{maxLetters}
+use Rattle.table.specs.Held.{blankSquare, blankCells}
+use Rattle.table.specs.Cursor.{readSquare, readHeld}
+use Rattle.table.proofs.ManyReading.{ManySoFar, many-start, many-place, many-more, many-refused, many-done}
+use Rattle.table.proofs.reader.read_cells.Statement.{statement}
+use Rattle.table.proofs.reader.read_cells.Tie as tie
+
+abbrev Inv-loop : tie.InvT-loop
+Inv-loop s n m k cells₀ at₀ letter₀ cells at letter =
+    ManySoFar s (readSquare n k) m blankCells (readHeld n m k (drop (at₀ .at) s)) cells (at .at) letter
+
+abbrev μ-loop : tie.MeasureT-loop
+μ-loop s n m k cells₀ at₀ letter₀ cells at letter = m - letter
+
+loop-holds : tie.Need-loop-holds Inv-loop μ-loop
+unfolding readHeld
+loop-holds c = rw (c .before .pre .1 .1) (many-start _ _ _ _ _)
+
+mul-read-letter : tie.Need-mul-read-letter Inv-loop μ-loop
+mul-read-letter c = search needs
+
+index-1-read-letter : tie.Need-index-1-read-letter Inv-loop μ-loop
+index-1-read-letter c = search needs
+
+read-letter-requires : tie.Need-read-letter-requires Inv-loop μ-loop
+read-letter-requires c κs =
+    let l = c .before in
+    (search needs, many-place (l .before .loop .inv) [] ∙ getD-replicate maxLetters (l .before .loop .letter) blankSquare [] (search needs))
+
+enum-known-number : tie.Need-enum-known-number Inv-loop μ-loop
+enum-known-number c = search needs
+
+returns : tie.Need-returns Inv-loop μ-loop
+returns c =
+    let r = c .before .before .before in
+    let l = r .before .before in
+    many-refused (l .before .loop .inv) (l .loop-test .taken) _ (rw (c .before .number .given .1) at (r .read-letter .ensures))
+
+enum-known-next : tie.Need-enum-known-next Inv-loop μ-loop
+enum-known-next c = search needs
+
+add-letter : tie.Need-add-letter Inv-loop μ-loop
+add-letter c = search needs
+
+loop-less : tie.Need-loop-less Inv-loop μ-loop
+loop-less c = search needs
+
+loop-again : tie.Need-loop-again Inv-loop μ-loop
+loop-again c =
+    let r = c .before .before .before in
+    let l = r .before .before in
+    many-more (l .before .loop .inv) (l .loop-test .taken) (search needs) _ _
+    (rw (c .before .next .given .1) at (r .read-letter .ensures))
+
+returns-2 : tie.Need-returns-2 Inv-loop μ-loop
+returns-2 c = many-done (c .before .loop .inv) (c .loop-test .left)
+
+pub read-cells-spec : {M : Type 1} → statement M
+read-cells-spec =
+    tie.close
+    (tie.spec
+    Inv-loop
+    μ-loop
+    loop-holds
+    mul-read-letter
+    index-1-read-letter
+    read-letter-requires
+    enum-known-number
+    returns
+    enum-known-next
+    add-letter
+    loop-less
+    loop-again
+    returns-2)
