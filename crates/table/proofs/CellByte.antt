@@ -33,7 +33,7 @@ unfolding nextAt
 next-byte s at x c e = go (ltb at (length s)) refl e
   where
     go : (b : Bool) → ltb at (length s) ≡ b → cond b (Byte (getD s at 0) (record { at = at + 1 })) End ≡ Byte x c
-      → (at < length s) × (x ≡ getD s at 0) × (c .at ≡ at + 1)
+        → (at < length s) × (x ≡ getD s at 0) × (c .at ≡ at + 1)
     go true h e = (ltb-true _ _ h, cc, let z : record { at = at + 1 } ≡ c = cc in sym (ap (λ (y : Cursor). y .at) z))
     go false h e = let z : _≡_ {A = ℕ} 0 1 = cc in absurd (omega arith)
 

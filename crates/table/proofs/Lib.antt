@@ -1,4 +1,8 @@
-pub mod CellByte
-pub mod ManyReading
-pub mod RowReading
+pub mod Logic
+pub mod BitSet
 pub mod Sequence
+pub mod Tests
+pub mod Ranges
+pub mod CellByte
+pub mod RowReading
+pub mod ManyReading

@@ -24,20 +24,19 @@ module _ {A : Type 0} where
     pub ahead : between (take i places) (drop count old) (readMany one (count - i) (drop at s)) ≡ whole
 
   pub many-start : (s : List ℕ) (one : List ℕ → Read A) (count : ℕ) (old : List A) (at : ℕ)
-    → ManySoFar s one count old (replaced count old (readMany one count (drop at s))) old at 0
+      → ManySoFar s one count old (replaced count old (readMany one count (drop at s))) old at 0
   many-start s one count old at =
       let e : count - 0 ≡ count = omega arith in
       record { size = refl; upto = omega arith; untouched = refl; ahead = rw e }
 
   between-more : (front tail : List A) (x : A) (o : Read (List A))
-    → between front tail (o then λ xs. accepted (x ∷ xs .0, xs .1)) ≡ between (front ++ (x ∷ [])) tail o
+      → between front tail (o then λ xs. accepted (x ∷ xs .0, xs .1)) ≡ between (front ++ (x ∷ [])) tail o
   between-more front tail x (refused number) = refl
   between-more front tail x (accepted xs) =
       ap (λ (l : List A). accepted (l, xs .1)) (sym (append-assoc front (x ∷ []) (xs .0 ++ tail)))
 
   module _ {s : List ℕ} {one : List ℕ → Read A} {count : ℕ} {old : List A} {whole : Read (List A)} {places : List A} {at i : ℕ}
       (v : ManySoFar s one count old whole places at i) where
-
     -- the next place is as it was
     pub many-place : (d : A) → getD places i d ≡ getD old i d
     many-place d =
@@ -51,18 +50,19 @@ module _ {A : Type 0} where
 
       -- the next is there
       pub many-more : count ≤ length old → (x : A) (at′ : ℕ) → accepted (x, drop at′ s) ≡ one (drop at s)
-        → ManySoFar s one count old whole (set places i x) at′ (i + 1)
+          → ManySoFar s one count old whole (set places i x) at′ (i + 1)
       unfolding readMany
       many-more fits x at′ e = rw (add-one i) (record {
-          size = length-set places i x ∙ v .size;
-          upto = h;
-          untouched = drop-set-lt (suc i) places i x (omega arith) ∙ behind;
-          ahead = rw (take-suc-set places i x (omega (arith, v .size))) (sym (between-more (take i places) (drop count old) x
-            (readMany one (count - suc i) (drop at′ s))) ∙ rw (one-less, ← e) at (v .ahead)) })
+        size = length-set places i x ∙ v .size;
+        upto = h;
+        untouched = drop-set-lt (suc i) places i x (omega arith) ∙ behind;
+        ahead = rw (take-suc-set places i x (omega (arith, v .size))) (sym (between-more (take i places) (drop count old) x
+            (readMany one (count - suc i) (drop at′ s))) ∙ rw (one-less, ← e) at (v .ahead));
+      })
         where
           behind : drop (suc i) places ≡ drop (suc i) old
           behind = let e₁ : i + 1 ≡ suc i = add-one i in
-            ap (λ (c : ℕ). drop c places) (sym e₁) ∙ sym (drop-drop 1 i places) ∙ ap (drop 1) (v .untouched) ∙ drop-drop 1 i old ∙ ap (λ (c : ℕ). drop c old) e₁
+              ap (λ (c : ℕ). drop c places) (sym e₁) ∙ sym (drop-drop 1 i places) ∙ ap (drop 1) (v .untouched) ∙ drop-drop 1 i old ∙ ap (λ (c : ℕ). drop c old) e₁
 
       -- the next is refused
       pub many-refused : (number : ℕ) → refused number ≡ one (drop at s) → refused number ≡ whole

@@ -50,12 +50,12 @@ behind-none (accepted x) = refl
 
 -- one place more in front
 behind-more : (front : List ℕ) (x : ℕ) (o : Read (List ℕ))
-  → behind front (o then λ row. accepted (x ∷ row .0, row .1)) ≡ behind (front ++ (x ∷ [])) o
+    → behind front (o then λ row. accepted (x ∷ row .0, row .1)) ≡ behind (front ++ (x ∷ [])) o
 behind-more front x (refused number) = refl
 behind-more front x (accepted row) = ap (λ (l : List ℕ). accepted (l, row .1)) (sym (append-assoc front (x ∷ []) (row .0)))
 
 pub row-start : (s : List ℕ) (k w at standing : ℕ) → standing < 2 ^ w
-  → RowSoFar s k w (readRow k w standing (drop at s)) (replicate w noTransition) at standing (ones standing) 0
+    → RowSoFar s k w (readRow k w standing (drop at s)) (replicate w noTransition) at standing (ones standing) 0
 row-start s k w at standing h =
     let e : w - 0 ≡ w = omega arith in
     record {
@@ -64,7 +64,8 @@ row-start s k w at standing h =
       blank = rw e;
       small = rw e h;
       count = refl;
-      ahead = rw e (behind-none _) }
+      ahead = rw e (behind-none _);
+    }
 
 module _ {s : List ℕ} {k w : ℕ} {whole : Read (List ℕ)} {cells : List ℕ} {at rest left state : ℕ}
     (v : RowSoFar s k w whole cells at rest left state) where
@@ -76,10 +77,10 @@ module _ {s : List ℕ} {k w : ℕ} {whole : Read (List ℕ)} {cells : List ℕ}
       go : Dec (state < w) → state < w
       go (yes l) = l
       go (no l) =
-        let e : w - state ≡ 0 = omega (arith, v .upto) in
-        let z : rest ≡ 0 = omega (arith, rw e at (v .small)) in
-        let o : left ≡ ones 0 = v .count ∙ ap ones z in
-        absurd (omega arith)
+          let e : w - state ≡ 0 = omega (arith, v .upto) in
+          let z : rest ≡ 0 = omega (arith, rw e at (v .small)) in
+          let o : left ≡ ones 0 = v .count ∙ ap ones z in
+          absurd (omega arith)
 
   module _ (h : 0 < left) where
     one-less : w - state ≡ suc (w - suc state)
@@ -104,40 +105,42 @@ module _ {s : List ℕ} {k w : ℕ} {whole : Read (List ℕ)} {cells : List ℕ}
     pub row-skip : rest % 2 ≡ 0 → RowSoFar s k w whole cells at (rest / 2) left (state + 1)
     unfolding readRow readTransition
     row-skip even = rw (add-one state) (record {
-        size = v .size;
-        upto = row-inside h;
-        blank = next-blank;
-        small = half-small;
-        count = omega (arith, v .count, ones-step rest);
-        ahead = rw (take-suc cells state noTransition room, first-blank) (sym (behind-more (take state cells) noTransition (readRow k (w - suc state) (rest / 2) (drop at s)))
-          ∙ rw (one-less, even) at (v .ahead)) })
+      size = v .size;
+      upto = row-inside h;
+      blank = next-blank;
+      small = half-small;
+      count = omega (arith, v .count, ones-step rest);
+      ahead = rw (take-suc cells state noTransition room, first-blank) (sym (behind-more (take state cells) noTransition (readRow k (w - suc state) (rest / 2) (drop at s)))
+          ∙ rw (one-less, even) at (v .ahead));
+    })
 
     -- the next bit stands, and its set byte is there
     pub row-take : (rest % 2 ≡ 0 → ⊥) → (x at′ : ℕ) → accepted (x, drop at′ s) ≡ readByte k (drop at s)
-      → RowSoFar s k w whole (set cells state x) at′ (rest / 2) (left - 1) (state + 1)
+        → RowSoFar s k w whole (set cells state x) at′ (rest / 2) (left - 1) (state + 1)
     unfolding readRow readTransition
     row-take odd x at′ e =
-      let o : rest % 2 ≡ 1 = omega arith in
-      rw (add-one state) (record {
-        size = length-set cells state x ∙ v .size;
-        upto = row-inside h;
-        blank = drop-set-lt (suc state) cells state x (omega arith) ∙ next-blank;
-        small = half-small;
-        count = omega (arith, v .count, ones-step rest);
-        ahead = rw (take-suc-set cells state x room) (sym (behind-more (take state cells) x (readRow k (w - suc state) (rest / 2) (drop at′ s)))
-          ∙ rw (one-less, o, ← e) at (v .ahead)) })
+        let o : rest % 2 ≡ 1 = omega arith in
+        rw (add-one state) (record {
+          size = length-set cells state x ∙ v .size;
+          upto = row-inside h;
+          blank = drop-set-lt (suc state) cells state x (omega arith) ∙ next-blank;
+          small = half-small;
+          count = omega (arith, v .count, ones-step rest);
+          ahead = rw (take-suc-set cells state x room) (sym (behind-more (take state cells) x (readRow k (w - suc state) (rest / 2) (drop at′ s)))
+              ∙ rw (one-less, o, ← e) at (v .ahead));
+        })
 
     -- the next bit stands, and its set byte is refused
     pub row-refused : (rest % 2 ≡ 0 → ⊥) → (number : ℕ) → refused number ≡ readByte k (drop at s) → refused number ≡ whole
     unfolding readRow readTransition
     row-refused odd number e =
-      let o : rest % 2 ≡ 1 = omega arith in
-      rw (one-less, o, ← e) at (v .ahead)
+        let o : rest % 2 ≡ 1 = omega arith in
+        rw (one-less, o, ← e) at (v .ahead)
 
   -- no bit is left
   pub row-done : left ≤ 0 → accepted (cells, drop at s) ≡ whole
   row-done h =
       let z : rest ≡ 0 = ones-none rest (omega (arith, v .count)) in
       let e : behind (take state cells) (accepted (replicate (w - state) noTransition, drop at s)) ≡ whole =
-        rw (z, row-none k (w - state) (drop at s)) at (v .ahead) in
+      rw (z, row-none k (w - state) (drop at s)) at (v .ahead) in
       ap (λ (l : List ℕ). accepted (l, drop at s)) (sym (take-append-drop state cells) ∙ ap (λ (l : List ℕ). take state cells ++ l) (v .blank)) ∙ e

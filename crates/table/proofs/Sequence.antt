@@ -6,7 +6,7 @@ use native.Mathlib.Omega.{arith}
 use Rattle.table.specs.Outcome.{Outcome, refused, accepted, ask, _then_}
 
 pub then-assoc : {A B C : Type 0} (o : Outcome A) (f : A → Outcome B) (g : B → Outcome C)
-  → ((o then f) then g) ≡ (o then λ x. f x then g)
+    → ((o then f) then g) ≡ (o then λ x. f x then g)
 then-assoc (refused number) f g = refl
 then-assoc (accepted x) f g = refl
 

@@ -54,6 +54,10 @@ inRange n m k = (leb 1 n && leb n maxStates) && ((leb 1 m && leb m maxLetters) &
 unfoldable pub startFits : ℕ → ℕ → Bool
 startFits n start = not (eqb start 0) && ltb start (2 ^ n)
 
+-- questions 2 and 3, and what follows on yes
+unfoldable pub askHeader : {A : Type 0} → ℕ → ℕ → ℕ → ℕ → Outcome A → Outcome A
+askHeader n m k start next = ask (inRange n m k) 2 (ask (startFits n start) 3 next)
+
 -- "each 255 or below 2^k"
 unfoldable pub bytesFit : ℕ → List ℕ → Bool
 bytesFit k [] = true
@@ -136,9 +140,8 @@ readRule table =
     let k = getD table 2 0 in
     let start = getD table 3 0 in
     ask (leb 4 (length table)) 1
-    (ask (inRange n m k) 2
-    (ask (startFits n start) 3
-    (readBody n m k start (drop 4 table))))
+    (askHeader n m k start
+    (readBody n m k start (drop 4 table)))
 
 -- "has the grid m·n·n bytes, each 255 or below 2^k?"
 unfoldable pub gridFits : ℕ → ℕ → ℕ → List ℕ → Bool
@@ -147,7 +150,6 @@ gridFits n m k bytes = eqb (length bytes) (m * n * n) && bytesFit k bytes
 -- "The writer puts 2 and 3 to its numbers", then 11: the rule that is to be written
 unfoldable pub writeRule : ℕ → ℕ → ℕ → ℕ → List ℕ → Outcome Rule
 writeRule n m k start bytes =
-    ask (inRange n m k) 2
-    (ask (startFits n start) 3
+    askHeader n m k start
     (ask (gridFits n m k bytes) 11
-    (accepted (record { states = n; letters = m; sets = k; start = start; grid = gridOf n m bytes }))))
+    (accepted (record { states = n; letters = m; sets = k; start = start; grid = gridOf n m bytes })))

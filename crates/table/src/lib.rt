@@ -1,4 +1,5 @@
 // Rule tables: reader, writer, the read table as arrays of arrays, and the look-up of successors.
 pub mod cursor;
+pub mod header;
 pub mod limits;
 pub mod reader;

@@ -1,6 +1,8 @@
 // The limits of document 01, "The rule table"; specs/Limits.antt has the same numbers.
 pub const STATES: usize = 8;
+
 pub const LETTERS: usize = 16;
+
 pub const SETS: usize = 4;
 
 // A grid's byte for "no transition".
@@ -8,5 +10,7 @@ pub const NO_TRANSITION: u8 = 255;
 
 // The read table: arrays of arrays by letter, state and next state.
 pub type Row = [u8; STATES];
+
 pub type Square = [Row; STATES];
+
 pub type Cells = [Square; LETTERS];

@@ -1,7 +1,12 @@
 // The reader: questions 1 to 6 put to a table, and the read table as arrays of arrays.
-use crate::cursor::{CellByte, Cursor, read_byte};
-use crate::limits::{Cells, NO_TRANSITION, Row, STATES, Square};
-
+use crate::cursor::CellByte;
+use crate::cursor::Cursor;
+use crate::cursor::read_byte;
+use crate::limits::Cells;
+use crate::limits::NO_TRANSITION;
+use crate::limits::Row;
+use crate::limits::STATES;
+use crate::limits::Square;
 ghost use mathlib.Core.Path.{_≡_};
 ghost use Prim.Native.Nat.{_^_, _<_, _≤_};
 ghost use lib.ListN.{drop};
@@ -42,7 +47,10 @@ fn read_row(s: &[u8], from: Cursor, standing: u16, k: usize) -> RowRead
         }
         match read_byte(s, at, k) {
             CellByte::Refused(number) => {
-                return RowRead { cells: cells, next: Progress::Refused(number) };
+                return RowRead {
+                    cells: cells,
+                    next: Progress::Refused(number),
+                };
             }
             CellByte::Byte(sets, next) => {
                 cells[r] = sets;
@@ -51,7 +59,10 @@ fn read_row(s: &[u8], from: Cursor, standing: u16, k: usize) -> RowRead
             }
         }
     }
-    RowRead { cells: cells, next: Progress::At(at) }
+    RowRead {
+        cells: cells,
+        next: Progress::At(at),
+    }
 }
 
 // A cell: its map byte, in which bits below n may stand, then its set bytes.

@@ -38,7 +38,7 @@ enum-known-number : tie.Need-enum-known-number Inv-loop μ-loop
 enum-known-number c = search needs
 
 returns : tie.Need-returns Inv-loop μ-loop
-returns c = 
+returns c =
     let r = c .before .before .before in
     let l = r .before .before in
     row-refused (l .before .loop .inv) (l .loop-test .taken) (r .before .if1 .left) _
@@ -48,7 +48,7 @@ enum-known-sets : tie.Need-enum-known-sets Inv-loop μ-loop
 enum-known-sets c = search needs
 
 array-write-cells : tie.Need-array-write-cells Inv-loop μ-loop
-array-write-cells c = 
+array-write-cells c =
     let r = c .before .before .before in
     let l = r .before .before in
     omega (arith, row-inside (l .before .loop .inv) (l .loop-test .taken))
@@ -57,13 +57,13 @@ sub-left : tie.Need-sub-left Inv-loop μ-loop
 sub-left c = search needs
 
 loop-less-2 : tie.Need-loop-less-2 Inv-loop μ-loop
-loop-less-2 c = 
+loop-less-2 c =
     let r = c .before .before .before in
     let l = r .before .before in
     omega (arith, row-inside (l .before .loop .inv) (l .loop-test .taken))
 
 loop-again-2 : tie.Need-loop-again-2 Inv-loop μ-loop
-loop-again-2 c = 
+loop-again-2 c =
     let r = c .before .before .before in
     let l = r .before .before in
     row-take (l .before .loop .inv) (l .loop-test .taken) (r .before .if1 .left) _ _
