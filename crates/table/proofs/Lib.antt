@@ -1,8 +1,13 @@
 pub mod Logic
 pub mod BitSet
 pub mod Sequence
+pub mod Accepted
+pub mod Every
+pub mod Parts
 pub mod Tests
 pub mod Ranges
+pub mod Storing
 pub mod CellByte
 pub mod RowReading
 pub mod ManyReading
+pub mod GridWriting

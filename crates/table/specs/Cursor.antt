@@ -14,8 +14,8 @@ use Rattle.table.specs.declared.cursor.Next.{Next}
 use Rattle.table.specs.declared.cursor.Next.the-variants.{Byte, End}
 use Rattle.table.specs.declared.cursor.CellByte.{CellByte}
 use Rattle.table.specs.declared.cursor.CellByte.the-variants.{Byte as CellByte·Byte, Refused}
-use Rattle.table.specs.declared.reader.Progress.{Progress}
-use Rattle.table.specs.declared.reader.Progress.the-variants.{At, Refused as Progress·Refused}
+use Rattle.table.specs.declared.cells.Progress.{Progress}
+use Rattle.table.specs.declared.cells.Progress.the-variants.{At, Refused as Progress·Refused}
 
 -- the byte at a place and the place behind it, or the end
 unfoldable pub nextAt : List ℕ → ℕ → Next

@@ -1,8 +1,8 @@
 -- The read table inside the code: "arrays of arrays: letter, state, next state" (document 01, "Which form each place
 -- takes"). The arrays have the limits' lengths; places that the rule does not have hold "no transition".
-use mathlib.Core.List.{List, _++_, map}
+use mathlib.Core.List.{List, _++_, map, flatten}
 use Prim.Native.Nat.{ℕ, _-_}
-use lib.ListN.{length, replicate}
+use lib.ListN.{length, take, replicate}
 use Rattle.table.specs.Limits.{maxStates, maxLetters, noTransition}
 use Rattle.table.specs.Rule.{Grid}
 
@@ -28,3 +28,11 @@ heldSquare square = pad maxStates blankRow (map heldRow square)
 -- the arrays that hold a grid
 unfoldable pub held : Grid → Grid
 held grid = pad maxLetters blankSquare (map heldSquare grid)
+
+-- the bytes of the first n rows and n columns of a square
+unfoldable pub squareBytes : ℕ → List (List ℕ) → List ℕ
+squareBytes n square = flatten (map (take n) (take n square))
+
+-- the grid of n states and m letters that arrays hold
+unfoldable pub narrow : ℕ → ℕ → Grid → Grid
+narrow n m cells = map (λ square. map (take n) (take n square)) (take m cells)

@@ -3,6 +3,7 @@ pub mod BitSet
 pub mod Outcome
 pub mod Rule
 pub mod Table
+pub mod Storing
 pub mod Header
 pub mod Held
 pub mod Cursor

@@ -1,5 +1,6 @@
 // Rule tables: reader, writer, the read table as arrays of arrays, and the look-up of successors.
 pub mod cursor;
+pub mod grid;
 pub mod header;
 pub mod limits;
-pub mod reader;
+pub mod cells;

@@ -1,8 +1,8 @@
 -- A cell is its map byte and the row that the set bytes give.
 use borrow.Author.Needs.{needs}
 use Rattle.table.specs.Table.{readCell}
-use Rattle.table.proofs.reader.read_cell.Statement.{statement}
-use Rattle.table.proofs.reader.read_cell.Tie as tie
+use Rattle.table.proofs.cells.read_cell.Statement.{statement}
+use Rattle.table.proofs.cells.read_cell.Tie as tie
 
 read-byte-requires : tie.Need-read-byte-requires
 read-byte-requires c κs = search needs

@@ -9,8 +9,8 @@ use Rattle.table.specs.Limits.{maxLetters}
 use Rattle.table.specs.Held.{blankSquare, blankCells}
 use Rattle.table.specs.Cursor.{readSquare, readHeld}
 use Rattle.table.proofs.ManyReading.{ManySoFar, many-start, many-place, many-more, many-refused, many-done}
-use Rattle.table.proofs.reader.read_cells.Statement.{statement}
-use Rattle.table.proofs.reader.read_cells.Tie as tie
+use Rattle.table.proofs.cells.read_cells.Statement.{statement}
+use Rattle.table.proofs.cells.read_cells.Tie as tie
 
 abbrev Inv-loop : tie.InvT-loop
 Inv-loop s n m k cells₀ at₀ letter₀ cells at letter =

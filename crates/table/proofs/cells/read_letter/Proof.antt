@@ -8,8 +8,8 @@ use Rattle.table.specs.Held.{blankSquare}
 use Rattle.table.specs.Table.{readCell}
 use Rattle.table.specs.Cursor.{readSquare}
 use Rattle.table.proofs.ManyReading.{ManySoFar, many-start, many-more, many-refused, many-done}
-use Rattle.table.proofs.reader.read_letter.Statement.{statement}
-use Rattle.table.proofs.reader.read_letter.Tie as tie
+use Rattle.table.proofs.cells.read_letter.Statement.{statement}
+use Rattle.table.proofs.cells.read_letter.Tie as tie
 
 abbrev Inv-loop : tie.InvT-loop
 Inv-loop s n k square₀ at₀ state₀ square at state =

@@ -1,4 +1,4 @@
-// The reader: questions 1 to 6 put to a table, and the read table as arrays of arrays.
+// Reading the cells of a table (questions 4 and 5) into arrays of arrays.
 use crate::cursor::CellByte;
 use crate::cursor::Cursor;
 use crate::cursor::read_byte;

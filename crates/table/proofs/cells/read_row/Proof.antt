@@ -6,10 +6,10 @@ use lib.ListN.{drop}
 use Rattle.table.specs.Limits.{maxStates}
 use Rattle.table.specs.Table.{readRow}
 use Rattle.table.proofs.RowReading.{RowSoFar, row-start, row-inside, row-skip, row-take, row-refused, row-done}
-use Rattle.table.proofs.reader.read_row.Statement.{statement}
-use Rattle.table.proofs.reader.read_row.Tie as tie
-use Rattle.table.proofs.reader.read_row.Reads as reads
-use Rattle.table.proofs.reader.read_row.Lts as lts
+use Rattle.table.proofs.cells.read_row.Statement.{statement}
+use Rattle.table.proofs.cells.read_row.Tie as tie
+use Rattle.table.proofs.cells.read_row.Reads as reads
+use Rattle.table.proofs.cells.read_row.Lts as lts
 use Rattle.table.proofs.cursor.read_byte.Reads as read-byte-reads
 
 abbrev Inv-loop : tie.InvT-loop
