@@ -1,5 +1,6 @@
--- Questions in order: what holds of the value if a call is accepted. A proof follows the questions one by one.
-use mathlib.Core.Path.{_≡_, refl, ap, subst}
+-- Questions in order: what holds of the value of an accepted call. A proof goes through the questions one by one, each time
+-- with what is known behind them.
+use mathlib.Core.Path.{_≡_, refl, subst}
 use mathlib.Core.Bool.{Bool, true, false}
 use Prim.Native.Nat.{ℕ}
 use Rattle.table.specs.Outcome.{Outcome, refused, accepted, ask, _then_}
@@ -19,7 +20,7 @@ module _ {A : Type 0} (P : A → Type 0) where
   asked true number next h = h refl
   asked false number next h = tt
 
--- a property that follows from another
+-- a property that follows from another one
 pub weaker : {A : Type 0} (P Q : A → Type 0) (o : Outcome A) → IfAccepted P o → ((a : A) → P a → Q a) → IfAccepted Q o
 weaker P Q (refused number) h f = tt
 weaker P Q (accepted a) h f = f a h
@@ -32,7 +33,7 @@ module _ {A B : Type 0} (P : A → Type 0) (Q : B → Type 0) where
   followed (accepted a) next h f = f a h
 
 module _ {A B : Type 0} where
-  -- what follows may be exchanged for what is the same on the values found
+  -- what follows may be replaced by what is equal on the values found
   pub then-same : (o : Outcome A) (f g : A → Outcome B) → IfAccepted (λ a. f a ≡ g a) o → (o then f) ≡ (o then g)
   then-same (refused number) f g h = refl
   then-same (accepted a) f g h = h

@@ -6,13 +6,13 @@ use lib.ListN.{length, getD}
 use Rattle.table.specs.Table.{Every}
 
 module _ {A : Type 0} (P : A → Type 0) where
-  -- the element at a place has it
+  -- the element at each place has it
   pub every-at : (l : List A) (i : ℕ) (d : A) → Every P l → i < length l → P (getD l i d)
   every-at [] i d h b = absurd (not-suc-le-zero b)
   every-at (x ∷ l) zero d h b = h .0
   every-at (x ∷ l) (suc i) d h b = every-at l i d (h .1) (le-of-suc-le-suc b)
 
-  -- two lists, one behind the other
+  -- a list and another behind it
   every-append : (l r : List A) → Every P l → Every P r → Every P (l ++ r)
   every-append [] r h g = g
   every-append (x ∷ l) r h g = (h .0, every-append l r (h .1) g)
@@ -38,7 +38,7 @@ module _ {A : Type 0} (P : A → Type 0) where
   every-value f (x ∷ l) h = (h x, every-value f l h)
 
 module _ {A : Type 0} (P Q : A → Type 0) where
-  -- a property that follows from another
+  -- a property that follows from another one
   pub every-weaker : (l : List A) → ((x : A) → P x → Q x) → Every P l → Every Q l
   every-weaker [] f h = tt
   every-weaker (x ∷ l) f h = (f x (h .0), every-weaker l f (h .1))

@@ -1,11 +1,14 @@
 pub mod Logic
 pub mod BitSet
-pub mod Sequence
 pub mod Accepted
 pub mod Every
-pub mod Parts
 pub mod Tests
 pub mod Ranges
+pub mod Parts
+pub mod Reading
+pub mod RoundTrip
+pub mod Edges
+pub mod Holding
 pub mod Storing
 pub mod CellByte
 pub mod RowReading

@@ -1,18 +1,20 @@
--- Lists cut into parts of one width, and put together again: the grid that some bytes are, and the bytes of a grid.
+-- Lists cut into parts of one width, and put together again. Hence the grid that some bytes are and the bytes of a grid are
+-- inverse to each other, for squares of any width n and any number m of letters.
 use mathlib.Core.Path.{_≡_, refl, sym, ap, ap₂, subst, _∙_}
-use mathlib.Core.List.{List, [], _∷_, _++_, map, flatten, flatMap, append-assoc}
-use Prim.Native.Nat.{ℕ, zero, suc, _+_, _*_, _-_, _≤_}
+use mathlib.Core.List.{List, [], _∷_, _++_, flatten, flatMap, append-assoc}
+use Prim.Native.Nat.{ℕ, zero, suc, _+_, _*_, _≤_}
 use native.Mathlib.Nat.{suc-mul, zero-mul, zero-add, suc-add, add-comm}
 use native.Mathlib.Omega.{arith}
-use lib.ListN.{length, take, drop, length-append, length-take, length-drop, length-map, take-append-drop, drop-of-length-le}
-use lib.Seq.{take-all, take-at, drop-at, take-take, drop-drop, length-take-le, take-nil}
+use lib.ListN.{length, take, drop, length-append, length-drop, length-map, take-append-drop}
+use lib.Seq.{take-at, drop-at, take-take, drop-drop, length-take-le, take-nil}
 use Rattle.table.specs.Rule.{Grid}
-use Rattle.table.specs.Table.{Every, SquareFits, RowFits, parts, gridOf, gridBytes}
+use Rattle.table.specs.Table.{Every, SquareFits, parts, gridOf, gridBytes}
 use Rattle.table.proofs.Every.{every-flatten, flatten-every, every-weaker, every-both, every-value}
 
 -- LISTS OF LISTS
 
 module _ {A : Type 0} where
+  -- lists of lists, one behind the other
   pub flatten-append : (a b : List (List A)) → flatten (a ++ b) ≡ flatten a ++ flatten b
   unfolding flatten
   flatten-append [] b = refl
@@ -25,6 +27,7 @@ module _ {A : Type 0} where
   length-flatten w (l ∷ ls) h = omega (arith, length-append l (flatten ls), length-flatten w ls (h .1), h .0)
 
 module _ {A B : Type 0} (f : A → List B) where
+  -- the images of elements, put together: over two lists, and over a list of lists
   pub flatMap-append : (a b : List A) → flatMap f (a ++ b) ≡ flatMap f a ++ flatMap f b
   unfolding flatMap
   flatMap-append [] b = refl
@@ -38,6 +41,7 @@ module _ {A B : Type 0} (f : A → List B) where
 -- PARTS
 
 module _ {A : Type 0} where
+  -- there are c parts
   length-parts : (w c : ℕ) (l : List A) → length (parts w c l) ≡ c
   unfolding parts
   length-parts w zero l = refl
@@ -47,9 +51,10 @@ module _ {A : Type 0} where
   parts-width : (w c : ℕ) (l : List A) → c * w ≤ length l → Every (λ part. length part ≡ w) (parts w c l)
   unfolding parts
   parts-width w zero l h = tt
-  parts-width w (suc c) l h = (length-take-le w l (omega (arith, suc-mul c w)), parts-width w c (drop w l) (omega (arith, length-drop w l)))
+  parts-width w (suc c) l h =
+      (length-take-le w l (omega (arith, suc-mul c w)), parts-width w c (drop w l) (omega (arith, length-drop w l)))
 
-  -- parts that fill the list, put together
+  -- the parts of a list, put together again
   flatten-parts : (w c : ℕ) (l : List A) → length l ≡ c * w → flatten (parts w c l) ≡ l
   unfolding parts flatten
   flatten-parts w zero [] h = refl
@@ -57,7 +62,7 @@ module _ {A : Type 0} where
   flatten-parts w (suc c) l h =
       ap (take w l ++_) (flatten-parts w c (drop w l) (omega (arith, length-drop w l, suc-mul c w))) ∙ take-append-drop w l
 
-  -- lists of one width put together, cut again
+  -- lists of one width, put together and cut again
   parts-flatten : (w : ℕ) (ls : List (List A)) → Every (λ l. length l ≡ w) ls → parts w (length ls) (flatten ls) ≡ ls
   unfolding parts flatten
   parts-flatten w [] h = refl
@@ -93,36 +98,40 @@ rows-of-grid n (suc m) bytes =
 abbrev pub Squares : ℕ → Grid → Type 0
 Squares n grid = Every (λ square. (length square ≡ n) × Every (λ row. length row ≡ n) square) grid
 
+-- as squares that fit some number of sets are
 pub fits-squares : (n k : ℕ) (grid : Grid) → Every (SquareFits n k) grid → Squares n grid
 fits-squares n k grid h = every-weaker _ _ grid (λ square f. (f .0, every-weaker _ _ square (λ row g. g .0) (f .1))) h
 
--- the bytes of a square are that square
+-- the bytes of a square, cut into rows again
 square-of-bytes : (n : ℕ) (square : List (List ℕ)) → length square ≡ n → Every (λ row. length row ≡ n) square
     → (length (flatten square) ≡ n * n) × (parts n n (flatten square) ≡ square)
 square-of-bytes n square e h =
     (length-flatten n square h ∙ ap (_* n) e, subst (λ (c : ℕ). parts n c (flatten square) ≡ square) e (parts-flatten n square h))
 
--- the bytes of a grid are that grid
+-- the bytes of a grid, cut into squares again
 squares-of-bytes : (n : ℕ) (grid : Grid) → Squares n grid → gridOf n (length grid) (gridBytes grid) ≡ grid
 unfolding gridOf gridBytes parts flatten
 squares-of-bytes n [] h = refl
 squares-of-bytes n (square ∷ grid) h =
     let (long, back) = square-of-bytes n square (h .0 .0) (h .0 .1) in
+    let here = flatten square in
     let rest = gridBytes grid in
-    rw (flatten-append square (flatten grid), take-at (flatten square) rest (n * n) long, drop-at (flatten square) rest (n * n) long, back)
+    rw (flatten-append square (flatten grid), take-at here rest (n * n) long, drop-at here rest (n * n) long, back)
     (ap (square ∷_) (squares-of-bytes n grid (h .1)))
 
 module _ (n m : ℕ) (grid : Grid) (e : length grid ≡ m) (h : Squares n grid) where
+  -- the grid that its bytes are
   pub grid-of-bytes : gridOf n m (gridBytes grid) ≡ grid
   grid-of-bytes = subst (λ (c : ℕ). gridOf n c (gridBytes grid) ≡ grid) e (squares-of-bytes n grid h)
 
-  -- each row has n bytes, each letter n rows
+  -- each row has n bytes, each of the m letters n rows
   pub row-lengths : Every (λ row. length row ≡ n) (flatten grid)
   row-lengths = every-flatten (λ (row : List ℕ). length row ≡ n) grid (every-weaker _ _ grid (λ square f. f .1) h)
 
   pub row-count : length (flatten grid) ≡ m * n
   row-count = length-flatten n grid (every-weaker _ _ grid (λ square f. f .0) h) ∙ ap (_* n) e
 
+  -- so there are m * n * n bytes
   pub grid-length : length (gridBytes grid) ≡ m * n * n
   unfolding gridBytes
   grid-length = length-flatten n (flatten grid) row-lengths ∙ ap (_* n) row-count

@@ -2,9 +2,11 @@
 use mathlib.Core.Path.{_≡_}
 use mathlib.Core.Bool.{Bool, true, not, _&&_}
 use Prim.Native.Nat.{ℕ, _^_, _≤_, _<_}
+use native.Mathlib.Omega.{arith}
 use borrow.Author.Tests.{leb-true, ltb-true, eqb-false}
 use lib.Dec.{leb, ltb, eqb}
-use Rattle.table.specs.Limits.{maxStates, maxLetters, maxSets}
+use lib.Pow.{pow-mono}
+use Rattle.table.specs.Limits.{maxStates, maxLetters, maxSets, noTransition}
 use Rattle.table.specs.Table.{inRange, startFits}
 use Rattle.table.proofs.Logic.{and-in, not-in}
 
@@ -33,6 +35,10 @@ in-range {n} {m} {k} h =
       some-set = leb-true _ _ k₁;
       sets = leb-true _ _ k₂;
     }
+
+-- so no set byte is the byte of "no transition"
+pub sets-small : (n m k : ℕ) → inRange n m k ≡ true → 2 ^ k ≤ noTransition
+sets-small n m k h = omega (arith, pow-mono (in-range h .sets))
 
 pub start-fits : (n start : ℕ) → startFits n start ≡ true → (start ≡ 0 → ⊥) × (start < 2 ^ n)
 unfolding startFits

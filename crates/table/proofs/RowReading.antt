@@ -17,7 +17,6 @@ use lib.Seq.{take-suc, drop-cons, take-suc-set, drop-set-lt}
 use Rattle.table.specs.Limits.{noTransition}
 use Rattle.table.specs.Outcome.{Outcome, refused, accepted, ask, _then_}
 use Rattle.table.specs.Table.{Read, readByte, readTransition, readRow}
-use Rattle.table.proofs.Sequence.{then-assoc, then-cong}
 
 -- the row with some of its places in front
 abbrev behind : List ℕ → Read (List ℕ) → Read (List ℕ)
