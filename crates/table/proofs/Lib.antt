@@ -9,6 +9,7 @@ pub mod Reading
 pub mod RoundTrip
 pub mod Edges
 pub mod Holding
+pub mod HeldReading
 pub mod Storing
 pub mod CellByte
 pub mod RowReading

@@ -17,6 +17,7 @@ use lib.Seq.{take-suc, drop-cons, take-suc-set, drop-set-lt}
 use Rattle.table.specs.Limits.{noTransition}
 use Rattle.table.specs.Outcome.{Outcome, refused, accepted, ask, _then_}
 use Rattle.table.specs.Table.{Read, readByte, readTransition, readRow}
+use Rattle.table.proofs.HeldReading.{row-blank}
 
 -- the row with some of its places in front
 abbrev behind : List ℕ → Read (List ℕ) → Read (List ℕ)
@@ -31,12 +32,6 @@ pub record RowSoFar (s : List ℕ) (k w : ℕ) (whole : Read (List ℕ)) (cells 
   pub small : rest < 2 ^ (w - state)
   pub count : left ≡ ones rest
   pub ahead : behind (take state cells) (readRow k (w - state) rest (drop at s)) ≡ whole
-
--- a map with no standing bit gives a row without transitions
-row-none : (k w : ℕ) (bytes : List ℕ) → readRow k w 0 bytes ≡ accepted (replicate w noTransition, bytes)
-unfolding readRow readTransition
-row-none k zero bytes = refl
-row-none k (suc w) bytes = rw (row-none k w bytes)
 
 -- a map that counts no standing bit is empty
 ones-none : (n : ℕ) → ones n ≡ 0 → n ≡ 0
@@ -141,5 +136,5 @@ module _ {s : List ℕ} {k w : ℕ} {whole : Read (List ℕ)} {cells : List ℕ}
   row-done h =
       let z : rest ≡ 0 = ones-none rest (omega (arith, v .count)) in
       let e : behind (take state cells) (accepted (replicate (w - state) noTransition, drop at s)) ≡ whole =
-      rw (z, row-none k (w - state) (drop at s)) at (v .ahead) in
+      rw (z, row-blank k (w - state) (drop at s)) at (v .ahead) in
       ap (λ (l : List ℕ). accepted (l, drop at s)) (sym (take-append-drop state cells) ∙ ap (λ (l : List ℕ). take state cells ++ l) (v .blank)) ∙ e
