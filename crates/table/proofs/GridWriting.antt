@@ -37,7 +37,7 @@ unfolding rowsUpTo flatten
 rows-none n square = refl
 
 pub rows-more : (n : ℕ) (square : List (List ℕ)) (q : ℕ)
-  → rowsUpTo n square (suc q) ≡ rowsUpTo n square q ++ take n (getD square q [])
+    → rowsUpTo n square (suc q) ≡ rowsUpTo n square q ++ take n (getD square q [])
 unfolding rowsUpTo
 rows-more n square q = by-place square q
     (λ h. ap (λ (l : List (List ℕ)). flatten (map (take n) l)) (take-suc square q [] h) ∙ ap flatten (map-more (take n) (take q square) (getD square q []))
@@ -54,7 +54,7 @@ unfolding squaresUpTo gridBytes narrow flatten
 squares-none n cells = refl
 
 pub squares-more : (n : ℕ) (cells : Grid) (a : ℕ)
-  → squaresUpTo n cells (suc a) ≡ squaresUpTo n cells a ++ squareBytes n (getD cells a [])
+    → squaresUpTo n cells (suc a) ≡ squaresUpTo n cells a ++ squareBytes n (getD cells a [])
 unfolding squaresUpTo gridBytes narrow squareBytes flatten
 squares-more n cells a =
     let f : List (List ℕ) → List (List ℕ) = λ square. map (take n) (take n square) in

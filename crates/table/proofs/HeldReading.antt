@@ -102,7 +102,7 @@ held-many f one one′ w z e c bytes =
     let many = readMany one c bytes in
     rw (read-many-map f one one′ e c bytes) (then-assoc many _ _
     ∙ then-same many _ _ (weaker _ _ many (many-length one c bytes) λ x same.
-      rw (drop-replicate c w z, length-map (x .0) f, same)))
+    rw (drop-replicate c w z, length-map (x .0) f, same)))
 
 square-held : (n k : ℕ) (bytes : List ℕ) → n ≤ maxStates → readSquare n k bytes ≡ formed heldSquare (readMany (readCell n k n) n bytes)
 unfolding readSquare heldSquare heldRow

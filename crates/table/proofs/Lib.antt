@@ -15,3 +15,4 @@ pub mod CellByte
 pub mod RowReading
 pub mod ManyReading
 pub mod GridWriting
+pub mod RuleReading

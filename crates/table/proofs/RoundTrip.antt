@@ -185,5 +185,9 @@ pub table-length : (R : Rule) → WellFormed R → inRange (R .states) (R .lette
     → (5 ≤ length (tableBytes R)) × (length (tableBytes R) ≤ 4 + maxLetters * maxStates * (1 + maxStates))
 table-length R well range =
     let r = in-range range in
-    omega (arith, table-length-by R well, mul-le-mul (r .some-letter) (r .some-state),
-    mul-le-mul (mul-le-mul (r .letters) (r .states)) (suc-le-suc (r .states)))
+    omega (
+      arith,
+      table-length-by R well,
+      mul-le-mul (r .some-letter) (r .some-state),
+      mul-le-mul (mul-le-mul (r .letters) (r .states)) (suc-le-suc (r .states)),
+    )

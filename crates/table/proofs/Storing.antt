@@ -19,8 +19,12 @@ pub stored-length : (at : ℕ) (bytes buffer : List ℕ) → at + length bytes �
 unfolding stored
 stored-length at bytes buffer h =
     let front : length (take at buffer) ≡ at = length-take-le at buffer (omega arith) in
-    omega (arith, length-append (take at buffer) (bytes ++ drop (at + length bytes) buffer),
-    length-append bytes (drop (at + length bytes) buffer), length-drop (at + length bytes) buffer)
+    omega (
+      arith,
+      length-append (take at buffer) (bytes ++ drop (at + length bytes) buffer),
+      length-append bytes (drop (at + length bytes) buffer),
+      length-drop (at + length bytes) buffer,
+    )
 
 -- one byte stored
 stored-one : (at x : ℕ) (buffer : List ℕ) → at < length buffer → set buffer at x ≡ stored at (x ∷ []) buffer
@@ -29,7 +33,7 @@ stored-one at x buffer h = set-split buffer at x h ∙ ap (λ (c : ℕ). take at
 
 -- more bytes stored behind those
 stored-more : (at : ℕ) (a b buffer : List ℕ) → at + length a + length b ≤ length buffer
-  → stored (at + length a) b (stored at a buffer) ≡ stored at (a ++ b) buffer
+    → stored (at + length a) b (stored at a buffer) ≡ stored at (a ++ b) buffer
 unfolding stored
 stored-more at a b buffer h =
     ap₂ (λ (x y : List ℕ). x ++ (b ++ y)) front behind ∙ append-assoc (take at buffer) a (b ++ drop (at + length (a ++ b)) buffer)
@@ -37,17 +41,22 @@ stored-more at a b buffer h =
   where
     whole : List ℕ
     whole = take at buffer ++ (a ++ drop (at + length a) buffer)
+
     head : length (take at buffer ++ a) ≡ at + length a
     head = length-append (take at buffer) a ∙ ap (λ (c : ℕ). c + length a) (length-take-le at buffer (omega arith))
+
     regroup : whole ≡ (take at buffer ++ a) ++ drop (at + length a) buffer
     regroup = sym (append-assoc (take at buffer) a (drop (at + length a) buffer))
+
     front : take (at + length a) whole ≡ take at buffer ++ a
     front = ap (take (at + length a)) regroup ∙ take-at (take at buffer ++ a) (drop (at + length a) buffer) (at + length a) head
+
     past : drop (at + length a) whole ≡ drop (at + length a) buffer
     past = ap (drop (at + length a)) regroup ∙ drop-at (take at buffer ++ a) (drop (at + length a) buffer) (at + length a) head
+
     behind : drop (at + length a + length b) whole ≡ drop (at + length (a ++ b)) buffer
     behind = sym (drop-drop (length b) (at + length a) whole) ∙ ap (drop (length b)) past ∙ drop-drop (length b) (at + length a) buffer
-      ∙ ap (λ (c : ℕ). drop c buffer) (add-assoc at (length a) (length b) ∙ ap (λ (c : ℕ). at + c) (sym (length-append a b)))
+        ∙ ap (λ (c : ℕ). drop c buffer) (add-assoc at (length a) (length b) ∙ ap (λ (c : ℕ). at + c) (sym (length-append a b)))
 
 -- some bytes are stored from a place on, and the next goes to `at`
 pub record StoredSoFar (before : List ℕ) (from : ℕ) (bytes buffer : List ℕ) (at : ℕ) : Type 0 where
@@ -66,9 +75,10 @@ module _ {before : List ℕ} {from : ℕ} {bytes buffer : List ℕ} {at : ℕ} (
   -- several bytes more
   pub stored-next : (more : List ℕ) → at + length more ≤ length before → StoredSoFar before from (bytes ++ more) (stored at more buffer) (at + length more)
   stored-next more h = record {
-      same = ap₂ (λ (c : ℕ) (l : List ℕ). stored c more l) (v .place) (v .same) ∙ stored-more from bytes more before (omega (arith, v .place));
-      place = omega (arith, v .place, length-append bytes more);
-      fits = h }
+    same = ap₂ (λ (c : ℕ) (l : List ℕ). stored c more l) (v .place) (v .same) ∙ stored-more from bytes more before (omega (arith, v .place));
+    place = omega (arith, v .place, length-append bytes more);
+    fits = h;
+  }
 
   -- one byte more
   pub stored-byte : (x : ℕ) → at < length before → StoredSoFar before from (bytes ++ (x ∷ [])) (set buffer at x) (at + 1)
@@ -86,12 +96,12 @@ module _ {upTo : ℕ → List ℕ} {count : ℕ} {before : List ℕ} {from : ℕ
   module _ {buffer : List ℕ} {at r : ℕ} (v : PiecesStored upTo count before from buffer at r) where
     -- the next piece
     pub pieces-next : r < count → (piece : List ℕ) → upTo (suc r) ≡ upTo r ++ piece → at + length piece ≤ length before
-      → PiecesStored upTo count before from (stored at piece buffer) (at + length piece) (r + 1)
+        → PiecesStored upTo count before from (stored at piece buffer) (at + length piece) (r + 1)
     pieces-next h piece e room = rw (add-one r) (record { few = h; stores = rw e (stored-next (v .stores) piece room) })
 
     -- the next piece is one byte
     pub pieces-byte : r < count → (x : ℕ) → upTo (suc r) ≡ upTo r ++ (x ∷ []) → at < length before
-      → PiecesStored upTo count before from (set buffer at x) (at + 1) (r + 1)
+        → PiecesStored upTo count before from (set buffer at x) (at + 1) (r + 1)
     pieces-byte h x e room = rw (add-one r) (record { few = h; stores = rw e (stored-byte (v .stores) x room) })
 
     -- the next piece is empty
@@ -103,5 +113,5 @@ module _ {upTo : ℕ → List ℕ} {count : ℕ} {before : List ℕ} {from : ℕ
 
     pub pieces-done : count ≤ r → (buffer ≡ stored from (upTo count) before) × (at ≡ from + length (upTo count))
     pieces-done h =
-      let e : r ≡ count = omega (arith, v .few) in
-      (v .stores .same ∙ ap (λ (c : ℕ). stored from (upTo c) before) e, v .stores .place ∙ ap (λ (c : ℕ). from + length (upTo c)) e)
+        let e : r ≡ count = omega (arith, v .few) in
+        (v .stores .same ∙ ap (λ (c : ℕ). stored from (upTo c) before) e, v .stores .place ∙ ap (λ (c : ℕ). from + length (upTo c)) e)

@@ -7,4 +7,5 @@ pub mod Storing
 pub mod Header
 pub mod Held
 pub mod Cursor
+pub mod ReadCall
 pub mod Lookup

@@ -105,7 +105,14 @@ fn read_letter(s: &[u8], from: Cursor, n: usize, k: usize, square: &mut Square) 
 }
 
 // "m times n cells, letter 0 with states 0 to n−1 first".
-fn read_cells(s: &[u8], from: Cursor, n: usize, m: usize, k: usize, cells: &mut Cells) -> Progress
+pub fn read_cells(
+    s: &[u8],
+    from: Cursor,
+    n: usize,
+    m: usize,
+    k: usize,
+    cells: &mut Cells,
+) -> Progress
     requires { ⌜ ((n ≤ maxStates) × (m ≤ maxLetters)) × ((k < 16) × (now cells ≡ blankCells)) ⌝ }
     ensures { λ r. ⌜ progress (now (s .entry)) r (now (cells .exit)) ≡ readHeld n m k (drop (from .at) (now (s .entry))) ⌝ }
 {

@@ -2,7 +2,6 @@
 use crate::limits::Cells;
 use crate::limits::Row;
 use crate::limits::Square;
-
 ghost use mathlib.Core.Path.{_≡_};
 ghost use Prim.Native.Nat.{_+_, _*_, _≤_};
 ghost use lib.ListN.{length, take};

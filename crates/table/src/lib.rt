@@ -1,6 +1,7 @@
 // Rule tables: reader, writer, the read table as arrays of arrays, and the look-up of successors.
-pub mod cursor;
-pub mod grid;
+mod cells;
+mod cursor;
+mod grid;
 pub mod header;
 pub mod limits;
-pub mod cells;
+pub mod reader;

@@ -41,10 +41,11 @@ loop-again c =
     let r = c .before .before in
     let l = r .before .before .before in
     let s = l .before .before .before .args in
-    let e = r .put-letter .ensures in
-    (omega (arith, suc-mul (l .before .loop .letter) (s .n * s .n)),
-    rw (e .1 .1, e .0) (pieces-next (l .before .loop .inv .1) (l .loop-test .taken) _ (squares-more _ _ _)
-    (omega (arith, suc-mul (l .before .loop .letter) (s .n * s .n), mul-le-mul-right (s .n * s .n) (l .loop-test .taken)))))
+    let e = r .put-letter .ensures in (
+      omega (arith, suc-mul (l .before .loop .letter) (s .n * s .n)),
+      rw (e .1 .1, e .0) (pieces-next (l .before .loop .inv .1) (l .loop-test .taken) _ (squares-more _ _ _)
+          (omega (arith, suc-mul (l .before .loop .letter) (s .n * s .n), mul-le-mul-right (s .n * s .n) (l .loop-test .taken)))),
+    )
 
 same-length : tie.Need-same-length Inv-loop μ-loop
 same-length c = pieces-size (c .before .loop .inv .1)

@@ -43,10 +43,11 @@ loop-again c =
     let r = c .before .before in
     let l = r .before .before .before in
     let n = l .before .before .before .args .n in
-    let e = r .put-row .ensures in
-    (omega (arith, suc-mul (l .before .loop .state) n),
-    rw (e .1 .1, e .0) (pieces-next (l .before .loop .inv .1) (l .loop-test .taken) _ (rows-more n _ _)
-    (omega (arith, suc-mul (l .before .loop .state) n, mul-le-mul-right n (l .loop-test .taken)))))
+    let e = r .put-row .ensures in (
+      omega (arith, suc-mul (l .before .loop .state) n),
+      rw (e .1 .1, e .0) (pieces-next (l .before .loop .inv .1) (l .loop-test .taken) _ (rows-more n _ _)
+          (omega (arith, suc-mul (l .before .loop .state) n, mul-le-mul-right n (l .loop-test .taken)))),
+    )
 
 same-length : tie.Need-same-length Inv-loop μ-loop
 same-length c = pieces-size (c .before .loop .inv .1)

@@ -1,0 +1,45 @@
+-- The reader's calls: what they answer, and what they leave in the lent bytes, for all inputs.
+use mathlib.Core.List.{List}
+use Prim.Native.Nat.{ℕ, _*_}
+use lib.Dec.{leb}
+use lib.ListN.{length}
+use Rattle.table.specs.Outcome.{Outcome, refused, accepted, ask, _then_}
+use Rattle.table.specs.Rule.{Grid, Rule}
+use Rattle.table.specs.Table.{readRule, gridBytes}
+use Rattle.table.specs.Storing.{stored}
+use Rattle.table.specs.Held.{held}
+use Rattle.table.specs.declared.header.Header.{Header}
+use Rattle.table.specs.declared.reader.Reading.{Reading}
+use Rattle.table.specs.declared.reader.Reading.the-variants.{Refused, Rule as Reading·Rule}
+use Rattle.table.specs.declared.reader.ReadAnswer.{ReadAnswer}
+
+-- THE PUBLIC CALL `read`
+
+-- questions 1 to 6, then 10: m·n·n bytes for the grid, "longer is fine"
+unfoldable pub readOutcome : List ℕ → List ℕ → Outcome Rule
+readOutcome table buffer =
+    readRule table then λ R.
+    ask (leb (R .letters * R .states * R .states) (length buffer)) 10
+    (accepted R)
+
+-- the answer: 0, n, m, k and the starting map; on a refusal its number and zero for all else
+unfoldable pub readAnswer : Outcome Rule → ReadAnswer
+readAnswer (refused number) = record { number = number; states = 0; letters = 0; sets = 0; start = 0 }
+readAnswer (accepted R) = record { number = 0; states = R .states; letters = R .letters; sets = R .sets; start = R .start }
+
+-- the lent buffer afterwards: the grid's bytes, the rest unchanged; a refusal alters nothing
+unfoldable pub gridAfter : Outcome Rule → List ℕ → List ℕ
+gridAfter (refused number) buffer = buffer
+gridAfter (accepted R) buffer = stored 0 (gridBytes (R .grid)) buffer
+
+-- INSIDE: `read_rule`, for the crates above
+
+-- document 01's number and values for each case of a `Reading`
+unfoldable pub readingOf : Outcome Rule → Reading
+readingOf (refused number) = Refused number
+readingOf (accepted R) = Reading·Rule (record { states = R .states; letters = R .letters; sets = R .sets; start = R .start })
+
+-- the arrays afterwards
+unfoldable pub cellsAfter : Outcome Rule → Grid → Grid
+cellsAfter (refused number) cells = cells
+cellsAfter (accepted R) cells = held (R .grid)

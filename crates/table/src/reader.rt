@@ -1,0 +1,78 @@
+// The reader: questions 1 to 6 put to a table, the read table as arrays of arrays, and the call that gives its grid.
+use crate::cells::Progress;
+use crate::cells::read_cells;
+use crate::cursor::Cursor;
+use crate::grid::put_cells;
+use crate::header::Header;
+use crate::header::header_number;
+use crate::limits::Cells;
+use crate::limits::LETTERS;
+use crate::limits::NO_TRANSITION;
+use crate::limits::STATES;
+ghost use mathlib.Core.Path.{_≡_};
+ghost use Prim.Native.Nat.{_<_, _≤_};
+ghost use lib.ListN.{drop};
+ghost use Rattle.table.specs.Limits.{maxLetters, maxStates};
+ghost use Rattle.table.specs.Table.{readBody, readRule};
+ghost use Rattle.table.specs.ReadCall.{cellsAfter, gridAfter, readAnswer, readOutcome, readingOf};
+
+// The numbers of the rule that was read, or the number of the question that failed.
+pub enum Reading {
+    Refused(u8),
+    Rule(Header),
+}
+
+// The reader's answer: 0 and the rule's numbers, or the number of the question that failed and zeros.
+pub struct ReadAnswer {
+    pub number: u8,
+    pub states: usize,
+    pub letters: usize,
+    pub sets: usize,
+    pub start: u16,
+}
+
+// Questions 4, 5 and 6: the cells behind the header, and the end of the table.
+fn read_body(table: &[u8], header: Header, cells: &mut Cells) -> Reading
+    requires { ⌜ (header .states ≤ maxStates) × ((header .letters ≤ maxLetters) × (header .sets < 16)) ⌝ }
+    ensures { λ r. ⌜ (r ≡ readingOf (readBody (header .states) (header .letters) (header .sets) (header .start) (drop 4 (now (table .entry)))))
+        × (now (cells .exit) ≡ cellsAfter (readBody (header .states) (header .letters) (header .sets) (header .start) (drop 4 (now (table .entry)))) (now (cells .entry))) ⌝ }
+{
+    let mut read = [[[NO_TRANSITION; STATES]; STATES]; LETTERS];
+    match read_cells(
+        table,
+        Cursor { at: 4 },
+        header.states,
+        header.letters,
+        header.sets,
+        &mut read,
+    ) {
+        Progress::Refused(number) => Reading::Refused(number),
+        Progress::At(end) => {
+            if end.at < table.len() {
+                return Reading::Refused(6);
+            }
+            *cells = read;
+            Reading::Rule(header)
+        }
+    }
+}
+
+// Questions 1 to 6. On yes the arrays hold the rule's grid; on no they are as they were.
+pub fn read_rule(table: &[u8], cells: &mut Cells) -> Reading
+    ensures { λ r. ⌜ (r ≡ readingOf (readRule (now (table .entry)))) × (now (cells .exit) ≡ cellsAfter (readRule (now (table .entry))) (now (cells .entry))) ⌝ }
+{
+    if table.len() < 4 {
+        return Reading::Refused(1);
+    }
+    let header = Header {
+        states: table[0] as usize,
+        letters: table[1] as usize,
+        sets: table[2] as usize,
+        start: table[3] as u16,
+    };
+    let number = header_number(header.states, header.letters, header.sets, header.start);
+    if number != 0 {
+        return Reading::Refused(number);
+    }
+    read_body(table, header, cells)
+}
