@@ -16,3 +16,6 @@ pub mod RowReading
 pub mod ManyReading
 pub mod GridWriting
 pub mod RuleReading
+pub mod Tabulate
+pub mod LookupSteps
+pub mod LookupTable

@@ -9,3 +9,4 @@ pub mod Held
 pub mod Cursor
 pub mod ReadCall
 pub mod Lookup
+pub mod LookupSteps

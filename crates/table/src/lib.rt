@@ -4,4 +4,5 @@ mod cursor;
 mod grid;
 pub mod header;
 pub mod limits;
+pub mod lookup;
 pub mod reader;
