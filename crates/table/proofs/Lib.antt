@@ -16,6 +16,7 @@ pub mod RowReading
 pub mod ManyReading
 pub mod GridWriting
 pub mod RuleReading
+pub mod GridReading
 pub mod Tabulate
 pub mod LookupSteps
 pub mod LookupTable

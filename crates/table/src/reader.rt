@@ -13,6 +13,7 @@ ghost use mathlib.Core.Path.{_≡_};
 ghost use Prim.Native.Nat.{_<_, _≤_};
 ghost use lib.ListN.{drop};
 ghost use Rattle.table.specs.Limits.{maxLetters, maxStates};
+ghost use Rattle.table.specs.Outcome.{refused};
 ghost use Rattle.table.specs.Table.{readBody, readRule};
 ghost use Rattle.table.specs.ReadCall.{cellsAfter, gridAfter, readAnswer, readOutcome, readingOf};
 
@@ -75,4 +76,43 @@ pub fn read_rule(table: &[u8], cells: &mut Cells) -> Reading
         return Reading::Refused(number);
     }
     read_body(table, header, cells)
+}
+
+// A refusal: its number and zero for all else.
+fn refusal(number: u8) -> ReadAnswer
+    ensures { λ r. ⌜ r ≡ readAnswer (refused number) ⌝ }
+{
+    ReadAnswer {
+        number: number,
+        states: 0,
+        letters: 0,
+        sets: 0,
+        start: 0,
+    }
+}
+
+// THE READER: table bytes to grid bytes in a lent buffer. Questions 1 to 6, then 10.
+pub fn read(table: &[u8], grid: &mut [u8]) -> ReadAnswer
+    ensures { λ r. ⌜ (r ≡ readAnswer (readOutcome (now (table .entry)) (now (grid .entry))))
+        × (now (grid .exit) ≡ gridAfter (readOutcome (now (table .entry)) (now (grid .entry))) (now (grid .entry))) ⌝ }
+{
+    let mut cells = [[[NO_TRANSITION; STATES]; STATES]; LETTERS];
+    match read_rule(table, &mut cells) {
+        Reading::Refused(number) => refusal(number),
+        Reading::Rule(header) => {
+            let n = header.states;
+            let m = header.letters;
+            if grid.len() < m * n * n {
+                return refusal(10);
+            }
+            put_cells(&cells, n, m, grid);
+            ReadAnswer {
+                number: 0,
+                states: n,
+                letters: m,
+                sets: header.sets,
+                start: header.start,
+            }
+        }
+    }
 }
