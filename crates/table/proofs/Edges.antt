@@ -10,9 +10,10 @@ use borrow.Author.Tests.{eqb-true, eqb-false, ltb-true}
 use lib.Dec.{eqb, ltb}
 use lib.ListN.{length, getD}
 use Rattle.table.specs.Limits.{noTransition}
+use Rattle.table.specs.BitSet.{member}
 use Rattle.table.specs.Rule.{Grid, Rule, cellAt, edge, edgeIn}
 use Rattle.table.specs.Table.{bytesFit, RowFits, SquareFits, WellFormed}
-use Rattle.table.proofs.Logic.{clash, and-in, or-in, not-in}
+use Rattle.table.proofs.Logic.{clash, and-both, and-in, or-in, not-in}
 use Rattle.table.proofs.BitSet.{member-lt}
 use Rattle.table.proofs.Every.{every-at}
 
@@ -70,3 +71,13 @@ edgeIn-set R well zero a q r h = clash refl h
 edgeIn-set R well (suc i) a q r h =
     let (there, bit) = and-in (edge (R .grid) a q r) _ h in
     (omega arith, member-lt (R .sets) (cellAt (R .grid) a q r) i (edge-byte-lt R well a q r there) bit)
+
+-- a transition belongs to set i + 1 just if bit i of its byte stands
+pub edgeIn-member : (grid : Grid) (i a q r : ℕ) → edgeIn grid (suc i) a q r ≡ true → member (cellAt grid a q r) i ≡ true
+unfolding edgeIn
+edgeIn-member grid i a q r h = and-in (edge grid a q r) (member (cellAt grid a q r) i) h .1
+
+pub member-edgeIn : (grid : Grid) (i a q r : ℕ)
+    → edge grid a q r ≡ true → member (cellAt grid a q r) i ≡ true → edgeIn grid (suc i) a q r ≡ true
+unfolding edgeIn
+member-edgeIn grid i a q r e m = and-both (edge grid a q r) (member (cellAt grid a q r) i) e m

@@ -18,3 +18,8 @@ infixl 20 _then_
 abbrev pub _then_ : {A B : Type 0} → Outcome A → (A → Outcome B) → Outcome B
 refused number then next = refused number
 accepted a then next = next a
+
+-- the number that a call gives: 0 where it is accepted
+abbrev pub numberOf : {A : Type 0} → Outcome A → ℕ
+numberOf (refused number) = number
+numberOf (accepted a) = 0

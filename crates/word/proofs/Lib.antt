@@ -1,0 +1,9 @@
+pub mod Paths
+pub mod Positions
+pub mod Pigeonhole
+pub mod Traces
+pub mod LoopToRun
+pub mod RunToLoop
+pub mod LoopTheorem
+pub mod Variants
+pub mod WalkQuestions

@@ -1,0 +1,73 @@
+-- Questions 7 and 8: how the letters are gone through one by one, and what follows for a walk that is accepted and
+-- for one that is refused.
+use mathlib.Core.Path.{_≡_, refl}
+use mathlib.Core.Bool.{Bool, true, false, _&&_}
+use mathlib.Core.List.{List, [], _∷_}
+use Prim.Native.Nat.{ℕ, suc, _≤_, _<_}
+use native.Mathlib.Omega.{arith}
+use lib.Dec.{ltb, leb}
+use lib.ListN.{length, getD, drop}
+use lib.Seq.{drop-cons}
+use borrow.Author.Tests.{ltb-true, leb-true}
+use Rattle.table.specs.Outcome.{Outcome, refused, accepted, ask, numberOf}
+use Rattle.table.specs.Table.{Every}
+use Rattle.table.proofs.Logic.{and-in}
+use Rattle.word.specs.Walk.{maxLength, lengthsFit, lettersBelow, askWalk, walkOutcome}
+
+-- the letters from a place on: the letter there, then those behind it
+pub below-from : (m : ℕ) (w : List ℕ) (at : ℕ) → at < length w
+    → lettersBelow m (drop at w) ≡ (ltb (getD w at 0) m && lettersBelow m (drop (suc at) w))
+unfolding lettersBelow
+below-from m w at h = rw (drop-cons w at 0 h)
+
+-- letters that pass the question are below m
+below-every : (m : ℕ) (w : List ℕ) → lettersBelow m w ≡ true → Every (λ a. a < m) w
+unfolding lettersBelow
+below-every m [] h = tt
+below-every m (a ∷ w) h = let (first, rest) = and-in (ltb a m) (lettersBelow m w) h in (ltb-true a m first, below-every m w rest)
+
+-- the number 0 means that both questions were answered yes
+both-yes : (fit below : Bool) → numberOf (ask fit 7 (ask below 8 (accepted (tt {0})))) ≡ 0 → (fit ≡ true) × (below ≡ true)
+both-yes true true h = (refl, refl)
+both-yes true false h = absurd (omega arith)
+both-yes false below h = absurd (omega arith)
+
+-- another number is that of the first answer no, whatever was to follow
+first-no : {A : Type 0} (fit below : Bool) (next : Outcome A) → (numberOf (ask fit 7 (ask below 8 (accepted (tt {0})))) ≡ 0 → ⊥)
+    → ask fit 7 (ask below 8 next) ≡ refused (numberOf (ask fit 7 (ask below 8 (accepted (tt {0})))))
+first-no true true next h = absurd (h refl)
+first-no true false next h = refl
+first-no false below next h = refl
+
+module _ (m : ℕ) (u v : List ℕ) where
+  -- so for a walk
+  answers-yes : numberOf (walkOutcome m u v) ≡ 0 → (lengthsFit u v ≡ true) × ((lettersBelow m u && lettersBelow m v) ≡ true)
+  unfolding walkOutcome askWalk
+  answers-yes h = both-yes (lengthsFit u v) (lettersBelow m u && lettersBelow m v) h
+
+  -- an accepted walk has a lead-in and a tail of allowed length, and letters below m
+  pub walk-accepted : numberOf (walkOutcome m u v) ≡ 0
+      → (length u ≤ maxLength) × (1 ≤ length v) × (length v ≤ maxLength) × Every (λ a. a < m) u × Every (λ a. a < m) v
+  unfolding lengthsFit
+  walk-accepted h =
+      let (fit, below) = answers-yes h in
+      let (short, tail) = and-in (leb (length u) maxLength) _ fit in
+      let (filled, short′) = and-in (leb 1 (length v)) _ tail in
+      let (in-lead, in-tail) = and-in (lettersBelow m u) _ below in (
+        leb-true (length u) maxLength short,
+        leb-true 1 (length v) filled,
+        leb-true (length v) maxLength short′,
+        below-every m u in-lead,
+        below-every m v in-tail,
+      )
+
+module _ {A : Type 0} (m : ℕ) (u v : List ℕ) (next : Outcome A) where
+  -- after an accepted walk the call goes on with what follows
+  pub walk-next : numberOf (walkOutcome m u v) ≡ 0 → askWalk m u v next ≡ next
+  unfolding askWalk
+  walk-next h = let (fit, below) = answers-yes m u v h in rw (fit, below)
+
+  -- a refused walk gives its number, whatever was to follow
+  pub walk-refused : (numberOf (walkOutcome m u v) ≡ 0 → ⊥) → askWalk m u v next ≡ refused (numberOf (walkOutcome m u v))
+  unfolding walkOutcome askWalk
+  walk-refused h = first-no (lengthsFit u v) (lettersBelow m u && lettersBelow m v) next h
