@@ -42,7 +42,7 @@ module _ {A B : Type 0} (f : A → List B) where
 
 module _ {A : Type 0} where
   -- there are c parts
-  length-parts : (w c : ℕ) (l : List A) → length (parts w c l) ≡ c
+  pub length-parts : (w c : ℕ) (l : List A) → length (parts w c l) ≡ c
   unfolding parts
   length-parts w zero l = refl
   length-parts w (suc c) l = ap suc (length-parts w c (drop w l))
@@ -55,7 +55,7 @@ module _ {A : Type 0} where
       (length-take-le w l (omega (arith, suc-mul c w)), parts-width w c (drop w l) (omega (arith, length-drop w l)))
 
   -- the parts of a list, put together again
-  flatten-parts : (w c : ℕ) (l : List A) → length l ≡ c * w → flatten (parts w c l) ≡ l
+  pub flatten-parts : (w c : ℕ) (l : List A) → length l ≡ c * w → flatten (parts w c l) ≡ l
   unfolding parts flatten
   flatten-parts w zero [] h = refl
   flatten-parts w zero (x ∷ l) h = absurd (omega (arith, zero-mul w))

@@ -129,8 +129,8 @@ module _ (n m k start : ℕ) (bytes : List ℕ) (R : Rule) (e : writeRule n m k 
   written-well-formed = of-accepted (Writes n m k start bytes) (writeRule n m k start bytes) R e (rule-written n m k start bytes)
 
   -- and its table is read as that rule
-  pub written-reads-back : readRule (tableBytes R) ≡ accepted R
-  written-reads-back =
+  pub rule-written-reads-back : readRule (tableBytes R) ≡ accepted R
+  rule-written-reads-back =
       let (well, range, states, letters, sets, _, _) = written-well-formed in
       bytes-read R well (rw (states, letters, sets) range)
 
@@ -146,14 +146,14 @@ well-formed-written R well range =
     rw (range, well .starts, eq-eqb _ _ long, fit, back)
 
 -- as is the grid of a rule that was read
-pub read-writes-back : (table : List ℕ) (R : Rule) → readRule table ≡ accepted R
+pub rule-read-writes-back : (table : List ℕ) (R : Rule) → readRule table ≡ accepted R
     → writeRule (R .states) (R .letters) (R .sets) (R .start) (gridBytes (R .grid)) ≡ accepted R
-read-writes-back table R e = let (well, range) = read-well-formed table R e in well-formed-written R well range
+rule-read-writes-back table R e = let (well, range) = read-well-formed table R e in well-formed-written R well range
 
 -- LENGTHS
 
 -- a row has at most one set byte for each next state
-set-bytes-le : (row : List ℕ) → length (setBytes row) ≤ length row
+pub set-bytes-le : (row : List ℕ) → length (setBytes row) ≤ length row
 unfolding setBytes
 set-bytes-le [] = omega arith
 set-bytes-le (x ∷ row) = go (eqb x noTransition) (set-bytes-le row)

@@ -1,12 +1,17 @@
+-- What to believe: the limits, sets, questions, rules and tables, and the outcomes of the calls.
 pub mod Limits
 pub mod BitSet
 pub mod Outcome
 pub mod Rule
 pub mod Table
 pub mod Storing
+pub mod ReadCall
+pub mod WriteCall
+pub mod Theorems
+-- Inside: what the contracts of this crate's own functions cite.
 pub mod Header
 pub mod Held
 pub mod Cursor
-pub mod ReadCall
+pub mod Writing
 pub mod Lookup
 pub mod LookupSteps

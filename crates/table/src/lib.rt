@@ -6,3 +6,4 @@ pub mod header;
 pub mod limits;
 pub mod lookup;
 pub mod reader;
+pub mod writer;

@@ -1,0 +1,39 @@
+-- What is proved of rule tables, in terms of the outcomes that the calls' contracts name.
+use mathlib.Core.Path.{_≡_}
+use mathlib.Core.Bool.{true}
+use mathlib.Core.Logic.{_↔_}
+use mathlib.Core.List.{List}
+use Prim.Native.Nat.{ℕ, _*_, _≤_}
+use lib.ListN.{length}
+use Rattle.table.specs.Outcome.{Outcome, accepted}
+use Rattle.table.specs.Rule.{Rule}
+use Rattle.table.specs.Table.{WellFormed, inRange, tableBytes, gridBytes, readRule}
+use Rattle.table.specs.Storing.{stored}
+use Rattle.table.specs.ReadCall.{readOutcome, readAnswer, gridAfter}
+use Rattle.table.specs.WriteCall.{writeOutcome}
+
+-- demand 2, "A grid written as a rule table reads back as that grid", with the same numbers, into every buffer that
+-- has room
+abbrev pub WrittenReadsBack : Type 0
+WrittenReadsBack =
+    (n m k start : ℕ) (grid buffer table : List ℕ) → writeOutcome n m k start grid buffer ≡ accepted table
+    → (other : List ℕ) → length grid ≤ length other
+    → (readAnswer (readOutcome table other) ≡ record { number = 0; states = n; letters = m; sets = k; start = start })
+    × (gridAfter (readOutcome table other) other ≡ stored 0 grid other)
+
+-- demand 2, "and an accepted table, read and written, is the same bytes"
+abbrev pub ReadWritesBack : Type 0
+ReadWritesBack =
+    (table buffer : List ℕ) (R : Rule) → readOutcome table buffer ≡ accepted R
+    → (other : List ℕ) → length table ≤ length other
+    → writeOutcome (R .states) (R .letters) (R .sets) (R .start) (gridBytes (R .grid)) other ≡ accepted table
+
+-- the accepted tables are just the tables of well-formed rules within the limits, and the rule read is the one written
+abbrev pub AcceptedTables : Type 0
+AcceptedTables =
+    (table : List ℕ) (R : Rule)
+    → (readRule table ≡ accepted R) ↔ ((WellFormed R × (inRange (R .states) (R .letters) (R .sets) ≡ true)) × (tableBytes R ≡ table))
+
+-- "A table has 5 to 1,156 bytes."
+abbrev pub AcceptedLengths : Type 0
+AcceptedLengths = (table : List ℕ) (R : Rule) → readRule table ≡ accepted R → (5 ≤ length table) × (length table ≤ 1156)
