@@ -1,0 +1,42 @@
+-- The tree theorem, and what it rests on.
+pub mod TreeTheorem
+pub mod WitnessToLoop
+pub mod LoopToWitness
+pub mod Teeth
+-- The first repeat.
+pub mod RepeatExists
+pub mod FirstRepeats
+pub mod TreeCode
+pub mod Positional
+-- Trees along a walk: positions, rounds, witnesses.
+pub mod TreesOfWalk
+pub mod StatesOfTrees
+pub mod WholeTrees
+pub mod AnyRounds
+pub mod NameOrder
+pub mod FirstWitness
+-- One node and one letter, paths between accepting letters, the descent into children.
+pub mod OneNode
+pub mod BranchFits
+pub mod BetweenAccepting
+pub mod Descent
+-- One letter: the local form, and that it is document 01's steps.
+pub mod LocalStep
+pub mod LabelsOfStep
+pub mod StepsJoined
+pub mod Names
+pub mod NamesDistinct
+pub mod Origins
+pub mod StableNames
+pub mod AcceptingNames
+-- Trees and their records.
+pub mod SetFacts
+pub mod Conditions
+pub mod TreesKept
+pub mod Hosts
+pub mod HostLabels
+pub mod Members
+pub mod Marks
+pub mod RecordOfTree
+pub mod QuestionNine
+pub mod RecordChecks

@@ -1,0 +1,261 @@
+-- Why the verdict asks what it asks: three verdicts that ask less, and for each a small rule without an accepting run to
+-- which it says yes. One asks for an accepting node only; one also counts a node at a letter that renames it; one looks at
+-- the first round only.
+use mathlib.Core.Path.{_≡_, refl, ap}
+use mathlib.Core.Bool.{true, false, _||_}
+use mathlib.Core.List.{List, [], _∷_}
+use Prim.Native.Nat.{ℕ, zero, suc, _≤_, _<_}
+use native.Mathlib.Omega.{arith}
+use lib.ListN.{length, getD}
+use Rattle.table.specs.BitSet.{member, minus, collect, some}
+use Rattle.table.specs.Rule.{Rule, cellAt, edge, edgeIn, image, successors, successorsIn}
+use Rattle.table.specs.Table.{WellFormed, startFits, bytesFit}
+use Rattle.table.proofs.Logic.{clash, or-r}
+use Rattle.word.specs.Walk.{rounds}
+use Rattle.word.specs.Run.{AcceptingRun, Takes}
+use Rattle.word.specs.Loop.{Loop}
+use Rattle.word.proofs.LoopTheorem.{loop-run}
+use Rattle.history.specs.Forest.{size, change, listing, namedFrom, named, sameNumbers}
+use Rattle.history.specs.Tree.{labels, startTree}
+use Rattle.history.specs.Letter.{
+  begun,
+  succeeded,
+  youngest,
+  child,
+  sprouting,
+  separated,
+  grownLabels,
+  nextSet,
+  kept,
+  pruned,
+  survivors,
+  nextTree,
+  isOld,
+  anyOf,
+  accepting,
+  stable,
+}
+use Rattle.history.specs.Rounds.{readLetters, roundTree, treeInRound, FirstRepeat}
+use Rattle.history.specs.Verdict.{LetterPlace, Witness}
+use Rattle.history.proofs.TreeTheorem.{witness-loop}
+
+-- VERDICTS THAT ASK LESS
+
+-- some node accepts at a letter of rounds e+1 to e+p
+record AcceptingOnly (R : Rule) (u v : List ℕ) (entry period : ℕ) (w : List ℕ) : Type 0 where
+  round : ℕ
+  place : ℕ
+  there : LetterPlace v entry period round place
+  accepts : accepting R (getD v place 0) (treeInRound R u v round place) w ≡ true
+
+-- some node accepts at one of these letters, and at each of them it is stable or accepting, renamed or not
+record RenamedToo (R : Rule) (u v : List ℕ) (entry period : ℕ) (w : List ℕ) : Type 0 where
+  stays : (r i : ℕ) → LetterPlace v entry period r i
+      → (stable R (getD v i 0) (treeInRound R u v r i) w || accepting R (getD v i 0) (treeInRound R u v r i) w) ≡ true
+  accepts : AcceptingOnly R u v entry period w
+
+-- the verdict over the first round only
+abbrev FirstRound : Rule → List ℕ → List ℕ → List ℕ → Type 0
+FirstRound R u v w = Witness R u v 0 1 w
+
+-- THE WALK
+
+-- the walk 0 0 0 …
+abbrev cycle : List ℕ
+cycle = 0 ∷ []
+
+nonempty : cycle ≡ [] → ⊥
+nonempty e = omega (arith, ap length e)
+
+-- a rule with one letter, one set and the starting state 0
+abbrev small : ℕ → List (List ℕ) → Rule
+small n square = record { states = n; letters = 1; sets = 1; start = 1; grid = square ∷ [] }
+
+-- without an accepting run there is no loop
+no-loop : (R : Rule) → WellFormed R → (AcceptingRun R [] cycle → ⊥) → Loop R [] cycle → ⊥
+no-loop R fits none L = none (loop-run R [] cycle fits nonempty L)
+
+-- A NODE THAT ACCEPTS AND IS RENAMED
+
+-- state 0 goes to itself by no set and to state 1 by set 1; state 1 goes to state 2 by set 1; state 2 goes nowhere
+abbrev leaving : Rule
+leaving = small 3 ((0 ∷ 1 ∷ 255 ∷ []) ∷ (255 ∷ 255 ∷ 1 ∷ []) ∷ (255 ∷ 255 ∷ 255 ∷ []) ∷ [])
+
+leaving-fits : WellFormed leaving
+unfolding startFits bytesFit
+leaving-fits = record { starts = refl; squares = refl; fits = ((refl, ((refl, refl), ((refl, refl), ((refl, refl), tt)))), tt) }
+
+-- a transition of set 1 leads away from state 0, and from there one transition is left
+leaving-set : (a q r : ℕ) → edgeIn (leaving .grid) 1 a q r ≡ true → 1 ≤ r
+unfolding edgeIn edge cellAt member
+leaving-set a q (suc r) e = omega arith
+leaving-set (suc a) q zero e = clash refl e
+leaving-set zero zero zero e = clash refl e
+leaving-set zero (suc zero) zero e = clash refl e
+leaving-set zero (suc (suc zero)) zero e = clash refl e
+leaving-set zero (suc (suc (suc q))) zero e = clash refl e
+
+leaving-last : (a q r : ℕ) → edge (leaving .grid) a q r ≡ true → 1 ≤ q → (q ≡ 1) × (r ≡ 2)
+unfolding edge cellAt
+leaving-last a zero r e h = absurd (omega arith)
+leaving-last (suc a) (suc q) r e h = clash refl e
+leaving-last zero (suc zero) zero e h = clash refl e
+leaving-last zero (suc zero) (suc zero) e h = clash refl e
+leaving-last zero (suc zero) (suc (suc zero)) e h = (refl, refl)
+leaving-last zero (suc zero) (suc (suc (suc r))) e h = clash refl e
+leaving-last zero (suc (suc zero)) zero e h = clash refl e
+leaving-last zero (suc (suc zero)) (suc zero) e h = clash refl e
+leaving-last zero (suc (suc zero)) (suc (suc zero)) e h = clash refl e
+leaving-last zero (suc (suc zero)) (suc (suc (suc r))) e h = clash refl e
+leaving-last zero (suc (suc (suc q))) r e h = clash refl e
+
+leaving-no-run : AcceptingRun leaving [] cycle → ⊥
+leaving-no-run A =
+    let (p, _, t) = A .often 1 (omega arith) (omega arith) 0 in
+    let away = leaving-set _ _ _ t in
+    let (_, second) = leaving-last _ _ _ (A .run .moves (suc p)) away in
+    let (third, _) = leaving-last _ _ _ (A .run .moves (suc (suc p))) (omega arith) in
+    omega arith
+
+leaving-no-loop : Loop leaving [] cycle → ⊥
+leaving-no-loop = no-loop leaving leaving-fits leaving-no-run
+
+-- its trees t(0), t(1) and t(2) have one, two and three nodes, and t(3) is t(2); at the letter from t(2) the second
+-- child of the root accepts, and becomes the first child
+record Leaving : Type 0 where
+  one : size (roundTree leaving [] cycle 0) ≡ 1
+  two : size (roundTree leaving [] cycle 1) ≡ 2
+  three : size (roundTree leaving [] cycle 2) ≡ 3
+  back : roundTree leaving [] cycle 2 ≡ roundTree leaving [] cycle 3
+  accepts : accepting leaving 0 (treeInRound leaving [] cycle 2 0) (1 ∷ []) ≡ true
+  renamed : stable leaving 0 (treeInRound leaving [] cycle 2 0) (1 ∷ []) ≡ false
+
+leaving-computed : Leaving
+unfolding treeInRound roundTree readLetters rounds startTree size labels
+    nextTree stable accepting survivors begun succeeded sprouting child youngest separated pruned kept grownLabels nextSet
+    change named namedFrom listing anyOf isOld sameNumbers
+    successors successorsIn image collect some member minus edge edgeIn cellAt
+leaving-computed = record { one = refl; two = refl; three = refl; back = refl; accepts = refl; renamed = refl }
+
+leaving-repeat : FirstRepeat (roundTree leaving [] cycle) 2 1
+leaving-repeat = record {
+  positive = omega arith;
+  back = leaving-computed .back;
+  first = λ i j l h e. absurd (omega (arith, sizes i (omega arith), sizes j h, ap size e));
+}
+  where
+    sizes : (i : ℕ) → i < 3 → size (roundTree leaving [] cycle i) ≡ suc i
+    sizes zero h = leaving-computed .one
+    sizes (suc zero) h = leaving-computed .two
+    sizes (suc (suc zero)) h = leaving-computed .three
+    sizes (suc (suc (suc i))) h = absurd (omega arith)
+
+-- so both verdicts say yes, and the tree judge's says no
+leaving-accepts : AcceptingOnly leaving [] cycle 2 1 (1 ∷ [])
+leaving-accepts = record {
+  round = 2;
+  place = 0;
+  there = record { from = omega arith; upto = omega arith; within = omega arith };
+  accepts = leaving-computed .accepts;
+}
+
+leaving-renamed : RenamedToo leaving [] cycle 2 1 (1 ∷ [])
+leaving-renamed = record { stays = stays; accepts = leaving-accepts }
+  where
+    stays : (r i : ℕ) → LetterPlace cycle 2 1 r i
+        → (stable leaving (getD cycle i 0) (treeInRound leaving [] cycle r i) (1 ∷ [])
+        || accepting leaving (getD cycle i 0) (treeInRound leaving [] cycle r i) (1 ∷ [])) ≡ true
+    stays r i l =
+        let e : r ≡ 2 = omega (arith, l .from, l .upto) in
+        let f : i ≡ 0 = omega (arith, l .within) in
+        rw (e, f) (or-r (stable leaving 0 (treeInRound leaving [] cycle 2 0) (1 ∷ [])) _ (leaving-computed .accepts))
+
+leaving-no-witness : (w : List ℕ) → Witness leaving [] cycle 2 1 w → ⊥
+leaving-no-witness w W = leaving-no-loop (witness-loop leaving leaving-fits (omega arith) [] cycle nonempty 2 1 leaving-repeat w W)
+
+-- THE FIRST ROUND ONLY
+
+-- state 0 goes to state 1 by set 1; state 1 goes to itself by no set
+abbrev once : Rule
+once = small 2 ((255 ∷ 1 ∷ []) ∷ (255 ∷ 0 ∷ []) ∷ [])
+
+once-fits : WellFormed once
+unfolding startFits bytesFit
+once-fits = record { starts = refl; squares = refl; fits = ((refl, ((refl, refl), ((refl, refl), tt))), tt) }
+
+-- set 1 is taken from state 0, and every transition leads to state 1
+once-set : (a q r : ℕ) → edgeIn (once .grid) 1 a q r ≡ true → q ≡ 0
+unfolding edgeIn edge cellAt member
+once-set (suc a) q r e = clash refl e
+once-set zero zero r e = refl
+once-set zero (suc zero) zero e = clash refl e
+once-set zero (suc zero) (suc zero) e = clash refl e
+once-set zero (suc zero) (suc (suc r)) e = clash refl e
+once-set zero (suc (suc q)) r e = clash refl e
+
+once-to : (a q r : ℕ) → edge (once .grid) a q r ≡ true → r ≡ 1
+unfolding edge cellAt
+once-to (suc a) q r e = clash refl e
+once-to zero (suc (suc q)) r e = clash refl e
+once-to zero zero zero e = clash refl e
+once-to zero zero (suc zero) e = refl
+once-to zero zero (suc (suc r)) e = clash refl e
+once-to zero (suc zero) zero e = clash refl e
+once-to zero (suc zero) (suc zero) e = refl
+once-to zero (suc zero) (suc (suc r)) e = clash refl e
+
+once-no-run : AcceptingRun once [] cycle → ⊥
+once-no-run A = go (A .often 1 (omega arith) (omega arith) 1)
+  where
+    go : (p : ℕ) × (1 ≤ p) × Takes (A .run) 1 p → ⊥
+    go (zero, h, t) = omega arith
+    go (suc p, h, t) = omega (arith, once-set _ _ _ t, once-to _ _ _ (A .run .moves p))
+
+once-no-loop : Loop once [] cycle → ⊥
+once-no-loop = no-loop once once-fits once-no-run
+
+-- t(0) and t(1) have different labels, and t(2) is t(1); in the first round the root is stable and accepting
+record Once : Type 0 where
+  first : labels (roundTree once [] cycle 0) ≡ 1
+  second : labels (roundTree once [] cycle 1) ≡ 2
+  back : roundTree once [] cycle 1 ≡ roundTree once [] cycle 2
+  stays : stable once 0 (treeInRound once [] cycle 0 0) [] ≡ true
+  accepts : accepting once 0 (treeInRound once [] cycle 0 0) [] ≡ true
+
+once-computed : Once
+unfolding treeInRound roundTree readLetters rounds startTree size labels
+    nextTree stable accepting survivors begun succeeded sprouting child youngest separated pruned kept grownLabels nextSet
+    change named namedFrom listing anyOf isOld sameNumbers
+    successors successorsIn image collect some member minus edge edgeIn cellAt
+once-computed = record { first = refl; second = refl; back = refl; stays = refl; accepts = refl }
+
+once-repeat : FirstRepeat (roundTree once [] cycle) 1 1
+once-repeat = record {
+  positive = omega arith;
+  back = once-computed .back;
+  first = λ i j l h e. absurd (omega (arith, held i (omega arith), held j h, ap labels e));
+}
+  where
+    held : (i : ℕ) → i < 2 → labels (roundTree once [] cycle i) ≡ suc i
+    held zero h = once-computed .first
+    held (suc zero) h = once-computed .second
+    held (suc (suc i)) h = absurd (omega arith)
+
+-- so the verdict over the first round says yes, and the tree judge's says no
+once-first-round : FirstRound once [] cycle []
+once-first-round = record {
+  stays = stays;
+  round = 0;
+  place = 0;
+  there = record { from = omega arith; upto = omega arith; within = omega arith };
+  accepts = once-computed .accepts;
+}
+  where
+    stays : (r i : ℕ) → LetterPlace cycle 0 1 r i → stable once (getD cycle i 0) (treeInRound once [] cycle r i) [] ≡ true
+    stays r i l =
+        let e : r ≡ 0 = omega (arith, l .upto) in
+        let f : i ≡ 0 = omega (arith, l .within) in
+        rw (e, f) (once-computed .stays)
+
+once-no-witness : (w : List ℕ) → Witness once [] cycle 1 1 w → ⊥
+once-no-witness w W = once-no-loop (witness-loop once once-fits (omega arith) [] cycle nonempty 1 1 once-repeat w W)

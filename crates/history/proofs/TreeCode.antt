@@ -1,0 +1,205 @@
+-- "There are fewer than 2^63 trees": each tree over at most 8 states and 4 sets has a number below 2^63, and no two have the
+-- same. The number says for each state whether it is in the tree and which node hosts it (nine possibilities each), the root's
+-- active set (four), and of each other node the depth and the active set (eight times four). The number is never computed.
+use mathlib.Core.Path.{_≡_, refl, sym, _∙_, ap, ap₂}
+use mathlib.Core.Logic.{⊎-elim}
+use mathlib.Core.Bool.{true, false, cond}
+use mathlib.Core.List.{List, [], _∷_, _++_, map}
+use Prim.Native.Nat.{ℕ, zero, suc, _+_, _*_, _-_, _/_, _%_, _^_, _≤_, _<_}
+use native.Mathlib.Omega.{arith}
+use native.Mathlib.Nat.{pow-le-pow-right}
+use native.Mathlib.Decide.{decLt}
+use lib.Count.{ones-le}
+use lib.ListN.{length, getD, List·getD-eq-default}
+use lib.Seq.{ext-getD}
+use Rattle.table.specs.BitSet.{member}
+use Rattle.table.specs.Table.{Every}
+use Rattle.table.proofs.Every.{every-at}
+use Rattle.table.proofs.Logic.{look, bool-ext}
+use Rattle.table.proofs.BitSet.{member-lt, set-ext}
+use Rattle.history.specs.Forest.{nil, node, size}
+use Rattle.history.specs.Tree.{Tree, labels, isTree}
+use Rattle.history.specs.Record.{host, members, marks, recordOf}
+use Rattle.history.proofs.Conditions.{Fits, IsTree, tree-out}
+use Rattle.history.proofs.Hosts.{host-to, each-hosts, size-labels}
+use Rattle.history.proofs.Members.{map-members}
+use Rattle.history.proofs.RecordOfTree.{length-marks, root-states}
+use Rattle.history.proofs.QuestionNine.{record-injective}
+use Rattle.history.proofs.Positional.{positional, positional-lt, same-digits}
+
+-- THE NUMBER OF A TREE
+
+-- of a state: 0 where the tree does not hold it, else one more than its host's number
+hostDigit : Tree → ℕ → ℕ
+hostDigit T q = cond (member (labels T) q) (suc (host T q)) 0
+
+-- of a mark: 4 times the depth, and the active set counted from 0
+markDigit : ℕ → ℕ
+markDigit m = 4 * (m / 16) + (m % 16 - 1)
+
+-- of a node, by its number; there are at most 8 nodes
+nodeDigit : Tree → ℕ → ℕ
+nodeDigit T i = markDigit (getD (marks 0 T) i 0)
+
+-- of a tree
+pub treeCode : ℕ → Tree → ℕ
+treeCode n T = (positional 9 (hostDigit T) n * 4 + nodeDigit T 0) * 2 ^ 35 + positional 32 (λ i. nodeDigit T (suc i)) 7
+
+-- MARKS
+
+-- a mark of a tree with at most 8 nodes and 4 sets
+MarkFits : ℕ → Type 0
+MarkFits m = (m / 16 < 8) × (1 ≤ m % 16) × (m % 16 ≤ 4)
+
+every-append : (P : ℕ → Type 0) (u v : List ℕ) → Every P u → Every P v → Every P (u ++ v)
+every-append P [] v h g = g
+every-append P (m ∷ u) v h g = (h .0, every-append P u v (h .1) g)
+
+every-mark : (k d : ℕ) (F : Tree) → Fits k F → k ≤ 4 → d + size F ≤ 8 → Every MarkFits (marks d F)
+unfolding marks size MarkFits
+every-mark k d nil w h l = tt
+every-mark k d (node x below younger) (f, down, on) h l = (
+  (omega (arith, f .up-to), omega (arith, f .from-one, f .up-to), omega (arith, f .up-to)),
+  every-append MarkFits (marks (suc d) below) (marks d younger) (every-mark k (suc d) below down h (omega arith))
+      (every-mark k d younger on h (omega arith)),
+)
+
+-- such marks are known from their digits
+mark-digit-lt : (m : ℕ) → MarkFits m → markDigit m < 32
+unfolding MarkFits markDigit
+mark-digit-lt m w = omega arith
+
+same-mark : (m c : ℕ) → MarkFits m → MarkFits c → markDigit m ≡ markDigit c → m ≡ c
+unfolding MarkFits markDigit
+same-mark m c (deep, low, high) (deep′, low′, high′) e = omega arith
+
+-- IT IS BELOW 2^63
+
+-- its digits are below the bases
+module _ (n k : ℕ) (T : Tree) (t : IsTree n k T) (hn : n ≤ 8) (hk : k ≤ 4) where
+  few : size T ≤ 8
+  few = omega (arith, size-labels k T (t .fits), ones-le n (labels T) (t .states))
+
+  host-digit-lt : (q : ℕ) → hostDigit T q < 9
+  unfolding hostDigit host
+  host-digit-lt q = ⊎-elim (λ h. rw h (omega (arith, host-to 0 T q h, few))) (λ h. rw h (omega arith)) (look (member (labels T) q))
+
+  all-marks : Every MarkFits (marks 0 T)
+  all-marks = every-mark k 0 T (t .fits) hk (omega (arith, few))
+
+  node-digit-lt : (i : ℕ) → nodeDigit T i < 32
+  unfolding nodeDigit markDigit
+  node-digit-lt i = go (decLt i (length (marks 0 T)))
+    where
+      go : Dec (i < length (marks 0 T)) → nodeDigit T i < 32
+      go (yes l) = mark-digit-lt (getD (marks 0 T) i 0) (every-at MarkFits (marks 0 T) i 0 all-marks l)
+      go (no l) = rw (List·getD-eq-default (marks 0 T) 0 {n = i} (omega arith)) (omega arith)
+
+  root-digit-lt : nodeDigit T 0 < 4
+  unfolding nodeDigit markDigit marks
+  root-digit-lt = go T (t .fits)
+    where
+      go : (F : Tree) → Fits k F → nodeDigit F 0 < 4
+      go nil w = omega arith
+      go (node x below younger) (f, down, on) = omega (arith, f .up-to)
+
+  hosts-lt : positional 9 (hostDigit T) n < 9 ^ 8
+  hosts-lt = omega (arith, positional-lt 9 (hostDigit T) n (λ q _. host-digit-lt q), pow-le-pow-right {n = 9} (omega arith) hn)
+
+  nodes-lt : positional 32 (λ i. nodeDigit T (suc i)) 7 < 2 ^ 35
+  nodes-lt = positional-lt 32 (λ i. nodeDigit T (suc i)) 7 (λ i _. node-digit-lt (suc i))
+
+-- the number of a tree is below 2^63 − 1
+pub code-lt : (n k : ℕ) (T : Tree) → isTree n k T ≡ true → n ≤ 8 → k ≤ 4 → treeCode n T < 2 ^ 63 - 1
+unfolding treeCode
+code-lt n k T t hn hk = let w = tree-out n k T t in
+    omega (arith, hosts-lt n k T w hn hk, root-digit-lt n k T w hn hk, nodes-lt n k T w hn hk)
+
+-- NO TWO TREES HAVE THE SAME
+
+-- the digit of a state says whether the tree holds it
+held-digit : (T : Tree) (q : ℕ) → member (labels T) q ≡ true → hostDigit T q ≡ suc (host T q)
+unfolding hostDigit
+held-digit T q h = rw h
+
+other-digit : (T : Tree) (q : ℕ) → member (labels T) q ≡ false → hostDigit T q ≡ 0
+unfolding hostDigit
+other-digit T q h = rw h
+
+-- trees with the same digits of states hold the same states, at the same hosts, and have as many nodes
+module _ (n k : ℕ) (T U : Tree) (t : IsTree n k T) (u : IsTree n k U)
+    (same : (q : ℕ) → q < n → hostDigit T q ≡ hostDigit U q) where
+  held-too : (q : ℕ) → member (labels T) q ≡ true → member (labels U) q ≡ true
+  held-too q h = ⊎-elim (λ g. g)
+      (λ g. absurd (omega (arith, same q (member-lt n (labels T) q (t .states) h), held-digit T q h, other-digit U q g)))
+      (look (member (labels U) q))
+
+  same-host : (q : ℕ) → member (labels T) q ≡ true → host T q ≡ host U q
+  same-host q h = omega (arith, same q (member-lt n (labels T) q (t .states) h), held-digit T q h, held-digit U q (held-too q h))
+
+  no-more-nodes : size T ≤ size U
+  unfolding host
+  no-more-nodes = go (decLt (size U) (size T))
+    where
+      go : Dec (size U < size T) → size T ≤ size U
+      go (no h) = omega arith
+      go (yes h) = let (q, held, e) = each-hosts k 0 T (t .fits) (size U) (omega arith) (omega arith) in
+          absurd (omega (arith, e, same-host q held, host-to 0 U q (held-too q held)))
+
+-- trees with the same states, hosts and marks have the same record
+same-record : (n k : ℕ) (T U : Tree) → IsTree n k T → IsTree n k U → labels T ≡ labels U
+    → ((q : ℕ) → member (labels T) q ≡ true → host T q ≡ host U q) → marks 0 T ≡ marks 0 U → recordOf n T ≡ recordOf n U
+unfolding recordOf marks
+same-record n k nil nil t u s h m = refl
+same-record n k nil (node y down others) t u s h m = let z : _≡_ {A = ℕ} 0 1 = cc in absurd (omega arith)
+same-record n k (node x below others) nil t u s h m = let z : _≡_ {A = ℕ} 0 1 = cc in absurd (omega arith)
+same-record n k (node x below (node z other younger)) (node y down others) t u s h m = absurd (t .one-root)
+same-record n k (node x below nil) (node y down (node z other younger)) t u s h m = absurd (u .one-root)
+same-record n k (node x below nil) (node y down nil) t u s h m =
+    let T : Tree = node x below nil in
+    let U : Tree = node y down nil in
+    let root : x .label ≡ y .label = sym (root-states x below) ∙ s ∙ root-states y down in
+    let hosts : map (host T) (members n (x .label)) ≡ map (host U) (members n (x .label)) =
+    map-members (host T) (host U) n (x .label) (λ q _ g. h q (rw (root-states x below) g)) in
+    ap₂ (λ (a b : List ℕ). x .label ∷ (a ++ b)) hosts m ∙ ap (λ (c : ℕ). c ∷ (map (host U) (members n c) ++ marks 0 U)) root
+
+-- trees with the same number are the same
+pub code-injective : (n k : ℕ) (T U : Tree) → isTree n k T ≡ true → isTree n k U ≡ true → n ≤ 8 → k ≤ 4
+    → treeCode n T ≡ treeCode n U → T ≡ U
+unfolding treeCode nodeDigit
+code-injective n k T U t u hn hk e =
+    record-injective n k T U t u (omega arith) (same-record n k T U wt wu (set-ext _ _ (λ q. bool-ext _ _ (held-too n k T U wt wu hosts q)
+    (held-too n k U T wu wt (λ q l. sym (hosts q l)) q))) (same-host n k T U wt wu hosts) nodes)
+  where
+    wt : IsTree n k T
+    wt = tree-out n k T t
+
+    wu : IsTree n k U
+    wu = tree-out n k U u
+
+    states : positional 9 (hostDigit T) n ≡ positional 9 (hostDigit U) n
+    states = omega (arith, nodes-lt n k T wt hn hk, nodes-lt n k U wu hn hk, root-digit-lt n k T wt hn hk, root-digit-lt n k U wu hn hk)
+
+    root : nodeDigit T 0 ≡ nodeDigit U 0
+    root = omega (arith, states, nodes-lt n k T wt hn hk, nodes-lt n k U wu hn hk)
+
+    others : positional 32 (λ i. nodeDigit T (suc i)) 7 ≡ positional 32 (λ i. nodeDigit U (suc i)) 7
+    others = omega (arith, states, root)
+
+    hosts : (q : ℕ) → q < n → hostDigit T q ≡ hostDigit U q
+    hosts = same-digits 9 (hostDigit T) (hostDigit U) n (λ q _. host-digit-lt n k T wt hn hk q)
+        (λ q _. host-digit-lt n k U wu hn hk q) states
+
+    digit : (i : ℕ) → i < 8 → nodeDigit T i ≡ nodeDigit U i
+    digit zero l = root
+    digit (suc i) l = same-digits 32 (λ i. nodeDigit T (suc i)) (λ i. nodeDigit U (suc i)) 7 (λ i _. node-digit-lt n k T wt hn hk (suc i))
+        (λ i _. node-digit-lt n k U wu hn hk (suc i)) others i (omega arith)
+
+    many : size T ≡ size U
+    many = omega (arith, no-more-nodes n k T U wt wu hosts, no-more-nodes n k U T wu wt (λ q l. sym (hosts q l)))
+
+    nodes : marks 0 T ≡ marks 0 U
+    nodes = ext-getD 0 (marks 0 T) (marks 0 U) (length-marks 0 T ∙ many ∙ sym (length-marks 0 U)) (λ i l.
+        same-mark (getD (marks 0 T) i 0) (getD (marks 0 U) i 0) (every-at MarkFits (marks 0 T) i 0 (all-marks n k T wt hn hk) l)
+        (every-at MarkFits (marks 0 U) i 0 (all-marks n k U wu hn hk) (omega (arith, length-marks 0 T, length-marks 0 U, many)))
+        (digit i (omega (arith, length-marks 0 T, few n k T wt hn hk))))

@@ -1,0 +1,9 @@
+-- What to believe: forests and trees, one letter, records, the trees along a walk and the verdict.
+pub mod Forest
+pub mod Tree
+pub mod Letter
+pub mod Record
+pub mod Rounds
+pub mod Verdict
+-- Inside: what the contracts of this crate's own functions cite.
+pub mod RecordChecks

@@ -1,0 +1,1 @@
+// Definitions and mathematics of history trees; the code is in the crate `tree`.
