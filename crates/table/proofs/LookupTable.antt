@@ -1,16 +1,20 @@
--- Two entries of a table give the image of any set of states, and a letter's tables are those of its relations.
+-- Two entries of a table give the image of any set of states, and a letter's tables are those of its relations: so a look-up
+-- gives the successors of a set of states, and those by transitions of one set.
 use mathlib.Core.Path.{_≡_, sym, _∙_, ap, ap₂}
 use mathlib.Core.Bool.{Bool, _&&_}
 use mathlib.Core.List.{List, [], _++_}
-use Prim.Native.Nat.{ℕ, suc, _+_, _*_, _/_, _%_, _^_, _≤_}
+use Prim.Native.Nat.{ℕ, zero, suc, _+_, _*_, _/_, _%_, _^_, _≤_}
 use native.Mathlib.Omega.{arith}
 use lib.Bits.{bitOr, or-shifted-r}
 use lib.ListN.{length, getD, List·getD-append}
 use lib.Seq.{getD-append-add}
 use Rattle.table.specs.Limits.{maxStates, maxSets}
-use Rattle.table.specs.Rule.{Grid, image}
+use Rattle.table.specs.Rule.{Grid, Rule, image, successors, successorsIn}
+use Rattle.table.specs.Table.{WellFormed}
+use Rattle.table.specs.Held.{held}
 use Rattle.table.specs.Lookup.{tabulate, relation, imageTable, letterTables, lookUp}
 use Rattle.table.proofs.BitSet.{member-mod, collect-ext, some-ext, image-union}
+use Rattle.table.proofs.Holding.{image-held, image-held-in}
 use Rattle.table.proofs.Tabulate.{length-tabulate, getD-tabulate}
 
 -- states from n up add nothing to an image
@@ -53,3 +57,15 @@ unfolding letterTables
 letter-table grid a i s h =
     ap (λ (t : List ℕ). lookUp t s) (getD-tabulate (suc maxSets) (λ i. imageTable (relation grid a i)) i [] (omega arith))
     ∙ look-up-image (relation grid a i) s
+
+-- of the rule that the arrays hold: the successors of any set, and those by transitions of set i
+module _ (R : Rule) (well : WellFormed R) (small : R .states ≤ maxStates) where
+  pub look-up-successors : (a s : ℕ) → lookUp (getD (letterTables (held (R .grid)) a) 0 []) s ≡ successors R a s
+  unfolding relation
+  look-up-successors a s = letter-table (held (R .grid)) a 0 s (omega arith) ∙ image-held R well small a s
+
+  pub look-up-successors-in : (i a s : ℕ) → 1 ≤ i → i ≤ maxSets
+      → lookUp (getD (letterTables (held (R .grid)) a) i []) s ≡ successorsIn R i a s
+  unfolding relation
+  look-up-successors-in zero a s low high = absurd (omega arith)
+  look-up-successors-in (suc i) a s low high = letter-table (held (R .grid)) a (suc i) s high ∙ image-held-in R well small (suc i) a s
