@@ -50,12 +50,13 @@ module _ (R : Rule) (u v : List ℕ) (entry period : ℕ) where
   acceptingAt : List ℕ → ℕ → ℕ → Bool
   acceptingAt w r i = accepting R (getD v i 0) (treeInRound R u v r i) w
 
-  test : List ℕ → Bool
-  test w = not (someLetter (unstableAt w)) && someLetter (acceptingAt w)
+  unfoldable pub witnessTest : List ℕ → Bool
+  unfolding someLetter unstableAt acceptingAt
+  witnessTest w = not (someLetter (unstableAt w)) && someLetter (acceptingAt w)
 
-  test-out : (w : List ℕ) → test w ≡ true → Witness R u v entry period w
-  unfolding test unstableAt acceptingAt
-  test-out w h =
+  pub test-witness : (w : List ℕ) → witnessTest w ≡ true → Witness R u v entry period w
+  unfolding witnessTest
+  test-witness w h =
       let (calm, acc) = and-in (not (someLetter (unstableAt w))) _ h in
       let (r, i, l, e) = letter-out (acceptingAt w) acc in
       record {
@@ -67,15 +68,15 @@ module _ (R : Rule) (u v : List ℕ) (entry period : ℕ) where
         accepts = e;
       }
 
-  test-in : (w : List ℕ) → Witness R u v entry period w → test w ≡ true
-  unfolding test unstableAt acceptingAt
-  test-in w W =
+  pub witness-test : (w : List ℕ) → Witness R u v entry period w → witnessTest w ≡ true
+  unfolding witnessTest
+  witness-test w W =
       and-both (not (someLetter (unstableAt w))) _
       (not-out _ (never _ (λ h. let (r, i, l, e) = letter-out (unstableAt w) h in clash (not-in _ e) (W .stays r i l))))
       (letter-in (acceptingAt w) (W .round) (W .place) (W .there) (W .accepts))
 
   pub witness? : (w : List ℕ) → Dec (Witness R u v entry period w)
-  witness? w = map-dec (test-out w) (test-in w) (Bool-discrete (test w) true)
+  witness? w = map-dec (test-witness w) (witness-test w) (Bool-discrete (witnessTest w) true)
 
   module _ (filled : 1 ≤ length v) (positive : 1 ≤ period) where
     -- A WITNESS IS A NODE

@@ -40,3 +40,6 @@ pub mod Marks
 pub mod RecordOfTree
 pub mod QuestionNine
 pub mod RecordChecks
+-- Verdicts by computation, and the examples of document 01.
+pub mod VerdictTest
+pub mod VerdictExamples

@@ -5,5 +5,6 @@ pub mod Letter
 pub mod Record
 pub mod Rounds
 pub mod Verdict
+pub mod Finding
 -- Inside: what the contracts of this crate's own functions cite.
 pub mod RecordChecks
