@@ -40,6 +40,13 @@ pub mod Marks
 pub mod RecordOfTree
 pub mod QuestionNine
 pub mod RecordChecks
+-- For the loops of the tree judge: following names, finding the cycle, naming a node.
+pub mod OriginsDistinct
+pub mod OldNumberLaws
+pub mod FollowingLaws
+pub mod CycleVerdict
+pub mod CycleFinding
+pub mod NamesByDepth
 -- Verdicts by computation, and the examples of document 01.
 pub mod VerdictTest
 pub mod VerdictExamples

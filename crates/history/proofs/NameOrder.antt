@@ -51,7 +51,7 @@ abbrev Ascending : List (List ℕ) → Type 0
 Ascending [] = Unit {0}
 Ascending (w ∷ l) = Every (Before w) l × Ascending l
 
-every-append : (P : List ℕ → Type 0) (l r : List (List ℕ)) → Every P l → Every P r → Every P (l ++ r)
+pub every-append : (P : List ℕ → Type 0) (l r : List (List ℕ)) → Every P l → Every P r → Every P (l ++ r)
 every-append P [] r h g = g
 every-append P (x ∷ l) r h g = (h .0, every-append P l r (h .1) g)
 
@@ -76,7 +76,7 @@ record Follows (p : List ℕ) (c : ℕ) (w : List ℕ) : Type 0 where
 
 module _ {A : Type 0} where
   -- the names of siblings from child number c on below the node that is named p, and of all below them
-  namesFrom : List ℕ → ℕ → Forest A → List (List ℕ)
+  unfoldable pub namesFrom : List ℕ → ℕ → Forest A → List (List ℕ)
   namesFrom p c nil = []
   namesFrom p c (node x below younger) = (p ++ (c ∷ [])) ∷ (namesFrom (p ++ (c ∷ [])) 0 below ++ namesFrom p (suc c) younger)
 
@@ -131,18 +131,20 @@ module _ {A : Type 0} where
           rw (f .is, append-assoc)
           (every-weaker _ _ (namesFrom p (suc c) younger) (higher (f .number ∷ f .rest)) (all-follow p (suc c) younger))
 
+  -- the root has the empty name
+  pub names-root : (x : A) (below younger : Forest A) → names (node x below younger) ≡ [] ∷ namesFrom [] 0 below
+  unfolding names named listing
+  names-root x below younger =
+      ap (λ (l : List (List ℕ)). [] ∷ l)
+      (ap (map (λ x. x .name)) (append-nil (listing (namedFrom [] 0 below))) ∙ names-from [] 0 below)
+
   -- by number they are in order
   pub names-ascend : (T : Forest A) (i j : ℕ) → i < j → j < length (names T) → Before (getD (names T) i []) (getD (names T) j [])
   unfolding names named listing
   names-ascend nil i j h k = absurd (omega arith)
   names-ascend (node x below younger) i j h k = ascending-at (names (node x below younger)) all i j h k
     where
-      list : names (node x below younger) ≡ [] ∷ namesFrom [] 0 below
-      list =
-          ap (λ (l : List (List ℕ)). [] ∷ l)
-          (ap (map (λ x. x .name)) (append-nil (listing (namedFrom [] 0 below))) ∙ names-from [] 0 below)
-
       all : Ascending (names (node x below younger))
       all =
-          subst Ascending (sym list)
+          subst Ascending (sym (names-root x below younger))
           (every-weaker (Follows [] 0) (Before []) (namesFrom [] 0 below) (λ w f. rw (f .is) tt) (all-follow [] 0 below), ascend [] 0 below)

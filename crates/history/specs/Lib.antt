@@ -8,3 +8,6 @@ pub mod Verdict
 pub mod Finding
 -- Inside: what the contracts of this crate's own functions cite.
 pub mod RecordChecks
+pub mod OldNumbers
+pub mod Following
+pub mod NamesByDepth
