@@ -1,0 +1,15 @@
+pub mod Prefixes
+pub mod Combinations
+pub mod RowSteps
+pub mod RowMembers
+pub mod TailSteps
+pub mod ScratchBytes
+pub mod Widening
+pub mod Saturation
+pub mod Searching
+pub mod TailSquare
+pub mod LoopSearch
+pub mod Squares
+pub mod Judging
+pub mod PlainCalls
+pub mod PlainVerdict

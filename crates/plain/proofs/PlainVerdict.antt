@@ -1,0 +1,37 @@
+-- What the plain judge's contract says: its verdict decides whether an endless run goes through every set infinitely
+-- often, and the contract leaves no choice of the answer.
+use mathlib.Core.Path.{_≡_, sym, _∙_}
+use mathlib.Core.Logic.{inl, inr}
+use mathlib.Core.List.{List, []}
+use Prim.Native.Nat.{ℕ}
+use Rattle.table.specs.Outcome.{Outcome, refused, accepted}
+use Rattle.table.specs.Rule.{Rule}
+use Rattle.table.specs.Table.{WellFormed}
+use Rattle.word.specs.Run.{AcceptingRun}
+use Rattle.word.specs.Verdict.{Decides}
+use Rattle.word.proofs.LoopTheorem.{loop-theorem}
+use Rattle.plain.specs.PlainCall.{PlainAnswers}
+use Rattle.plain.specs.declared.judge.PlainAnswer.{PlainAnswer}
+use Rattle.plain.proofs.Searching.{decides-same}
+
+-- an accepted call says yes just if some endless run goes through every accepting set infinitely often, and no otherwise
+pub plain-decides : (R : Rule) (u v : List ℕ) (answer : PlainAnswer) → PlainAnswers (accepted R) u v answer → WellFormed R → (v ≡ [] → ⊥)
+    → Decides (answer .verdict) (AcceptingRun R u v)
+plain-decides R u v answer (_, d) well nonempty =
+    let (run-to-loop, loop-to-run) = loop-theorem R u v well nonempty in
+    decides-same loop-to-run run-to-loop d
+
+-- two verdicts on one statement are the same
+decides-one : {a b : ℕ} {P : Type 0} → Decides a P → Decides b P → a ≡ b
+decides-one (inl (x, p)) (inl (y, q)) = x ∙ sym y
+decides-one (inl (x, p)) (inr (y, q)) = absurd (q p)
+decides-one (inr (x, p)) (inl (y, q)) = absurd (p q)
+decides-one (inr (x, p)) (inr (y, q)) = x ∙ sym y
+
+-- two answers that the contract allows are the same
+pub plain-determined : (o : Outcome Rule) (u v : List ℕ) (a b : PlainAnswer) → PlainAnswers o u v a → PlainAnswers o u v b → a ≡ b
+plain-determined (refused number) u v a b x y = x ∙ sym y
+plain-determined (accepted R) u v a b (x, d) (y, e) =
+    let same : a .number ≡ b .number = x ∙ sym y in
+    let verdicts : a .verdict ≡ b .verdict = decides-one d e in
+    λ i. record { number = same i; verdict = verdicts i }

@@ -1,0 +1,80 @@
+-- The plain judge, by the laws of PlainCalls.
+use borrow.Author.Needs.{needs}
+use native.Mathlib.Omega.{arith}
+use mathlib.Core.Path.{sym, _∙_}
+use Rattle.table.proofs.GridReading.{reading-refused, reading-rule}
+use Rattle.plain.proofs.ScratchBytes.{scratch-length}
+use Rattle.plain.proofs.PlainCalls.{read-holds, read-judgeable, table-refused, walk-no, scratch-no, judged}
+use Rattle.plain.proofs.judge.plain_judge.Statement.{statement}
+use Rattle.plain.proofs.judge.plain_judge.Tie as tie
+
+read-rule-requires : tie.Need-read-rule-requires
+read-rule-requires c κs = search needs
+
+enum-known-number : tie.Need-enum-known-number
+enum-known-number c = search needs
+
+enum-known-header : tie.Need-enum-known-header
+enum-known-header c = search needs
+
+walk-number-requires : tie.Need-walk-number-requires
+walk-number-requires c κs = search needs
+
+returns : tie.Need-returns
+returns c =
+    let walk = c .before in
+    let told = walk .before .before in
+    let read = told .before .before .read-rule .ensures in
+    let r = reading-rule _ _ _ (read .1) _ (sym (told .header .given .1) ∙ read .0) in
+    walk-no _ _ _ _ _ _ r _ (walk .walk-number .ensures) (c .if1 .taken)
+
+returns-2 : tie.Need-returns-2
+returns-2 c =
+    let walk = c .before .before in
+    let told = walk .before .before in
+    let read = told .before .before .read-rule .ensures in
+    let r = reading-rule _ _ _ (read .1) _ (sym (told .header .given .1) ∙ read .0) in
+    scratch-no _ _ _ _ _ _ r _ (walk .walk-number .ensures) (c .before .if1 .left) (omega (arith, c .if2 .taken, scratch-length))
+
+judge-walk-requires : tie.Need-judge-walk-requires
+judge-walk-requires c κs =
+    let walk = c .before .before .before .before in
+    let told = walk .before .before in
+    let read = told .before .before .read-rule .ensures in
+    let r = reading-rule _ _ _ (read .1) _ (sym (told .header .given .1) ∙ read .0) in
+    read-judgeable r _ _ _ _ (walk .walk-number .ensures) (c .before .before .before .if1 .left)
+    (omega (arith, c .before .before .if2 .left, scratch-length))
+
+returns-3 : tie.Need-returns-3
+returns-3 c =
+    let read = c .before .before .before .read-rule .ensures in
+    table-refused _ _ _ _ _ (reading-refused _ _ _ (read .1) _ (sym (c .before .number .given .1) ∙ read .0))
+
+same-length : tie.Need-same-length
+same-length c = search needs
+
+returns-4 : tie.Need-returns-4
+returns-4 c =
+    let walk = c .before .before .before .before .before .before .before in
+    let told = walk .before .before in
+    let read = told .before .before .read-rule .ensures in
+    let r = reading-rule _ _ _ (read .1) _ (sym (told .header .given .1) ∙ read .0) in
+    let judge = c .before .before .judge-walk .ensures in
+    let room = c .before .before .before .before .before in
+    judged _ _ _ _ _ _ r _ (walk .walk-number .ensures) (room .before .if1 .left) (omega (arith, room .if2 .left, scratch-length))
+    _ _ (judge .0 (r .rule) (read-holds r)) (judge .1)
+
+pub plain-judge-spec : {M : Type 1} → statement M
+plain-judge-spec =
+    tie.close
+    (tie.spec
+    read-rule-requires
+    enum-known-number
+    enum-known-header
+    walk-number-requires
+    returns
+    returns-2
+    judge-walk-requires
+    returns-3
+    same-length
+    returns-4)

@@ -1,0 +1,8 @@
+pub mod PlainCall
+pub mod Prefix
+pub mod Combinations
+pub mod TailRows
+pub mod Scratch
+pub mod Rounds
+pub mod Search
+pub mod HeldRule
