@@ -146,6 +146,12 @@ module _ (s : ℕ) (number : ℕ → ℕ) (label : ℕ → ℕ → ℕ) (law : B
       go (yes d) ih = held-here y _ _ q (law .all-of i (suc (i + size below)) q m l d)
       go (no d) ih = held-younger y _ _ q (ih (omega arith) (omega arith))
 
+  -- these are the states with the numbers from the first to behind the last
+  pub labels-relabelled : (i : ℕ) (F : Tree) → labels (relabelled label i F) ≡ label i (i + size F)
+  labels-relabelled i F = set-ext _ _ (λ q. bool-ext _ _
+      (λ m. let (has, from, to) = relabelled-out i F q m in law .all-of i (i + size F) q has from to)
+      (λ m. let (has, from, to) = law .among i (i + size F) q m in relabelled-in i F q has from to))
+
   -- the number of each state is that of its host
   pub relabelled-host : (i : ℕ) (F : Tree) (q : ℕ) → member s q ≡ true → i ≤ number q → number q < i + size F
       → hostFrom i (relabelled label i F) q ≡ number q

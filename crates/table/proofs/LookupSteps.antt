@@ -37,7 +37,7 @@ collect-plus (suc n) f = omega (arith, collect-plus n (λ q. f (suc q)), doubled
     doubled false = refl
 
 -- as a union: the new number is the highest member
-collect-more : (n : ℕ) (f : ℕ → Bool) → collect (suc n) f ≡ bitOr (collect n f) (cond (f n) (2 ^ n) 0)
+pub collect-more : (n : ℕ) (f : ℕ → Bool) → collect (suc n) f ≡ bitOr (collect n f) (cond (f n) (2 ^ n) 0)
 collect-more n f = collect-plus n f ∙ joined (f n) (collect n f) (collect-lt n f)
   where
     joined : (b : Bool) (c : ℕ) → c < 2 ^ n → c + cond b (2 ^ n) 0 ≡ bitOr c (cond b (2 ^ n) 0)

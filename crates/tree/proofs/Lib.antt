@@ -1,0 +1,20 @@
+-- The calls, and the examples of document 01.
+pub mod Examples
+pub mod StartCall
+pub mod StepCall
+-- One letter in one pass over the rows.
+pub mod StepOfRows
+pub mod Levels
+pub mod PassSteps
+pub mod PassLoop
+pub mod PassTree
+pub mod GrownRows
+pub mod Renamed
+pub mod OldNumbers
+pub mod MapsByNumber
+-- Records: the check, reading and writing.
+pub mod ChecksInTurn
+pub mod ReadingInTurn
+pub mod RowsOfRecord
+pub mod WritingInTurn
+pub mod RecordOfRows

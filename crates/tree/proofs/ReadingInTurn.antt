@@ -1,0 +1,146 @@
+-- The loops that make rows from a record: how many marks are deeper, the states hosted in a range, and a row for each mark.
+use mathlib.Core.Path.{_≡_, refl, sym, _∙_, ap, ap₂}
+use mathlib.Core.Bool.{Bool, true, false, _&&_, cond}
+use mathlib.Core.List.{List, [], _∷_, _++_, append-nil}
+use Prim.Native.Nat.{ℕ, zero, suc, _+_, _-_, _/_, _%_, _^_, _≤_, _<_}
+use native.Mathlib.Omega.{arith}
+use native.Mathlib.Numerals.{add-one}
+use borrow.Author.Tests.{eq-eqb, ne-eqb, lt-ltb, le-ltb}
+use lib.Bits.{bitOr, or-zero-r}
+use lib.Count.{ones}
+use lib.Dec.{leb, ltb}
+use lib.ListN.{length, getD, take, drop, set, length-set, length-drop, drop-of-length-le}
+use lib.Seq.{drop-cons, take-suc-set, append-snoc}
+use Rattle.table.specs.BitSet.{member, collect}
+use Rattle.table.proofs.LookupSteps.{collect-more}
+use Rattle.history.specs.Record.{rank, hostedIn}
+use Rattle.tree.specs.RecordRows.{places, deeper, rowsOfMarks}
+use Rattle.tree.specs.declared.rows.Row.{Row}
+use Rattle.history.proofs.Members.{rank-all, rank-lt}
+
+-- DEEPER MARKS
+
+-- `count` marks are deeper, and the answer is that many more than for the marks from there on
+pub record DeeperSoFar (d : ℕ) (marks : List ℕ) (count : ℕ) : Type 0 where
+  pub upto : count ≤ length marks
+  pub ahead : deeper d marks ≡ count + deeper d (drop count marks)
+
+pub deeper-start : (d : ℕ) (marks : List ℕ) → DeeperSoFar d marks 0
+deeper-start d marks = record { upto = omega arith; ahead = omega arith }
+
+module _ {d : ℕ} {marks : List ℕ} {count : ℕ} (v : DeeperSoFar d marks count) where
+  module _ (h : count < length marks) where
+    pub deeper-stop : getD marks count 0 / 16 ≤ d → count ≡ deeper d marks
+    unfolding deeper
+    deeper-stop e = let now = rw (drop-cons marks count 0 h, le-ltb d (getD marks count 0 / 16) e) at (v .ahead) in omega arith
+
+    pub deeper-next : d < getD marks count 0 / 16 → DeeperSoFar d marks (count + 1)
+    unfolding deeper
+    deeper-next e = let now = rw (drop-cons marks count 0 h, lt-ltb d (getD marks count 0 / 16) e) at (v .ahead) in
+        rw (add-one count) (record { upto = h; ahead = omega arith })
+
+  pub deeper-done : length marks ≤ count → count ≡ deeper d marks
+  unfolding deeper
+  deeper-done h = let now = rw (drop-of-length-le marks h) at (v .ahead) in omega arith
+
+-- there are no more of them than marks
+deeper-le : (d : ℕ) (marks : List ℕ) → deeper d marks ≤ length marks
+unfolding deeper
+deeper-le d [] = omega arith
+deeper-le d (m ∷ left) = go (ltb d (m / 16)) (deeper-le d left)
+  where
+    go : (b : Bool) → deeper d left ≤ length left → cond b (suc (deeper d left)) 0 ≤ suc (length left)
+    go true h = omega arith
+    go false h = omega arith
+
+-- nor of marks from a place on
+pub deeper-few : (d : ℕ) {count : ℕ} {part : List ℕ} (from : ℕ) (marks : List ℕ) → part ≡ drop from marks → count ≡ deeper d part
+    → count ≤ length marks
+deeper-few d from marks e is = omega (arith, is, ap (deeper d) e, deeper-le d (drop from marks), length-drop from marks)
+
+-- HOSTED STATES
+
+-- is q in the map, with a host from lo up to hi?
+abbrev Within : ℕ → List ℕ → ℕ → ℕ → ℕ → Bool
+Within s hosts lo hi q = member s q && (leb lo (getD hosts (rank s q) 0) && ltb (getD hosts (rank s q) 0) hi)
+
+-- the states below `state` are looked at, and `at` is the place of the next host
+pub record HostedSoFar (n s : ℕ) (hosts : List ℕ) (lo hi states at state : ℕ) : Type 0 where
+  pub upto : state ≤ n
+  pub small : s < 2 ^ n
+  pub many : ones s ≤ length hosts
+  pub place : at ≡ rank s state
+  pub sofar : states ≡ collect state (Within s hosts lo hi)
+
+pub hosted-start : (n s : ℕ) (hosts : List ℕ) (lo hi : ℕ) → s < 2 ^ n → ones s ≤ length hosts → HostedSoFar n s hosts lo hi 0 0 0
+unfolding rank collect
+hosted-start n s hosts lo hi small many = record { upto = omega arith; small = small; many = many; place = refl; sofar = refl }
+
+module _ {n s : ℕ} {hosts : List ℕ} {lo hi states at state : ℕ} (v : HostedSoFar n s hosts lo hi states at state) where
+  module _ (h : state < n) where
+    -- the next state is not in the map
+    pub hosted-skip : (s / 2 ^ state % 2 ≡ 1 → ⊥) → HostedSoFar n s hosts lo hi states at (state + 1)
+    unfolding rank member
+    hosted-skip e = rw (add-one state) (record {
+      upto = h;
+      small = v .small;
+      many = v .many;
+      place = rw (ne-eqb (s / 2 ^ state % 2) 1 e) (omega (arith, v .place));
+      sofar = v .sofar ∙ sym (collect-more state (Within s hosts lo hi) ∙ rw (ne-eqb (s / 2 ^ state % 2) 1 e) (or-zero-r _));
+    })
+
+    module _ (e : s / 2 ^ state % 2 ≡ 1) where
+      in-map : member s state ≡ true
+      unfolding member
+      in-map = eq-eqb (s / 2 ^ state % 2) 1 e
+
+      -- it is: its host is there
+      pub hosted-room : at < length hosts
+      hosted-room = omega (arith, v .place, v .many, rank-lt n s state h in-map, rank-all n s (v .small))
+
+      pub hosted-take : (x : ℕ) → x ≡ cond (leb lo (getD hosts at 0) && ltb (getD hosts at 0) hi) (2 ^ state) 0
+          → HostedSoFar n s hosts lo hi (bitOr states x) (at + 1) (state + 1)
+      unfolding rank
+      hosted-take x is = rw (add-one state) (record {
+        upto = h;
+        small = v .small;
+        many = v .many;
+        place = rw in-map (omega (arith, v .place));
+        sofar = ap₂ bitOr (v .sofar) (is ∙ rw (v .place, in-map)) ∙ sym (collect-more state (Within s hosts lo hi));
+      })
+
+  pub hosted-done : n ≤ state → states ≡ hostedIn n s hosts lo hi
+  unfolding hostedIn
+  hosted-done h = let e : state ≡ n = omega (arith, v .upto) in v .sofar ∙ ap (λ (c : ℕ). collect c (Within s hosts lo hi)) e
+
+-- ROWS
+
+-- the rows of the marks in front of `node` are made
+pub record RowsSoFar (label : ℕ → ℕ → ℕ) (marks : List ℕ) (rows : List Row) (node : ℕ) : Type 0 where
+  pub upto : node ≤ length marks
+  pub held : length rows ≡ places
+  pub few : length marks ≤ places
+  pub whole : take node rows ++ rowsOfMarks label node (drop node marks) ≡ rowsOfMarks label 0 marks
+
+pub rows-start : (label : ℕ → ℕ → ℕ) (marks : List ℕ) (rows : List Row) → length rows ≡ places → length marks ≤ places
+    → RowsSoFar label marks rows 0
+rows-start label marks rows held few = record { upto = omega arith; held = held; few = few; whole = refl }
+
+module _ {label : ℕ → ℕ → ℕ} {marks : List ℕ} {rows : List Row} {node : ℕ} (v : RowsSoFar label marks rows node) where
+  pub rows-next : node < length marks → (own kids count : ℕ) (behind : List ℕ) → behind ≡ drop (node + 1) marks
+      → count ≡ deeper (getD marks node 0 / 16) behind → own ≡ label node (node + 1 + count) → kids ≡ label (node + 1) (node + 1 + count)
+      → RowsSoFar label marks
+      (set rows node (record { depth = getD marks node 0 / 16; label = own; kids = kids; active = getD marks node 0 % 16; old = 0 })) (node + 1)
+  unfolding rowsOfMarks
+  rows-next h own kids count behind b e f g = rw (add-one node) (record {
+    upto = h;
+    held = rw length-set (v .held);
+    few = v .few;
+    whole = rw (take-suc-set rows node _ (omega (arith, v .held, v .few)), append-snoc (take node rows), f, g, e, b, add-one node)
+        (rw (drop-cons marks node 0 h) at (v .whole));
+  })
+
+  pub rows-done : length marks ≤ node → take (length marks) rows ≡ rowsOfMarks label 0 marks
+  unfolding rowsOfMarks
+  rows-done h = let e : node ≡ length marks = omega (arith, v .upto) in
+      ap (λ (c : ℕ). take c rows) (sym e) ∙ sym (append-nil (take node rows)) ∙ rw (drop-of-length-le marks h) at (v .whole)

@@ -1,0 +1,208 @@
+-- The rows that are made from the record of a tree are the tree's rows.
+use mathlib.Core.Path.{_≡_, refl, sym, _∙_, ap, ap₂, subst}
+use mathlib.Core.Bool.{true, false}
+use mathlib.Core.List.{List, [], _∷_, _++_, map, map-append, append-assoc, append-nil}
+use Prim.Native.Nat.{ℕ, suc, _+_, _-_, _*_, _/_, _%_, _^_, _≤_, _<_}
+use native.Mathlib.Omega.{arith}
+use native.Mathlib.Numerals.{one-add}
+use borrow.Author.Tests.{lt-ltb, le-ltb}
+use lib.Count.{ones, ones-le}
+use lib.ListN.{length, getD, take, drop, length-append, length-drop, length-map}
+use lib.Pow.{pow-pos}
+use lib.Seq.{take-at, drop-at}
+use Rattle.table.proofs.BitSet.{member-lt}
+use Rattle.history.specs.Forest.{nil, node, size}
+use Rattle.history.specs.Tree.{Node, Tree, isTree}
+use Rattle.history.specs.Record.{host, members, marks, recordOf, hostedIn, decoded, readTree}
+use Rattle.history.specs.RecordChecks.{recordChecks}
+use Rattle.tree.specs.Rows.{rowsFrom, rowsOf, withoutOld}
+use Rattle.tree.specs.RecordRows.{deeper, rowsOfMarks}
+use Rattle.tree.specs.RecordCode.{Checks}
+use Rattle.tree.specs.declared.rows.Row.{Row}
+use Rattle.tree.specs.declared.record.Count.the-variants.{Nodes, Refused}
+use Rattle.tree.specs.declared.record.Tree.{Tree as Code}
+use Rattle.history.proofs.HostLabels.{relabelled, ByNumber, labels-relabelled, labels-from-hosts, Active, fits-active}
+use Rattle.history.proofs.RecordOfTree.{Shallower, length-marks, hosted-law, root-states}
+use Rattle.history.proofs.Members.{length-members, map-at-rank}
+use Rattle.history.proofs.Conditions.{IsTree, tree-out}
+use Rattle.history.proofs.QuestionNine.{is-record-out}
+use Rattle.history.proofs.RecordChecks.{checks-exact, read-by-checks}
+use Rattle.history.proofs.TreesKept.{few-nodes}
+
+module _ (k : ℕ) (small : k < 16) where
+  -- THE NODES BELOW A NODE
+
+  -- the marks of a forest are all deeper than what is above it
+  deeper-over : (d e : ℕ) (F : Tree) (left : List ℕ) → Active k F → d < e → deeper d (marks e F ++ left) ≡ size F + deeper d left
+  unfolding deeper marks size
+  deeper-over d e nil left w h = omega arith
+  deeper-over d e (node x below younger) left w h =
+      let depth : (16 * e + x .active) / 16 ≡ e = omega (arith, w .1) in
+      let ib = deeper-over d (suc e) below (marks e younger ++ left) (w .2) (omega arith) in
+      let iy = deeper-over d e younger left (w .3) h in
+      rw (depth, lt-ltb d e h, append-assoc (marks (suc e) below) (marks e younger) left) (omega arith)
+
+  -- the marks of its siblings and what follows them are not
+  deeper-none : (d : ℕ) (left : List ℕ) → Shallower (suc d) left → deeper d left ≡ 0
+  unfolding deeper
+  deeper-none d [] s = refl
+  deeper-none d (m ∷ left) s = rw (le-ltb d (m / 16) (omega arith))
+
+  shallower-over : (d : ℕ) (F : Tree) (left : List ℕ) → Active k F → Shallower (suc d) left → Shallower (suc d) (marks d F ++ left)
+  unfolding marks
+  shallower-over d nil left w s = s
+  shallower-over d (node x below younger) left w s = omega (arith, w .1)
+
+  shallower-more : (d : ℕ) (left : List ℕ) → Shallower d left → Shallower (suc d) left
+  shallower-more d [] s = tt
+  shallower-more d (m ∷ left) s = omega arith
+
+  -- so as many follow a node's mark as there are nodes below it
+  deeper-below : (d : ℕ) (below younger : Tree) (left : List ℕ) → Active k below → Active k younger → Shallower (suc d) left
+      → deeper d (marks (suc d) below ++ (marks d younger ++ left)) ≡ size below
+  deeper-below d below younger left w v s =
+      let over = deeper-over d (suc d) below (marks d younger ++ left) w (omega arith) in
+      let none = deeper-none d (marks d younger ++ left) (shallower-over d younger left v s) in
+      omega arith
+
+  -- THE ROWS OF A FOREST'S MARKS
+
+  module _ (s : ℕ) (number : ℕ → ℕ) (label : ℕ → ℕ → ℕ) (law : ByNumber s number label) where
+    rows-front : (i d : ℕ) (F : Tree) (left : List ℕ) → Active k F → Shallower (suc d) left
+        → rowsOfMarks label i (marks d F ++ left) ≡ rowsFrom d (relabelled label i F) ++ rowsOfMarks label (i + size F) left
+    unfolding rowsOfMarks marks rowsFrom relabelled size
+    rows-front i d nil left w h = let e : i + 0 ≡ i = omega arith in rw e
+    rows-front i d (node x below younger) left w h =
+        let depth : (16 * d + x .active) / 16 ≡ d = omega (arith, w .1) in
+        let active : (16 * d + x .active) % 16 ≡ x .active = omega (arith, w .1) in
+        let end : suc i + size below ≡ suc (i + size below) = omega arith in
+        let last : i + suc (size below + size younger) ≡ suc (i + size below) + size younger = omega arith in
+        let next = shallower-over d younger left (w .3) h in
+        rw (
+          append-assoc (marks (suc d) below) (marks d younger) left,
+          depth,
+          active,
+          deeper-below d below younger left (w .2) (w .3) h,
+          rows-front (suc i) (suc d) below (marks d younger ++ left) (w .2) (shallower-more (suc d) (marks d younger ++ left) next),
+          labels-relabelled s number label law (suc i) below,
+          end,
+          rows-front (suc (i + size below)) d younger left (w .3) h,
+          last,
+          append-assoc (rowsFrom (suc d) (relabelled label (suc i) below)) (rowsFrom d (relabelled label (suc (i + size below)) younger))
+              (rowsOfMarks label (suc (i + size below) + size younger) left),
+        )
+
+    rows-all : (i d : ℕ) (F : Tree) → Active k F → rowsOfMarks label i (marks d F) ≡ rowsFrom d (relabelled label i F)
+    unfolding rowsOfMarks
+    rows-all i d F w = ap (rowsOfMarks label i) (sym (append-nil (marks d F))) ∙ rows-front i d F [] w tt
+        ∙ append-nil (rowsFrom d (relabelled label i F))
+
+-- THE ROWS OF A RECORD
+
+-- a map, hosts, one for each of its states, and marks, from which the rows of a tree are made
+record Parts (n : ℕ) (T : Tree) (s : ℕ) (hosts left : List ℕ) : Type 0 where
+  small : s < 2 ^ n
+  many : length hosts ≡ ones s
+  nodes : length left ≡ size T
+  rows : rowsOfMarks (hostedIn n s hosts) 0 left ≡ rowsOf T
+
+-- the map, the hosts and the marks of a tree's record
+live-parts : (n k : ℕ) (x : Node) (below : Tree) → IsTree n k (node x below nil) → k < 16
+    → Parts n (node x below nil) (x .label) (map (host (node x below nil)) (members n (x .label))) (marks 0 (node x below nil))
+unfolding host rowsOf
+live-parts n k x below t h = record { small = small; many = many; nodes = length-marks 0 T; rows = rows }
+  where
+    T : Tree
+    T = node x below nil
+
+    hosts : List ℕ
+    hosts = map (host T) (members n (x .label))
+
+    small : x .label < 2 ^ n
+    small = rw (root-states x below) at (t .states)
+
+    many : length hosts ≡ ones (x .label)
+    many = length-map (members n (x .label)) (host T) ∙ length-members n (x .label) small
+
+    law : ByNumber (x .label) (host T) (hostedIn n (x .label) hosts)
+    law = hosted-law n (x .label) hosts (host T) small (λ q m. map-at-rank (host T) n (x .label) q (member-lt n (x .label) q small m) m)
+
+    rows : rowsOfMarks (hostedIn n (x .label) hosts) 0 (marks 0 T) ≡ rowsFrom 0 T
+    rows = rows-all k h (x .label) (host T) (hostedIn n (x .label) hosts) law 0 0 T (fits-active k T (t .fits))
+        ∙ ap (rowsFrom 0) (labels-from-hosts k 0 T (hostedIn n (x .label) hosts) (t .fits)
+        (subst (λ (a : ℕ). ByNumber a (host T) (hostedIn n (x .label) hosts)) (sym (root-states x below)) law))
+
+-- the dead tree's record
+no-states : ones 0 ≡ 0
+no-states = omega (arith, ones-le 0 0 (omega arith))
+
+dead-parts : (n : ℕ) → Parts n nil 0 [] []
+unfolding size rowsOf rowsFrom rowsOfMarks
+dead-parts n = record { small = pow-pos n; many = sym no-states; nodes = refl; rows = refl }
+
+-- so for the bytes of a record: the map in front, then the hosts, then the marks
+record-parts : (n k : ℕ) (T : Tree) → isTree n k T ≡ true → k < 16 → let bytes = recordOf n T in let s = getD bytes 0 0 in
+    (1 + ones s ≤ length bytes) × Parts n T s (take (ones s) (drop 1 bytes)) (drop (1 + ones s) bytes)
+unfolding recordOf
+record-parts n k nil t h = rw no-states (omega arith, dead-parts n)
+record-parts n k (node x below nil) t h =
+    let T : Tree = node x below nil in
+    let hosts : List ℕ = map (host T) (members n (x .label)) in
+    let P = live-parts n k x below (tree-out n k T t) h in
+    let front : take (ones (x .label)) (hosts ++ marks 0 T) ≡ hosts = take-at hosts (marks 0 T) (ones (x .label)) (P .many) in
+    let behind : drop (ones (x .label)) (hosts ++ marks 0 T) ≡ marks 0 T = drop-at hosts (marks 0 T) (ones (x .label)) (P .many) in
+    rw (one-add (ones (x .label)), front, behind) (omega (arith, length-append hosts (marks 0 T), P .many), P)
+record-parts n k (node x below (node y other younger)) t h = absurd (tree-out n k (node x below (node y other younger)) t .one-root)
+
+-- THE CHECK'S ANSWER
+
+-- a tree's rows have no old numbers
+without-old : (d : ℕ) (F : Tree) → map withoutOld (rowsFrom d F) ≡ rowsFrom d F
+unfolding rowsFrom
+without-old d nil = refl
+without-old d (node x below younger) =
+    rw (map-append withoutOld (rowsFrom (suc d) below) (rowsFrom d younger), without-old (suc d) below, without-old d younger)
+
+module _ (n k : ℕ) (bytes : List ℕ) (h : k < 16) where
+  abbrev states : ℕ
+  states = getD bytes 0 0
+
+  -- bytes that pass are in parts as a record is
+  module _ (passed : recordChecks n k bytes ≡ true) where
+    is-record : (isTree n k (decoded n bytes) ≡ true) × (recordOf n (decoded n bytes) ≡ bytes)
+    is-record = is-record-out n k bytes (sym (checks-exact n k bytes h) ∙ passed)
+
+    parts : (1 + ones states ≤ length bytes)
+        × Parts n (decoded n bytes) states (take (ones states) (drop 1 bytes)) (drop (1 + ones states) bytes)
+    parts = let (t, e) = is-record in rw e at (record-parts n k (decoded n bytes) t h)
+
+    pub passed-long : 1 + ones states ≤ length bytes
+    passed-long = parts .0
+
+    pub passed-parts : (hosts left : List ℕ) → hosts ≡ take (ones states) (drop 1 bytes) → left ≡ drop (1 + ones states) bytes
+        → (states < 2 ^ n) × ((ones states ≤ length hosts) × (length left ≤ n))
+    passed-parts hosts left is is′ = let P = parts .1 in
+        rw (is, is′) (P .small, (omega (arith, P .many), omega (arith, P .nodes, few-nodes n k (decoded n bytes) (is-record .0))))
+
+  -- what is answered for them, and for bytes that do not pass
+  pub checked-yes : recordChecks n k bytes ≡ true → (hosts left : List ℕ) (rows : List Row)
+      → hosts ≡ take (ones states) (drop 1 bytes) → left ≡ drop (1 + ones states) bytes
+      → take (length left) rows ≡ rowsOfMarks (hostedIn n states hosts) 0 left
+      → Checks (readTree n k bytes) (record { count = Nodes (length bytes - (1 + ones states)); tree = record { rows = rows } })
+  unfolding rowsOf
+  checked-yes passed hosts left rows is is′ made =
+      let P = parts passed .1 in
+      let nodes : length left ≡ size (decoded n bytes) = ap length is′ ∙ P .nodes in
+      let built : take (length left) rows ≡ rowsOf (decoded n bytes) =
+      made ∙ ap₂ (λ (u v : List ℕ). rowsOfMarks (hostedIn n states u) 0 v) is is′ ∙ P .rows in
+      rw (read-by-checks n k bytes h, passed) (
+        ap Nodes (sym (length-drop (1 + ones states) bytes) ∙ P .nodes),
+        ap (λ (c : ℕ). map withoutOld (take c rows)) (sym nodes) ∙ ap (map withoutOld) built ∙ without-old 0 (decoded n bytes),
+      )
+
+  pub checked-no : recordChecks n k bytes ≡ false → (tree : Code) → Checks (readTree n k bytes) (record { count = Refused; tree = tree })
+  checked-no failed tree = rw (read-by-checks n k bytes h, failed) refl
+
+-- the part of a list from 1 up to 1 + m
+pub behind-first : (m : ℕ) (l : List ℕ) → take (1 + m - 1) (drop 1 l) ≡ take m (drop 1 l)
+behind-first m l = let e : 1 + m - 1 ≡ m = omega arith in ap (λ (c : ℕ). take c (drop 1 l)) e

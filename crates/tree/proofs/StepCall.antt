@@ -1,0 +1,152 @@
+-- One letter on a record: what the call answers, and what it leaves in the buffer, from the rule and the tree that were read and
+-- from what the letter has made of the tree's rows.
+use mathlib.Core.Path.{_≡_, refl, sym, _∙_, ap}
+use mathlib.Core.Bool.{Bool, true, false}
+use mathlib.Core.List.{List}
+use Prim.Native.Nat.{ℕ, _≤_, _<_}
+use native.Mathlib.Omega.{arith}
+use borrow.Author.Tests.{le-leb, lt-leb, le-ltb, lt-ltb}
+use lib.ListN.{length, take}
+use Rattle.table.specs.Held.{held}
+use Rattle.table.specs.Limits.{maxStates, maxSets}
+use Rattle.table.specs.Lookup.{letterTables}
+use Rattle.table.specs.Outcome.{Outcome, refused, accepted, ask}
+use Rattle.table.specs.Rule.{Grid}
+use Rattle.table.specs.Storing.{stored}
+use Rattle.table.specs.Table.{readRule}
+use Rattle.table.specs.declared.header.Header.{Header}
+use Rattle.table.proofs.GridReading.{RuleRead}
+use Rattle.history.specs.Forest.{size}
+use Rattle.history.specs.Tree.{Tree, isTree}
+use Rattle.history.specs.Letter.{nextTree}
+use Rattle.history.specs.Record.{recordOf, decoded, isRecord, readTree}
+use Rattle.tree.specs.RecordCode.{Checks}
+use Rattle.tree.specs.Rows.{AreRows, StepsTo}
+use Rattle.tree.specs.Pass.{SetsFit, steppedRows}
+use Rattle.tree.specs.RecordRows.{rowsRecord, Recordable}
+use Rattle.tree.specs.TreeCalls.{recordRoom, stepOutcome, stepAnswer, stepAfter}
+use Rattle.tree.specs.declared.calls.StepAnswer.{StepAnswer}
+use Rattle.tree.specs.declared.record.Count.the-variants.{Nodes, Refused}
+use Rattle.tree.specs.declared.record.Checked.{Checked}
+use Rattle.tree.specs.declared.rows.Row.{Row}
+use Rattle.tree.specs.declared.rows.Stepped.{Stepped}
+use Rattle.history.proofs.QuestionNine.{record-accepted}
+use Rattle.history.proofs.TreesKept.{next-is-tree, few-nodes}
+use Rattle.tree.proofs.StepOfRows.{sets-fit, steps-to, step-again}
+use Rattle.tree.proofs.RecordOfRows.{record-of-rows, rows-recordable}
+
+abbrev Done : List ℕ → ℕ → List ℕ → List ℕ → StepAnswer → List ℕ → Type 0
+Done table a bytes before answer after =
+    (answer ≡ stepAnswer (stepOutcome table a bytes before)) × (after ≡ stepAfter (stepOutcome table a bytes before) before)
+
+-- questions 1 to 6
+pub step-refused : (table : List ℕ) (a : ℕ) (bytes before : List ℕ) (number : ℕ) → readRule table ≡ refused number
+    → (answer : StepAnswer) → answer ≡ stepAnswer (refused number) → Done table a bytes before answer before
+unfolding stepOutcome stepAfter
+step-refused table a bytes before number is answer e = rw is (e, refl)
+
+-- QUESTION 9
+
+-- the tree behind a check's answer yes: its number of nodes, and its rows
+pub record TreeRead (n k : ℕ) (bytes : List ℕ) (count : ℕ) (rows : List Row) : Type 0 where
+  pub tree : Tree
+  pub reads : readTree n k bytes ≡ accepted tree
+  pub nodes : count ≡ size tree
+  pub are : AreRows (take count rows) tree
+  pub fits : isTree n k tree ≡ true
+
+module _ (n k : ℕ) (bytes : List ℕ) (checked : Checked) (c : Checks (readTree n k bytes) checked) where
+  -- the answer no
+  pub tree-refused : checked .count ≡ Refused → readTree n k bytes ≡ refused 9
+  unfolding readTree
+  tree-refused none = go (isRecord n k bytes) c
+    where
+      go : (b : Bool) → Checks (ask b 9 (accepted (decoded n bytes))) checked → ask b 9 (accepted (decoded n bytes)) ≡ refused 9
+      go true h = let z : _≡_ {A = ℕ} 0 1 = cc in absurd (omega arith)
+      go false h = refl
+
+  -- the answer yes
+  pub tree-read : (count : ℕ) → checked .count ≡ Nodes count → TreeRead n k bytes count (checked .tree .rows)
+  tree-read count some = go (readTree n k bytes) refl c
+    where
+      go : (o : Outcome Tree) → readTree n k bytes ≡ o → Checks o checked → TreeRead n k bytes count (checked .tree .rows)
+      go (refused number) is h = let z : _≡_ {A = ℕ} 0 1 = cc in absurd (omega arith)
+      go (accepted T) is (many, rows) = let nodes : count ≡ size T = cc in
+          record { tree = T; reads = is; nodes = nodes; are = rw nodes rows; fits = record-accepted n k bytes T is .0 }
+
+-- THE CALL
+
+-- the numbers of a rule that was read
+pub numbers-fit : {table : List ℕ} {header : Header} {cells : Grid} → RuleRead table header cells
+    → (header .states ≤ maxStates) × ((1 ≤ header .sets) × (header .sets ≤ maxSets))
+numbers-fit v = rw (v .numbers) (v .range .states, (v .range .some-set, v .range .sets))
+
+module _ (table : List ℕ) (a : ℕ) (bytes before : List ℕ) (header : Header) (cells : Grid) (v : RuleRead table header cells) where
+  -- question 8
+  pub step-no-letter : header .letters ≤ a → (answer : StepAnswer) → answer ≡ stepAnswer (refused 8) → Done table a bytes before answer before
+  unfolding stepOutcome stepAfter
+  step-no-letter h answer e = let h′ = rw (v .numbers) at h in rw (v .reads, le-ltb _ _ h′) (e, refl)
+
+  module _ (letter : a < header .letters) where
+    below : a < v .rule .letters
+    below = rw (v .numbers) at letter
+
+    -- question 9
+    pub step-no-tree : readTree (header .states) (header .sets) bytes ≡ refused 9
+        → (answer : StepAnswer) → answer ≡ stepAnswer (refused 9) → Done table a bytes before answer before
+    unfolding stepOutcome stepAfter
+    step-no-tree is answer e = let none = rw (v .numbers) at is in rw (v .reads, lt-ltb _ _ below, none) (e, refl)
+
+    module _ (count : ℕ) (rows : List Row) (w : TreeRead (header .states) (header .sets) bytes count rows) where
+      -- question 10
+      pub step-no-room : length before < recordRoom → (answer : StepAnswer) → answer ≡ stepAnswer (refused 10)
+          → Done table a bytes before answer before
+      unfolding stepOutcome stepAfter
+      step-no-room h answer e = let reads = rw (v .numbers) at (w .reads) in
+          rw (v .reads, lt-ltb _ _ below, reads, lt-leb _ _ h) (e, refl)
+
+      tree-fits : isTree (v .rule .states) (v .rule .sets) (w .tree) ≡ true
+      tree-fits = rw (v .numbers) at (w .fits)
+
+      -- the letter can be read from the tree's rows, and its tables are those of the rule
+      pub step-ready : (count ≤ maxStates) × SetsFit (take count rows)
+      step-ready = (
+        omega (arith, w .nodes, few-nodes (v .rule .states) (v .rule .sets) (w .tree) tree-fits, v .range .states),
+        sets-fit (v .rule .states) (v .rule .sets) (take count rows) (w .tree) (v .range .sets) tree-fits (w .are),
+      )
+
+      pub step-taken : (tables : List (List ℕ)) (stepped : Stepped) → tables ≡ letterTables cells a
+          → stepped ≡ steppedRows tables (header .sets) (take count rows)
+          → StepsTo (v .rule) a (w .tree) stepped × (stepped .count ≤ maxStates)
+      step-taken tables stepped by is =
+          let sets : v .rule .sets ≡ header .sets = ap (λ (x : Header). x .sets) (sym (v .numbers)) in
+          let of-rule : tables ≡ letterTables (held (v .rule .grid)) a = by ∙ ap (λ (g : Grid). letterTables g a) (v .holds) in (
+            steps-to tables (header .sets) (take count rows) stepped is (v .rule) a (w .tree) (v .well)
+                (v .range .states) (v .range .sets) sets tree-fits of-rule (w .are),
+            step-again tables (header .sets) (take count rows) stepped is (v .rule) a (w .tree) (v .well)
+                (v .range .states) (v .range .sets) sets tree-fits of-rule (w .are) (v .range .some-set) .0,
+          )
+
+      next-fits : isTree (v .rule .states) (v .rule .sets) (nextTree (v .rule) a (w .tree)) ≡ true
+      next-fits = next-is-tree (v .rule) (v .well) (v .range .some-set) a (w .tree) tree-fits
+
+      module _ (stepped : Stepped) (steps : StepsTo (v .rule) a (w .tree) stepped) where
+        -- the next tree's rows can be recorded
+        pub step-recordable : stepped .count ≤ maxStates → Recordable (header .states) (stepped .count) (stepped .rows)
+        step-recordable few = rw (v .numbers) (rows-recordable (v .rule .states) (v .rule .sets) (nextTree (v .rule) a (w .tree)) next-fits
+            (stepped .count) (stepped .rows) (steps .rows) (v .range .states) few (omega (arith, v .range .sets)))
+
+        -- all questions are answered yes
+        pub step-done : recordRoom ≤ length before → (written : ℕ) (after : List ℕ)
+            → written ≡ length (rowsRecord (header .states) (take (stepped .count) (stepped .rows)))
+            → after ≡ stored 0 (rowsRecord (header .states) (take (stepped .count) (stepped .rows))) before
+            → Done table a bytes before
+            (record { number = 0; written = written; accepting = stepped .accepting; stable = stepped .stable }) after
+        unfolding stepOutcome stepAnswer stepAfter
+        step-done h written after e f =
+            let l : List Row = take (stepped .count) (stepped .rows) in
+            let same : rowsRecord (header .states) l ≡ recordOf (v .rule .states) (nextTree (v .rule) a (w .tree)) =
+            ap (λ (x : Header). rowsRecord (x .states) l) (v .numbers)
+            ∙ record-of-rows (v .rule .states) (v .rule .sets) (nextTree (v .rule) a (w .tree)) next-fits l (steps .rows) in
+            let reads = rw (v .numbers) at (w .reads) in
+            rw (v .reads, lt-ltb _ _ below, reads, le-leb _ _ h, e, f, same, steps .accepting, steps .stable) (refl, refl)

@@ -1,0 +1,212 @@
+-- The pass over the rows of a tree is the letter's step: it gives the rows of the next tree, the old numbers of its nodes
+-- and the two maps. From its answer the next letter can be read.
+use mathlib.Core.Path.{_≡_, refl, sym, _∙_, ap, subst}
+use mathlib.Core.Bool.{Bool, true, false, cond}
+use mathlib.Core.List.{List, [], _∷_, _++_, map}
+use Prim.Native.Nat.{ℕ, zero, suc, _+_, _*_, _-_, _^_, _≤_, _<_}
+use native.Mathlib.Omega.{arith}
+use native.Mathlib.Decide.{decLt}
+use native.Mathlib.Nat.{pow-suc}
+use lib.Bits.{or-lt}
+use lib.Dec.{eqb, ltb}
+use lib.ListN.{List·getD-eq-default, length, getD, take, replicate, length-map, length-append}
+use lib.Seq.{take-append-seam}
+use lib.Pow.{pow-pos}
+use Rattle.table.specs.Limits.{maxStates, maxSets}
+use Rattle.table.specs.Rule.{Rule, successors, successorsIn}
+use Rattle.table.specs.Table.{WellFormed}
+use Rattle.table.specs.Lookup.{relation, letterTables}
+use Rattle.table.specs.Held.{held}
+use Rattle.table.proofs.LookupTable.{letter-table}
+use Rattle.table.proofs.Holding.{image-held, image-held-in}
+use Rattle.history.specs.Forest.{nil, node, size}
+use Rattle.history.specs.Tree.{Tree, isTree}
+use Rattle.history.specs.Letter.{sprouted, survivors, nextTree}
+use Rattle.tree.specs.Rows.{rowsFrom, rowsOf, withoutOld, AreRows, StepsTo}
+use Rattle.history.specs.OldNumbers.{noNode, oldNumber, oldNumbers}
+use Rattle.tree.specs.Pass.{tableImage, metBy, joinedIf, settledRow, deepest, Pass, closedTo, metRow, readRow, passOver, atStart}
+use Rattle.tree.specs.Pass.{blankRow, SetsFit, steppedOf, steppedRows}
+use Rattle.tree.specs.declared.rows.Row.{Row}
+use Rattle.tree.specs.declared.rows.Stepped.{Stepped}
+use Rattle.history.proofs.Conditions.{Fits, OneRoot, tree-out}
+use Rattle.history.proofs.TreesKept.{next-is-tree, few-nodes}
+use Rattle.history.proofs.StepsJoined.{plainNode}
+use Rattle.tree.proofs.GrownRows.{Gives, grown-rows, grown-olds}
+use Rattle.tree.proofs.PassTree.{pass-dead, pass-root}
+use Rattle.tree.proofs.OldNumbers.{tree-numbered}
+use Rattle.tree.proofs.MapsByNumber.{accepting-map, stable-map}
+
+-- ANY ROWS
+
+-- the old numbers of the rows read do not count
+pass-without-old : (E : ℕ → ℕ → ℕ) (k i : ℕ) (p : Pass) (rows : List Row) → passOver E k i p (map withoutOld rows) ≡ passOver E k i p rows
+unfolding passOver readRow metRow metBy settledRow
+pass-without-old E k i p [] = refl
+pass-without-old E k i p (x ∷ rows) = pass-without-old E k (suc i) (readRow E k i x (closedTo (x .depth) p)) rows
+
+-- the maps have numbers of rows read
+abbrev MapsBelow : ℕ → Pass → Type 0
+MapsBelow i p = (p .accepting < 2 ^ i) × (p .stable < 2 ^ i)
+
+joined-below : (map i : ℕ) (b : Bool) → map < 2 ^ i → joinedIf map i b < 2 ^ suc i
+unfolding joinedIf
+joined-below map i true h = or-lt (suc i) map (2 ^ i) (omega (arith, pow-suc 2 i)) (omega (arith, pow-suc 2 i, pow-pos i))
+joined-below map i false h = omega (arith, pow-suc 2 i)
+
+either-below : (i : ℕ) (b : Bool) (p q : Pass) → MapsBelow i p → MapsBelow i q → MapsBelow i (cond b p q)
+either-below i true p q h k = h
+either-below i false p q h k = k
+
+read-below : (E : ℕ → ℕ → ℕ) (k i : ℕ) (x : Row) (p : Pass) → MapsBelow i p → MapsBelow (suc i) (readRow E k i x p)
+unfolding readRow metRow
+read-below E k i x p (a, s) =
+    let more : MapsBelow (suc i) p = (omega (arith, pow-suc 2 i), omega (arith, pow-suc 2 i)) in
+    either-below (suc i) (ltb (x .depth) (length (p .levels))) _ p
+    (either-below (suc i) (eqb (metBy E x (deepest (p .levels) .taken) .label) 0) _ _ more
+    (joined-below (p .accepting) i _ a, joined-below (p .stable) i _ s)) more
+
+pass-below : (E : ℕ → ℕ → ℕ) (k i : ℕ) (p : Pass) (rows : List Row) → MapsBelow i p → MapsBelow (i + length rows) (passOver E k i p rows)
+unfolding passOver closedTo
+pass-below E k i p [] h = let e : i + 0 ≡ i = omega arith in rw e h
+pass-below E k i p (x ∷ rows) h = let e : i + suc (length rows) ≡ suc i + length rows = omega arith in
+    rw e (pass-below E k (suc i) (readRow E k i x (closedTo (x .depth) p)) rows (read-below E k i x (closedTo (x .depth) p) h))
+
+-- THE LETTER'S TABLES
+
+module _ (R : Rule) (well : WellFormed R) (small : R .states ≤ maxStates) (a : ℕ) where
+  table-all : (s : ℕ) → tableImage (letterTables (held (R .grid)) a) 0 s ≡ successors R a s
+  unfolding tableImage relation
+  table-all s = letter-table (held (R .grid)) a 0 s (omega arith) ∙ image-held R well small a s
+
+  table-of : (i s : ℕ) → 1 ≤ i → i ≤ maxSets → tableImage (letterTables (held (R .grid)) a) i s ≡ successorsIn R i a s
+  unfolding tableImage relation
+  table-of zero s low high = absurd (omega arith)
+  table-of (suc i) s low high = letter-table (held (R .grid)) a (suc i) s high ∙ image-held-in R well small (suc i) a s
+
+-- THE ROWS OF A TREE
+
+-- as many rows as nodes
+rows-size : (d : ℕ) (T : Tree) → length (rowsFrom d T) ≡ size T
+unfolding rowsFrom size
+rows-size d nil = refl
+rows-size d (node x below younger) =
+    omega (arith, length-append (rowsFrom (suc d) below) (rowsFrom d younger), rows-size (suc d) below, rows-size d younger)
+
+pub rows-are-nodes : (rows : List Row) (T : Tree) → AreRows rows T → length rows ≡ size T
+unfolding rowsOf
+rows-are-nodes rows T are = sym (length-map rows withoutOld) ∙ ap length are ∙ rows-size 0 T
+
+-- their active sets are those of the nodes, from 1 to k
+abbrev pub ActiveSets : ℕ → List Row → Type 0
+ActiveSets k rows = (i : ℕ) → i < length rows → (1 ≤ getD rows i blankRow .active) × (getD rows i blankRow .active ≤ k)
+
+actives-append : (k : ℕ) (l r : List Row) → ActiveSets k l → ActiveSets k r → ActiveSets k (l ++ r)
+actives-append k [] r hl hr i h = hr i h
+actives-append k (x ∷ l) r hl hr zero h = hl 0 (omega arith)
+actives-append k (x ∷ l) r hl hr (suc i) h = actives-append k l r (λ i h. hl (suc i) (omega arith)) hr i (omega arith)
+
+actives-from : (k d : ℕ) (T : Tree) → Fits k T → ActiveSets k (rowsFrom d T)
+unfolding rowsFrom
+actives-from k d nil fits i h = absurd (omega arith)
+actives-from k d (node x below younger) (own, down, on) zero h = (own .from-one, own .up-to)
+actives-from k d (node x below younger) (own, down, on) (suc i) h =
+    actives-append k (rowsFrom (suc d) below) (rowsFrom d younger) (actives-from k (suc d) below down) (actives-from k d younger on)
+    i (omega arith)
+
+with-old : (k : ℕ) (rows : List Row) → ActiveSets k (map withoutOld rows) → ActiveSets k rows
+with-old k [] h i less = absurd (omega arith)
+with-old k (x ∷ rows) h zero less = h 0 (omega arith)
+with-old k (x ∷ rows) h (suc i) less = with-old k rows (λ i less. h (suc i) (omega arith)) i (omega arith)
+
+pub active-sets : (n k : ℕ) (rows : List Row) (T : Tree) → isTree n k T ≡ true → AreRows rows T → ActiveSets k rows
+unfolding rowsOf
+active-sets n k rows T tree are = with-old k rows (rw are (actives-from k 0 T (tree-out n k T tree .fits)))
+
+-- so the tables have entries for them
+pub sets-fit : (n k : ℕ) (rows : List Row) (T : Tree) → k ≤ maxSets → isTree n k T ≡ true → AreRows rows T → SetsFit rows
+sets-fit n k rows T h tree are i = go (decLt i (length rows))
+  where
+    go : Dec (i < length rows) → getD rows i blankRow .active ≤ maxSets
+    go (yes less) = omega (arith, active-sets n k rows T tree are i less .1)
+    go (no more) = rw (List·getD-eq-default rows blankRow {n = i} (omega arith)) (omega arith)
+
+-- ONE LETTER
+
+-- the rows that the answer counts are those written
+written-rows : (p : Pass) → take (steppedOf p .count) (steppedOf p .rows) ≡ p .rows
+unfolding steppedOf
+written-rows p = take-append-seam (p .rows) (replicate (2 * maxStates - length (p .rows)) blankRow)
+
+written-count : (p : Pass) → length (take (steppedOf p .count) (steppedOf p .rows)) ≡ steppedOf p .count
+unfolding steppedOf
+written-count p = ap length (written-rows p)
+
+module _ (R : Rule) (well : WellFormed R) (few-states : R .states ≤ maxStates) (few-sets : R .sets ≤ maxSets)
+    (a : ℕ) (T : Tree) (tree : isTree (R .states) (R .sets) T ≡ true) where
+  abbrev E : ℕ → ℕ → ℕ
+  E = tableImage (letterTables (held (R .grid)) a)
+
+  abbrev whole : Pass
+  whole = passOver E (R .sets) 0 atStart (rowsOf T)
+
+  few : size T < noNode
+  few = omega (arith, few-nodes (R .states) (R .sets) T tree)
+
+  -- a sprouted node has no old number
+  none : oldNumber T sprouted ≡ noNode
+  unfolding oldNumber
+  none = refl
+
+  -- the pass gives the nodes after the letter
+  gives : Gives (oldNumber T) whole (survivors R a T)
+  gives = let t = tree-out (R .states) (R .sets) T tree in go T none (t .one-root) (t .fits) few
+    where
+      go : (F : Tree) → oldNumber F sprouted ≡ noNode → OneRoot F → Fits (R .sets) F → size F < noNode
+          → Gives (oldNumber F) (passOver E (R .sets) 0 atStart (rowsOf F)) (survivors R a F)
+      go nil e one fits small = pass-dead R a E (oldNumber nil) e (table-all R well few-states a)
+          (λ i s low high. table-of R well few-states a i s low (omega arith))
+      go (node x below nil) e one fits small = let (root, inner) = tree-numbered x below small in
+          pass-root R a E (oldNumber (node x below nil)) e (table-all R well few-states a)
+          (λ i s low high. table-of R well few-states a i s low (omega arith)) x below fits root inner
+      go (node x below (node y other younger)) e one fits small = absurd one
+
+  -- the maps have no number past the last node's
+  maps-below : MapsBelow (size T) whole
+  unfolding rowsOf
+  maps-below =
+      let e : 0 + length (rowsFrom 0 T) ≡ size T = omega (arith, rows-size 0 T) in
+      subst (λ (n : ℕ). MapsBelow n whole) e (pass-below E (R .sets) 0 atStart (rowsFrom 0 T) (pow-pos 0, pow-pos 0))
+
+  -- so its answer is the letter's step
+  steps : StepsTo R a T (steppedOf whole)
+  unfolding steppedOf nextTree plainNode rowsOf oldNumbers
+  steps = let one = tree-out (R .states) (R .sets) T tree .one-root in record {
+    rows = ap (map withoutOld) (written-rows whole ∙ gives .rows) ∙ grown-rows (oldNumber T) 0 (survivors R a T);
+    olds = ap (map (λ x. x .old)) (written-rows whole ∙ gives .rows) ∙ grown-olds (oldNumber T) 0 (survivors R a T);
+    accepting = gives .accepting ∙ accepting-map R a T one few (rw (gives .accepting) at (maps-below .0));
+    stable = gives .stable ∙ stable-map R a T one few (rw (gives .stable) at (maps-below .1));
+  }
+
+module _ (tables : List (List ℕ)) (k : ℕ) (rows : List Row) (r : Stepped) (is : r ≡ steppedRows tables k rows)
+    (R : Rule) (a : ℕ) (T : Tree) (well : WellFormed R) (few-states : R .states ≤ maxStates) (few-sets : R .sets ≤ maxSets)
+    (sets : R .sets ≡ k) (tree : isTree (R .states) (R .sets) T ≡ true) (by : tables ≡ letterTables (held (R .grid)) a)
+    (are : AreRows rows T) where
+  -- the pass over the rows of a tree is the letter's step
+  pub steps-to : StepsTo R a T r
+  unfolding steppedRows
+  steps-to = subst (StepsTo R a T) (sym (is ∙ rw (← sets, by, ← are) (ap steppedOf (sym (pass-without-old _ (R .sets) 0 atStart rows)))))
+      (steps R well few-states few-sets a T tree)
+
+  -- and from its answer the next letter can be read
+  pub step-again : 1 ≤ R .sets → (r .count ≤ maxStates) × SetsFit (take (r .count) (r .rows))
+  unfolding steppedRows
+  step-again pos =
+      let next = next-is-tree R well pos a T tree in
+      let n : length (take (r .count) (r .rows)) ≡ r .count = rw is (written-count (passOver (tableImage tables) k 0 atStart rows)) in (
+        omega (
+          arith,
+          few-nodes (R .states) (R .sets) (nextTree R a T) next,
+          rows-are-nodes (take (r .count) (r .rows)) (nextTree R a T) (steps-to .rows),
+        ),
+        sets-fit (R .states) (R .sets) (take (r .count) (r .rows)) (nextTree R a T) few-sets next (steps-to .rows),
+      )

@@ -1,0 +1,231 @@
+-- The loops that write a record: the host of a state, the hosts of a map's states, and the marks.
+use mathlib.Core.Path.{_≡_, refl, sym, _∙_, ap, ap₂}
+use mathlib.Core.Bool.{Bool, true, false, not, _&&_, cond}
+use mathlib.Core.List.{List, [], _∷_, _++_, map, map-append, append-nil}
+use Prim.Native.Nat.{ℕ, zero, suc, _+_, _-_, _*_, _/_, _%_, _^_, _≤_, _<_}
+use native.Mathlib.Omega.{arith}
+use native.Mathlib.Nat.{add-zero, zero-add}
+use native.Mathlib.Numerals.{add-one}
+use borrow.Author.Tests.{eq-eqb, ne-eqb}
+use lib.ListN.{length, getD, take, drop, set, length-set, length-append, length-map, length-take, drop-of-length-le}
+use lib.Seq.{drop-cons, take-suc, getD-take, length-take-le}
+use Rattle.table.specs.BitSet.{member}
+use Rattle.table.specs.Storing.{stored}
+use Rattle.table.proofs.Storing.{stored-start, stored-byte, stored-next}
+use Rattle.table.proofs.Storing.{PiecesStored, pieces-start, pieces-byte, pieces-skip, pieces-size, pieces-done}
+use Rattle.history.specs.Record.{membersFrom, members}
+use Rattle.tree.specs.TreeCalls.{recordRoom}
+use Rattle.tree.specs.Pass.{blankRow}
+use Rattle.tree.specs.RecordRows.{places, hostRow, markOf, hostBytes, markBytes, rowsRecord, Recordable}
+use Rattle.tree.specs.declared.rows.Row.{Row}
+
+-- THE HOST OF A STATE
+
+-- the rows in front of `node` do not host the state
+pub record HostAhead (rows : List Row) (count q node : ℕ) : Type 0 where
+  pub upto : node ≤ count
+  pub ahead : hostRow node (drop node (take count rows)) q ≡ hostRow 0 (take count rows) q
+
+pub host-start : (rows : List Row) (count q : ℕ) → HostAhead rows count q 0
+host-start rows count q = record { upto = omega arith; ahead = refl }
+
+module _ {rows : List Row} {count q node : ℕ} (v : HostAhead rows count q node) where
+  module _ (many : length rows ≡ places) (few : count ≤ places) where
+    long : length (take count rows) ≡ count
+    long = length-take-le count rows (omega arith)
+
+    module _ (h : node < count) where
+      this-row : getD (take count rows) node blankRow ≡ getD rows node blankRow
+      this-row = getD-take count rows node blankRow h
+
+      opened : drop node (take count rows) ≡ getD rows node blankRow ∷ drop (suc node) (take count rows)
+      opened = drop-cons (take count rows) node blankRow (omega (arith, long)) ∙ ap (λ (x : Row). x ∷ drop (suc node) (take count rows)) this-row
+
+      pub host-found : (member (getD rows node blankRow .label) q && not (member (getD rows node blankRow .kids) q)) ≡ true
+          → node ≡ hostRow 0 (take count rows) q
+      unfolding hostRow
+      host-found e = rw (opened, e) at (v .ahead)
+
+      pub host-next : (member (getD rows node blankRow .label) q && not (member (getD rows node blankRow .kids) q)) ≡ false
+          → HostAhead rows count q (node + 1)
+      unfolding hostRow
+      host-next e = rw (add-one node) (record { upto = h; ahead = rw (opened, e) at (v .ahead) })
+
+    pub host-none : count ≤ node → node ≡ hostRow 0 (take count rows) q
+    unfolding hostRow
+    host-none h = rw (drop-of-length-le (take count rows) {i = node} (omega (arith, long))) at (v .ahead)
+
+-- THE HOSTS
+
+-- the members from p on among c + 1 states: those among c states, and the last if it is one
+members-more : (s p c : ℕ) → membersFrom p (suc c) s ≡ membersFrom p c s ++ cond (member s (p + c)) ((p + c) ∷ []) []
+unfolding membersFrom
+members-more s p zero = rw (add-zero p)
+members-more s p (suc c) = go (member s p) (members-more s (suc p) c)
+  where
+    same : suc p + c ≡ p + suc c
+    same = omega arith
+
+    go : (b : Bool) → membersFrom (suc p) (suc c) s ≡ membersFrom (suc p) c s ++ cond (member s (suc p + c)) ((suc p + c) ∷ []) []
+        → cond b (p ∷ membersFrom (suc p) (suc c) s) (membersFrom (suc p) (suc c) s)
+        ≡ cond b (p ∷ membersFrom (suc p) c s) (membersFrom (suc p) c s) ++ cond (member s (p + suc c)) ((p + suc c) ∷ []) []
+    go true ih = rw (ih, same)
+    go false ih = rw (ih, same)
+
+members-le : (s p c : ℕ) → length (membersFrom p c s) ≤ c
+unfolding membersFrom
+members-le s p zero = omega arith
+members-le s p (suc c) = go (member s p) (members-le s (suc p) c)
+  where
+    go : (b : Bool) → length (membersFrom (suc p) c s) ≤ c
+        → length (cond b (p ∷ membersFrom (suc p) c s) (membersFrom (suc p) c s)) ≤ suc c
+    go true h = omega arith
+    go false h = omega arith
+
+module _ (rows : List Row) (s q : ℕ) where
+  hosts-more : hostBytes rows (suc q) s ≡ hostBytes rows q s ++ map (hostRow 0 rows) (cond (member s q) (q ∷ []) [])
+  unfolding hostBytes members
+  hosts-more = ap (map (hostRow 0 rows)) (rw (zero-add q) at (members-more s 0 q)) ∙ map-append (hostRow 0 rows) (membersFrom 0 q s) _
+
+  -- the state is in the map, or not
+  hosts-one : s / 2 ^ q % 2 ≡ 1 → hostBytes rows (suc q) s ≡ hostBytes rows q s ++ (hostRow 0 rows q ∷ [])
+  unfolding member
+  hosts-one e = rw (eq-eqb (s / 2 ^ q % 2) 1 e) at hosts-more
+
+  hosts-none : (s / 2 ^ q % 2 ≡ 1 → ⊥) → hostBytes rows (suc q) s ≡ hostBytes rows q s
+  unfolding member
+  hosts-none e = rw (ne-eqb (s / 2 ^ q % 2) 1 e, append-nil (hostBytes rows q s)) at hosts-more
+
+  -- there are no more hosts than states
+  hosts-le : length (hostBytes rows q s) ≤ q
+  unfolding hostBytes members
+  hosts-le = omega (arith, length-map (membersFrom 0 q s) (hostRow 0 rows), members-le s 0 q)
+
+-- the hosts of the states below `state` are stored
+pub record HostsStored (rows : List Row) (n s : ℕ) (before : List ℕ) (from : ℕ) (out : List ℕ) (at state : ℕ) : Type 0 where
+  pub room : from + n ≤ length before
+  pub pieces : PiecesStored (λ q. hostBytes rows q s) n before from out at state
+
+pub hosts-start : (rows : List Row) (n s : ℕ) (before : List ℕ) (from : ℕ) → from + n ≤ length before
+    → HostsStored rows n s before from before from 0
+unfolding hostBytes members membersFrom
+hosts-start rows n s before from h = record { room = h; pieces = pieces-start refl (omega arith) }
+
+module _ {rows : List Row} {n s : ℕ} {before : List ℕ} {from : ℕ} {out : List ℕ} {at state : ℕ}
+    (v : HostsStored rows n s before from out at state) where
+  module _ (h : state < n) where
+    pub hosts-skip : (s / 2 ^ state % 2 ≡ 1 → ⊥) → HostsStored rows n s before from out at (state + 1)
+    hosts-skip e = record { room = v .room; pieces = pieces-skip (v .pieces) h (hosts-none rows s state e) }
+
+    -- there is a byte for each host
+    hosts-room : at < length before
+    hosts-room = omega (arith, v .room, v .pieces .stores .place, hosts-le rows s state)
+
+    pub hosts-fits : at < length out
+    hosts-fits = omega (arith, hosts-room, pieces-size (v .pieces))
+
+    pub hosts-put : s / 2 ^ state % 2 ≡ 1 → (x : ℕ) → x ≡ hostRow 0 rows state
+        → HostsStored rows n s before from (set out at x) (at + 1) (state + 1)
+    hosts-put e x is = record {
+      room = v .room;
+      pieces = pieces-byte (v .pieces) h x
+          (hosts-one rows s state e ∙ ap (λ (c : ℕ). hostBytes rows state s ++ (c ∷ [])) (sym is)) hosts-room;
+    }
+
+  pub hosts-done : n ≤ state
+      → (at ≡ from + length (hostBytes rows n s)) × (out ≡ stored from (hostBytes rows n s) before)
+  hosts-done h = let (same, place) = pieces-done (v .pieces) h in (place, same)
+
+-- THE MARKS
+
+-- the marks of the rows in front of `node` are stored
+pub record MarksStored (n count : ℕ) (rows : List Row) (before : List ℕ) (from : ℕ) (out : List ℕ) (at node : ℕ) : Type 0 where
+  pub fits : Recordable n count rows
+  pub room : from + count ≤ length before
+  pub pieces : PiecesStored (λ c. markBytes (take c rows)) count before from out at node
+
+marks-le : (rows : List Row) (c : ℕ) → length (markBytes (take c rows)) ≤ c
+unfolding markBytes
+marks-le rows c = omega (arith, length-map (take c rows) markOf, length-take c rows)
+
+pub marks-start : (n count : ℕ) (rows : List Row) (before : List ℕ) (from : ℕ) → Recordable n count rows → from + count ≤ length before
+    → MarksStored n count rows before from before from 0
+unfolding markBytes
+marks-start n count rows before from fits h = record { fits = fits; room = h; pieces = pieces-start refl (omega arith) }
+
+module _ {n count : ℕ} {rows : List Row} {before : List ℕ} {from : ℕ} {out : List ℕ} {at node : ℕ}
+    (v : MarksStored n count rows before from out at node) where
+  module _ (h : node < count) where
+    -- the mark is a byte, and there is room for it
+    pub mark-small : 16 * getD rows node blankRow .depth + getD rows node blankRow .active < 256
+    unfolding markOf
+    mark-small = v .fits .marks node h
+
+    marks-room : at < length before
+    marks-room = omega (arith, v .room, v .pieces .stores .place, marks-le rows node)
+
+    pub marks-fits : at < length out
+    marks-fits = omega (arith, marks-room, pieces-size (v .pieces))
+
+    pub marks-put : length rows ≡ places
+        → MarksStored n count rows before from (set out at (16 * getD rows node blankRow .depth + getD rows node blankRow .active))
+        (at + 1) (node + 1)
+    unfolding markBytes markOf
+    marks-put held = record {
+      fits = v .fits;
+      room = v .room;
+      pieces = pieces-byte (v .pieces) h _ (ap (map markOf) (take-suc rows node blankRow inside)
+          ∙ map-append markOf (take node rows) (getD rows node blankRow ∷ [])) marks-room;
+    }
+      where
+        inside : node < length rows
+        inside = omega (arith, v .fits .few, v .fits .states)
+
+  pub marks-done : count ≤ node
+      → (at ≡ from + length (markBytes (take count rows))) × (out ≡ stored from (markBytes (take count rows)) before)
+  marks-done h = let (same, place) = pieces-done (v .pieces) h in (place, same)
+
+-- THE RECORD
+
+-- a live tree's record: the root's map, the hosts and the marks
+live-record : (n count : ℕ) (rows : List Row) → (count ≡ 0 → ⊥) → 0 < length rows → rowsRecord n (take count rows)
+    ≡ getD rows 0 blankRow .label ∷ (hostBytes (take count rows) n (getD rows 0 blankRow .label) ++ markBytes (take count rows))
+unfolding rowsRecord
+live-record n zero rows some h = absurd (some refl)
+live-record n (suc count) [] some h = absurd (omega arith)
+live-record n (suc count) (x ∷ rows) some h = refl
+
+module _ (n count : ℕ) (rows : List Row) (before : List ℕ) (fits : Recordable n count rows) (room : recordRoom ≤ length before) where
+  -- the dead tree's
+  pub record-dead : count ≡ 0
+      → (1 ≡ length (rowsRecord n (take count rows))) × (set before 0 0 ≡ stored 0 (rowsRecord n (take count rows)) before)
+  unfolding rowsRecord
+  record-dead e = rw e (refl, stored-byte (stored-start before 0 (omega arith)) 0 (omega arith) .same)
+
+  abbrev root : ℕ
+  root = getD rows 0 blankRow .label
+
+  abbrev hosts : List ℕ
+  hosts = hostBytes (take count rows) n root
+
+  abbrev marks : List ℕ
+  marks = markBytes (take count rows)
+
+  -- the map, the hosts behind it, and the marks behind them
+  record-room : 1 + length hosts + count ≤ recordRoom
+  record-room = omega (arith, hosts-le (take count rows) root n, fits .few, fits .states)
+
+  pub marks-room-left : (at : ℕ) (then : List ℕ) → at ≡ 1 + length hosts → length then ≡ length (set before 0 root) → at + count ≤ length then
+  marks-room-left at then e f = omega (arith, record-room, length-set before 0 root)
+
+  pub record-live : (count ≡ 0 → ⊥) → length rows ≡ places → (at r : ℕ) (then after : List ℕ)
+      → at ≡ 1 + length hosts → then ≡ stored 1 hosts (set before 0 root) → r ≡ at + length marks → after ≡ stored at marks then
+      → (r ≡ length (rowsRecord n (take count rows))) × (after ≡ stored 0 (rowsRecord n (take count rows)) before)
+  record-live some held at r then after e f g h =
+      let first = stored-byte (stored-start before 0 (omega arith)) root (omega arith) in
+      let second = stored-next first hosts (omega (arith, record-room)) in
+      let third = stored-next second marks (omega (arith, record-room, marks-le rows count)) in
+      rw (live-record n count rows some (omega arith)) (
+        omega (arith, length-append hosts marks),
+        h ∙ ap₂ (λ (c : ℕ) (l : List ℕ). stored c marks l) e f ∙ third .same,
+      )

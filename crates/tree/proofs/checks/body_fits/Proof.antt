@@ -1,0 +1,75 @@
+-- What follows a map: its hosts and its marks.
+use borrow.Author.Needs.{needs}
+use mathlib.Core.Path.{sym}
+use lib.Seq.{length-take-le}
+use Rattle.table.proofs.Tests.{told-no, told-yes}
+use Rattle.history.specs.RecordChecks.{bodyFits}
+use Rattle.tree.proofs.ChecksInTurn.{to-end}
+use Rattle.tree.proofs.checks.body_fits.Statement.{statement}
+use Rattle.tree.proofs.checks.body_fits.Tie as tie
+
+cast-states : tie.Need-cast-states
+cast-states c = search needs
+
+sub-nodes : tie.Need-sub-nodes
+sub-nodes c = search needs
+
+slice-aggregate-hosts-below : tie.Need-slice-aggregate-hosts-below
+slice-aggregate-hosts-below c = sym (length-take-le _ _ (c .before .before .pre))
+
+hosts-below-requires : tie.Need-hosts-below-requires
+hosts-below-requires c κs = search needs
+
+returns : tie.Need-returns
+unfolding bodyFits
+returns c = rw (told-no (c .before .hosts-below .ensures) (c .if1 .taken))
+
+slice-aggregate-all-host : tie.Need-slice-aggregate-all-host
+slice-aggregate-all-host c = sym (length-take-le _ _ (c .before .before .before .before .before .pre))
+
+all-host-requires : tie.Need-all-host-requires
+all-host-requires c κs = search needs
+
+returns-2 : tie.Need-returns-2
+unfolding bodyFits
+returns-2 c =
+    let numbers = c .before .before .before in
+    rw (told-yes (numbers .before .hosts-below .ensures) (numbers .if1 .left), told-no (c .before .all-host .ensures) (c .if2 .taken))
+
+sub-marks-fit : tie.Need-sub-marks-fit
+sub-marks-fit c = search needs
+
+part-marks-fit-start : tie.Need-part-marks-fit-start
+part-marks-fit-start c = search needs
+
+part-marks-fit-end : tie.Need-part-marks-fit-end
+part-marks-fit-end c = search needs
+
+marks-fit-requires : tie.Need-marks-fit-requires
+marks-fit-requires c κs = search needs
+
+returns-3 : tie.Need-returns-3
+unfolding bodyFits
+returns-3 c =
+    let each = c .before .before .before in
+    let numbers = each .before .before in
+    rw (told-yes (numbers .before .hosts-below .ensures) (numbers .if1 .left), told-yes (each .all-host .ensures) (c .before .before .if2 .left))
+    (rw to-end at (c .marks-fit .ensures))
+
+pub body-fits-spec : {M : Type 1} → statement M
+body-fits-spec =
+    tie.close
+    (tie.spec
+    cast-states
+    sub-nodes
+    slice-aggregate-hosts-below
+    hosts-below-requires
+    returns
+    slice-aggregate-all-host
+    all-host-requires
+    returns-2
+    sub-marks-fit
+    part-marks-fit-start
+    part-marks-fit-end
+    marks-fit-requires
+    returns-3)

@@ -1,0 +1,64 @@
+-- Hosts below the number of nodes: at each place the answer is that of the hosts from there on.
+use borrow.Author.Needs.{needs}
+use mathlib.Core.Path.{_≡_}
+use Prim.Native.Nat.{_≤_, _-_}
+use native.Mathlib.Omega.{arith}
+use native.Mathlib.Numerals.{add-one}
+use borrow.Author.Tests.{lt-ltb, le-ltb}
+use lib.ListN.{length, drop, drop-of-length-le}
+use Rattle.history.specs.RecordChecks.{hostsBelow}
+use Rattle.tree.proofs.ChecksInTurn.{below-from}
+use Rattle.tree.proofs.checks.hosts_below.Statement.{statement}
+use Rattle.tree.proofs.checks.hosts_below.Tie as tie
+
+abbrev Inv-loop : tie.InvT-loop
+Inv-loop nodes hosts at₀ at = (at ≤ length hosts) × (hostsBelow nodes (drop at hosts) ≡ hostsBelow nodes hosts)
+
+abbrev μ-loop : tie.MeasureT-loop
+μ-loop nodes hosts at₀ at = length hosts - at
+
+loop-holds : tie.Need-loop-holds Inv-loop μ-loop
+loop-holds c = search needs
+
+shared-slice-read-if1 : tie.Need-shared-slice-read-if1 Inv-loop μ-loop
+shared-slice-read-if1 c = search needs
+
+cast-if1 : tie.Need-cast-if1 Inv-loop μ-loop
+cast-if1 c = omega (arith, c .shared-slice-known .given (c .before .before .loop .at))
+
+returns : tie.Need-returns Inv-loop μ-loop
+returns c =
+    let turn = c .before .before in
+    rw (below-from _ _ _ (turn .loop-test .taken), le-ltb _ _ (c .if1 .taken)) at (turn .before .loop .inv .1)
+
+add-at : tie.Need-add-at Inv-loop μ-loop
+add-at c = search needs
+
+loop-less : tie.Need-loop-less Inv-loop μ-loop
+loop-less c = search needs
+
+loop-again : tie.Need-loop-again Inv-loop μ-loop
+loop-again c =
+    let turn = c .before .before in (
+      search needs,
+      rw add-one (rw (below-from _ _ _ (turn .loop-test .taken), lt-ltb _ _ (c .if1 .left)) at (turn .before .loop .inv .1)),
+    )
+
+returns-2 : tie.Need-returns-2 Inv-loop μ-loop
+unfolding hostsBelow
+returns-2 c = rw (drop-of-length-le _ (c .loop-test .left)) at (c .before .loop .inv .1)
+
+pub hosts-below-spec : {M : Type 1} → statement M
+hosts-below-spec =
+    tie.close
+    (tie.spec
+    Inv-loop
+    μ-loop
+    loop-holds
+    shared-slice-read-if1
+    cast-if1
+    returns
+    add-at
+    loop-less
+    loop-again
+    returns-2)

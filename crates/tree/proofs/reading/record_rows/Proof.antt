@@ -1,0 +1,101 @@
+-- A row for each mark, by the laws of ReadingInTurn.
+use borrow.Author.Needs.{needs}
+use Prim.Native.Nat.{_+_, _-_}
+use mathlib.Core.Path.{refl}
+use native.Mathlib.Omega.{arith}
+use lib.ListN.{length}
+use Rattle.history.specs.Record.{hostedIn}
+use Rattle.tree.proofs.ChecksInTurn.{to-end}
+use Rattle.tree.proofs.ReadingInTurn.{deeper-few, RowsSoFar, rows-start, rows-next, rows-done}
+use Rattle.tree.proofs.reading.record_rows.Statement.{statement}
+use Rattle.tree.proofs.reading.record_rows.Tie as tie
+
+abbrev Inv-loop : tie.InvT-loop
+Inv-loop n map hosts marks rows₀ node₀ rows node = RowsSoFar (hostedIn n map hosts) marks rows node
+
+abbrev μ-loop : tie.MeasureT-loop
+μ-loop n map hosts marks rows₀ node₀ rows node = length marks - node
+
+blank-row-requires : tie.Need-blank-row-requires Inv-loop μ-loop
+blank-row-requires c κs = search needs
+
+loop-holds : tie.Need-loop-holds Inv-loop μ-loop
+loop-holds c = rows-start _ _ _ refl (c .before .before .before .pre .1)
+
+shared-slice-read-mark : tie.Need-shared-slice-read-mark Inv-loop μ-loop
+shared-slice-read-mark c = search needs
+
+cast-depth : tie.Need-cast-depth Inv-loop μ-loop
+cast-depth c = omega (arith, c .shared-slice-known3 .given (c .before .before .loop .node))
+
+add-next : tie.Need-add-next Inv-loop μ-loop
+add-next c = search needs
+
+sub-deeper : tie.Need-sub-deeper Inv-loop μ-loop
+sub-deeper c = search needs
+
+part-deeper-start : tie.Need-part-deeper-start Inv-loop μ-loop
+part-deeper-start c = search needs
+
+part-deeper-end : tie.Need-part-deeper-end Inv-loop μ-loop
+part-deeper-end c = search needs
+
+deeper-requires : tie.Need-deeper-requires Inv-loop μ-loop
+deeper-requires c κs = search needs
+
+add-end : tie.Need-add-end Inv-loop μ-loop
+add-end c =
+    let turn = c .before .before .before in
+    let node = turn .before .loop .node in
+    let marks = turn .before .before .before .before .before .args .marks .now in
+    omega (arith, deeper-few _ (node + 1) marks (to-end (node + 1) marks) (c .deeper .ensures))
+
+hosted-requires : tie.Need-hosted-requires Inv-loop μ-loop
+hosted-requires c κs = search needs
+
+hosted-requires-2 : tie.Need-hosted-requires-2 Inv-loop μ-loop
+hosted-requires-2 c κs = search needs
+
+mul-rows : tie.Need-mul-rows Inv-loop μ-loop
+mul-rows c = search needs
+
+array-set-from-rows : tie.Need-array-set-from-rows Inv-loop μ-loop
+array-set-from-rows c = search needs
+
+loop-less : tie.Need-loop-less Inv-loop μ-loop
+loop-less c = search needs
+
+loop-again : tie.Need-loop-again Inv-loop μ-loop
+loop-again c =
+    let turn = c .before .before .before .before .before in
+    let node = turn .before .loop .node in
+    let marks = turn .before .before .before .before .before .args .marks .now in
+    rows-next (turn .before .loop .inv) (turn .loop-test .taken) _ _ _ _ (to-end (node + 1) marks) (c .before .before .deeper .ensures)
+    (c .before .hosted .ensures) (c .hosted2 .ensures)
+
+returns : tie.Need-returns Inv-loop μ-loop
+returns c = rows-done (c .before .loop .inv) (c .loop-test .left)
+
+pub record-rows-spec : {M : Type 1} → statement M
+record-rows-spec =
+    tie.close
+    (tie.spec
+    Inv-loop
+    μ-loop
+    blank-row-requires
+    loop-holds
+    shared-slice-read-mark
+    cast-depth
+    add-next
+    sub-deeper
+    part-deeper-start
+    part-deeper-end
+    deeper-requires
+    add-end
+    hosted-requires
+    hosted-requires-2
+    mul-rows
+    array-set-from-rows
+    loop-less
+    loop-again
+    returns)

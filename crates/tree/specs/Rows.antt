@@ -1,0 +1,37 @@
+-- A tree as the code holds it, and what one letter makes of it, in terms of the definitions of trees.
+use mathlib.Core.Path.{_≡_}
+use mathlib.Core.List.{List, [], _∷_, _++_, map}
+use Prim.Native.Nat.{ℕ, suc}
+use lib.ListN.{take}
+use Rattle.table.specs.Rule.{Rule}
+use Rattle.history.specs.Forest.{Forest, nil, node}
+use Rattle.history.specs.Tree.{Node, Tree, labels}
+use Rattle.history.specs.Letter.{nextTree, acceptingMap, stableMap}
+use Rattle.history.specs.OldNumbers.{oldNumbers}
+use Rattle.tree.specs.declared.rows.Row.{Row}
+use Rattle.tree.specs.declared.rows.Stepped.{Stepped}
+
+-- the rows of siblings at depth d and of all below them, in number order; the old number does not count here
+unfoldable pub rowsFrom : ℕ → Tree → List Row
+rowsFrom d nil = []
+rowsFrom d (node x below younger) =
+    record { depth = d; label = x .label; kids = labels below; active = x .active; old = 0 }
+    ∷ (rowsFrom (suc d) below ++ rowsFrom d younger)
+
+unfoldable pub rowsOf : Tree → List Row
+rowsOf T = rowsFrom 0 T
+
+-- a row without its old number
+abbrev pub withoutOld : Row → Row
+withoutOld x = record { depth = x .depth; label = x .label; kids = x .kids; active = x .active; old = 0 }
+
+-- some rows are those of a tree
+abbrev pub AreRows : List Row → Tree → Type 0
+AreRows rows T = map withoutOld rows ≡ rowsOf T
+
+-- what one letter makes of the rows of a tree
+pub record StepsTo (R : Rule) (a : ℕ) (T : Tree) (r : Stepped) : Type 0 where
+  pub rows : AreRows (take (r .count) (r .rows)) (nextTree R a T)
+  pub olds : map (λ x. x .old) (take (r .count) (r .rows)) ≡ oldNumbers R a T
+  pub accepting : r .accepting ≡ acceptingMap R a T
+  pub stable : r .stable ≡ stableMap R a T

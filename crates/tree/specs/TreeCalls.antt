@@ -1,0 +1,62 @@
+-- The calls on trees: what they answer, and what they leave in the lent buffer, for all inputs.
+use mathlib.Core.List.{List}
+use Prim.Native.Nat.{ℕ}
+use lib.Dec.{leb, ltb}
+use lib.ListN.{length}
+use Rattle.table.specs.Outcome.{Outcome, refused, accepted, ask, _then_}
+use Rattle.table.specs.Rule.{Rule}
+use Rattle.table.specs.Table.{readRule}
+use Rattle.table.specs.Storing.{stored}
+use Rattle.history.specs.Tree.{Tree, startTree}
+use Rattle.history.specs.Letter.{nextTree, acceptingMap, stableMap}
+use Rattle.history.specs.Record.{recordOf, readTree}
+use Rattle.tree.specs.declared.calls.StartAnswer.{StartAnswer}
+use Rattle.tree.specs.declared.calls.StepAnswer.{StepAnswer}
+
+-- "17 for a tree"
+abbrev pub recordRoom : ℕ
+recordRoom = 17
+
+-- THE STARTING RECORD
+
+-- questions 1 to 6, then 10; accepted, the record of the starting tree
+unfoldable pub startOutcome : List ℕ → List ℕ → Outcome (List ℕ)
+startOutcome table buffer =
+    readRule table then λ R.
+    ask (leb recordRoom (length buffer)) 10
+    (accepted (recordOf (R .states) (startTree R)))
+
+unfoldable pub startAnswer : Outcome (List ℕ) → StartAnswer
+startAnswer (refused number) = record { number = number; written = 0 }
+startAnswer (accepted bytes) = record { number = 0; written = length bytes }
+
+unfoldable pub startAfter : Outcome (List ℕ) → List ℕ → List ℕ
+startAfter (refused number) buffer = buffer
+startAfter (accepted bytes) buffer = stored 0 bytes buffer
+
+-- ONE LETTER
+
+-- "The step answers the new record and two map bytes by old node number, accepting and stable."
+pub record Moved : Type 0 where
+  pub bytes : List ℕ
+  pub accepting : ℕ
+  pub stable : ℕ
+
+-- questions 1 to 6, 8, 9 and 10
+unfoldable pub stepOutcome : List ℕ → ℕ → List ℕ → List ℕ → Outcome Moved
+stepOutcome table a bytes buffer =
+    readRule table then λ R.
+    ask (ltb a (R .letters)) 8
+    (readTree (R .states) (R .sets) bytes then λ T.
+    ask (leb recordRoom (length buffer)) 10
+    (accepted (record { bytes = recordOf (R .states) (nextTree R a T); accepting = acceptingMap R a T; stable = stableMap R a T })))
+
+unfoldable pub stepAnswer : Outcome Moved → StepAnswer
+stepAnswer (refused number) = record { number = number; written = 0; accepting = 0; stable = 0 }
+stepAnswer (accepted moved) =
+    record { number = 0; written = length (moved .bytes); accepting = moved .accepting; stable = moved .stable }
+
+-- "writes exactly the record", the rest unchanged; a refusal alters nothing
+unfoldable pub stepAfter : Outcome Moved → List ℕ → List ℕ
+stepAfter (refused number) buffer = buffer
+stepAfter (accepted moved) buffer = stored 0 (moved .bytes) buffer

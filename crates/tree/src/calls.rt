@@ -1,0 +1,111 @@
+// The calls on trees: the starting record of a table, and one letter.
+use crate::record::Count;
+use crate::record::Tree;
+use crate::step::step_rows;
+use crate::writing::put_record;
+use table::limits::LETTERS;
+use table::limits::NO_TRANSITION;
+use table::limits::STATES;
+use table::lookup::letter_tables;
+use table::reader::Reading;
+use table::reader::read_rule;
+ghost use mathlib.Core.Path.{_≡_};
+ghost use Rattle.table.specs.Outcome.{refused};
+ghost use Rattle.tree.specs.TreeCalls.{startOutcome, startAnswer, startAfter, stepOutcome, stepAnswer, stepAfter};
+
+// 0 and the record's length, or the number of the question that failed and zero.
+pub struct StartAnswer {
+    pub number: u8,
+    pub written: usize,
+}
+
+// 0, the new record's length, the accepting and the stable map by old node number; or the number of the question that
+// failed and zeros.
+pub struct StepAnswer {
+    pub number: u8,
+    pub written: usize,
+    pub accepting: u16,
+    pub stable: u16,
+}
+
+// A refusal: its number and zero.
+fn start_refusal(number: u8) -> StartAnswer
+    ensures { λ r. ⌜ r ≡ startAnswer (refused number) ⌝ }
+{
+    StartAnswer {
+        number: number,
+        written: 0,
+    }
+}
+
+// THE STARTING RECORD of a table, in a lent buffer. Questions 1 to 6, then 10.
+pub fn start(table: &[u8], buffer: &mut [u8]) -> StartAnswer
+    ensures { λ r. ⌜ (r ≡ startAnswer (startOutcome (now (table .entry)) (now (buffer .entry))))
+        × (now (buffer .exit) ≡ startAfter (startOutcome (now (table .entry)) (now (buffer .entry))) (now (buffer .entry))) ⌝ }
+{
+    let mut cells = [[[NO_TRANSITION; STATES]; STATES]; LETTERS];
+    match read_rule(table, &mut cells) {
+        Reading::Refused(number) => start_refusal(number),
+        Reading::Rule(header) => {
+            if buffer.len() < Tree::RECORD {
+                return start_refusal(10);
+            }
+            let tree = Tree::start(header.start);
+            let rows = tree.rows;
+            let written = put_record(rows, 1, header.states, buffer);
+            StartAnswer {
+                number: 0,
+                written: written,
+            }
+        }
+    }
+}
+
+fn step_refusal(number: u8) -> StepAnswer
+    ensures { λ r. ⌜ r ≡ stepAnswer (refused number) ⌝ }
+{
+    StepAnswer {
+        number: number,
+        written: 0,
+        accepting: 0,
+        stable: 0,
+    }
+}
+
+// ONE LETTER on a record: the next tree's record in a lent buffer, and the two maps. Questions 1 to 6, 8, 9, then 10.
+pub fn step(table: &[u8], letter: u8, bytes: &[u8], buffer: &mut [u8]) -> StepAnswer
+    ensures { λ r. ⌜ (r ≡ stepAnswer (stepOutcome (now (table .entry)) letter (now (bytes .entry)) (now (buffer .entry))))
+        × (now (buffer .exit) ≡ stepAfter (stepOutcome (now (table .entry)) letter (now (bytes .entry)) (now (buffer .entry)))
+        (now (buffer .entry))) ⌝ }
+{
+    let mut cells = [[[NO_TRANSITION; STATES]; STATES]; LETTERS];
+    match read_rule(table, &mut cells) {
+        Reading::Refused(number) => step_refusal(number),
+        Reading::Rule(header) => {
+            let a = letter as usize;
+            if header.letters <= a {
+                return step_refusal(8);
+            }
+            let checked = Tree::checked(bytes, header.states, header.sets);
+            let nodes = checked.count;
+            let tree = checked.tree;
+            let Count::Nodes(count) = nodes else {
+                return step_refusal(9);
+            };
+            if buffer.len() < Tree::RECORD {
+                return step_refusal(10);
+            }
+            let tables = letter_tables(&cells, a);
+            let rows = tree.rows;
+            let next = step_rows(&tables, header.sets as u8, rows, count);
+            let next_rows = next.rows;
+            let written = put_record(next_rows, next.count, header.states, buffer);
+            StepAnswer {
+                number: 0,
+                written: written,
+                accepting: next.accepting,
+                stable: next.stable,
+            }
+        }
+    }
+}

@@ -1,0 +1,138 @@
+// Question 9, byte by byte: are some bytes the record of a tree over n states and k sets?
+ghost use mathlib.Core.Path.{_≡_};
+ghost use Prim.Native.Nat.{_<_, _≤_};
+ghost use lib.Count.{ones};
+ghost use lib.ListN.{length};
+ghost use Rattle.history.specs.RecordChecks.{hostsBelow, isHost, allHost, activeFits, marksFollow, marksFit, bodyFits, recordChecks};
+
+// Is each host the number of a node?
+fn hosts_below(nodes: usize, hosts: &[u8]) -> bool
+    ensures { λ r. ⌜ r ≡ hostsBelow nodes (now (hosts .entry)) ⌝ }
+{
+    let mut at = 0usize;
+    while at < hosts.len() {
+        if hosts[at] as usize >= nodes {
+            return false;
+        }
+        at += 1;
+    }
+    true
+}
+
+// Is the node of this number a host?
+fn is_host(node: usize, hosts: &[u8]) -> bool
+    ensures { λ r. ⌜ r ≡ isHost node (now (hosts .entry)) ⌝ }
+{
+    let mut at = 0usize;
+    while at < hosts.len() {
+        if hosts[at] as usize == node {
+            return true;
+        }
+        at += 1;
+    }
+    false
+}
+
+// "Each node hosts at least one state."
+fn all_host(nodes: usize, hosts: &[u8]) -> bool
+    ensures { λ r. ⌜ r ≡ allHost nodes (now (hosts .entry)) ⌝ }
+{
+    let mut left = nodes;
+    while 0 < left {
+        left -= 1;
+        if !is_host(left, hosts) {
+            return false;
+        }
+    }
+    true
+}
+
+// "an active set (1 to k)"
+fn active_fits(k: usize, mark: u8) -> bool
+    ensures { λ r. ⌜ r ≡ activeFits k mark ⌝ }
+{
+    let active = (mark % 16) as usize;
+    if active < 1 {
+        return false;
+    }
+    active <= k
+}
+
+// "each later depth is from 1 to one more than the depth before it": the marks behind the root's.
+fn marks_follow(k: usize, marks: &[u8]) -> bool
+    ensures { λ r. ⌜ r ≡ marksFollow k 0 (now (marks .entry)) ⌝ }
+{
+    let mut before = 0u8;
+    let mut at = 0usize;
+    while at < marks.len() {
+        let mark = marks[at];
+        let depth = mark / 16;
+        if depth < 1 {
+            return false;
+        }
+        if depth > before + 1 {
+            return false;
+        }
+        if !active_fits(k, mark) {
+            return false;
+        }
+        before = depth;
+        at += 1;
+    }
+    true
+}
+
+// "The root's depth is 0".
+fn marks_fit(k: usize, marks: &[u8]) -> bool
+    ensures { λ r. ⌜ r ≡ marksFit k (now (marks .entry)) ⌝ }
+{
+    if marks.len() < 1 {
+        return false;
+    }
+    let root = marks[0];
+    if root / 16 != 0 {
+        return false;
+    }
+    if !active_fits(k, root) {
+        return false;
+    }
+    marks_follow(k, &marks[1..])
+}
+
+// What follows the map of a root's states: a host for each state, and a mark for each node.
+fn body_fits(k: usize, map: u16, left: &[u8]) -> bool
+    requires { ⌜ ones map ≤ length (now left) ⌝ }
+    ensures { λ r. ⌜ r ≡ bodyFits k map (now (left .entry)) ⌝ }
+{
+    let states = u16::count_ones(map) as usize;
+    let nodes = left.len() - states;
+    if !hosts_below(nodes, &left[..states]) {
+        return false;
+    }
+    if !all_host(nodes, &left[..states]) {
+        return false;
+    }
+    marks_fit(k, &left[states..])
+}
+
+// Question 9. "The dead tree's record is the byte 0."
+pub fn record_fits(n: usize, k: usize, bytes: &[u8]) -> bool
+    requires { ⌜ n < 16 ⌝ }
+    ensures { λ r. ⌜ r ≡ recordChecks n k (now (bytes .entry)) ⌝ }
+{
+    if bytes.len() < 1 {
+        return false;
+    }
+    let map = bytes[0] as u16;
+    let left = &bytes[1..];
+    if map == 0 {
+        return left.len() == 0;
+    }
+    if map >= 1u16 << n {
+        return false;
+    }
+    if left.len() <= u16::count_ones(map) as usize {
+        return false;
+    }
+    body_fits(k, map, left)
+}

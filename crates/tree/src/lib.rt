@@ -1,0 +1,8 @@
+// History trees and the tree judge.
+pub mod calls;
+mod checks;
+mod reading;
+pub mod record;
+pub mod rows;
+pub mod step;
+mod writing;

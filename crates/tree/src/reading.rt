@@ -1,0 +1,85 @@
+// The rows of a record's tree: its marks give each node's depth and active set, its hosts give the labels.
+use crate::rows::PLACES;
+use crate::rows::Row;
+use crate::step::blank_row;
+ghost use mathlib.Core.Path.{_≡_};
+ghost use mathlib.Core.Bool.{_&&_, cond};
+ghost use Prim.Native.Nat.{_^_, _<_, _≤_};
+ghost use lib.Count.{ones};
+ghost use lib.Dec.{leb, ltb};
+ghost use lib.ListN.{length, take};
+ghost use Rattle.history.specs.Record.{hostedIn};
+ghost use Rattle.tree.specs.RecordRows.{places, deeper, rowsOfMarks};
+
+// How many marks at the front are deeper than a node: the number of nodes below it, where they follow its own mark.
+fn deeper(depth: u8, marks: &[u8]) -> usize
+    ensures { λ r. ⌜ r ≡ deeper depth (now (marks .entry)) ⌝ }
+{
+    let mut count = 0usize;
+    while count < marks.len() {
+        if marks[count] / 16 <= depth {
+            return count;
+        }
+        count += 1;
+    }
+    count
+}
+
+// The set of one state if its host is numbered from `low` up to `high`, else the empty set.
+fn state_if(state: usize, host: usize, low: usize, high: usize) -> u16
+    requires { ⌜ state < 16 ⌝ }
+    ensures { λ r. ⌜ r ≡ cond (leb low host && ltb host high) (2 ^ state) 0 ⌝ }
+{
+    if host < low {
+        return 0;
+    }
+    if host < high { 1u16 << state } else { 0 }
+}
+
+// The states of a map whose hosts are numbered from `low` up to `high`.
+fn hosted(n: usize, map: u16, hosts: &[u8], low: usize, high: usize) -> u16
+    requires { ⌜ (n ≤ 16) × ((map < 2 ^ n) × (ones map ≤ length (now hosts))) ⌝ }
+    ensures { λ r. ⌜ r ≡ hostedIn n map (now (hosts .entry)) low high ⌝ }
+{
+    let mut states = 0u16;
+    let mut at = 0usize;
+    let mut state = 0usize;
+    while state < n {
+        let q = state;
+        state += 1;
+        if (map >> q) % 2 != 1 {
+            continue;
+        }
+        let host = hosts[at] as usize;
+        at += 1;
+        states = states | state_if(q, host, low, high);
+    }
+    states
+}
+
+// A row for each mark. A node's label are the states hosted at the node or below it, its children's are those below it.
+pub fn record_rows(n: usize, map: u16, hosts: &[u8], marks: &[u8]) -> [Row; PLACES]
+    requires { ⌜ ((n ≤ 16) × ((map < 2 ^ n) × (ones map ≤ length (now hosts)))) × (length (now marks) ≤ places) ⌝ }
+    ensures { λ r. ⌜ take (length (now (marks .entry))) r ≡ rowsOfMarks (hostedIn n map (now (hosts .entry))) 0 (now (marks .entry)) ⌝ }
+{
+    let none = blank_row();
+    let mut rows = [none; PLACES];
+    let mut node = 0usize;
+    while node < marks.len() {
+        let mark = marks[node];
+        let depth = (mark / 16) as u16;
+        let next = node + 1;
+        let end = next + deeper(mark / 16, &marks[next..]);
+        let label = hosted(n, map, hosts, node, end);
+        let kids = hosted(n, map, hosts, next, end);
+        rows[node] = Row {
+            depth: depth,
+            label: label,
+            kids: kids,
+            active: mark % 16,
+            old: 0,
+        };
+        node = next;
+    }
+    rows
+}
