@@ -7,6 +7,7 @@ pub mod StepOfRows
 pub mod Levels
 pub mod PassSteps
 pub mod PassLoop
+pub mod PassNode
 pub mod PassTree
 pub mod GrownRows
 pub mod Renamed

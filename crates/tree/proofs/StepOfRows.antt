@@ -22,8 +22,8 @@ use Rattle.table.proofs.Holding.{image-held, image-held-in}
 use Rattle.history.specs.Forest.{nil, node, size}
 use Rattle.history.specs.Tree.{Tree, isTree}
 use Rattle.history.specs.Letter.{sprouted, survivors, nextTree}
-use Rattle.tree.specs.Rows.{rowsFrom, rowsOf, withoutOld, AreRows, StepsTo}
 use Rattle.history.specs.OldNumbers.{noNode, oldNumber, oldNumbers}
+use Rattle.tree.specs.Rows.{rowsFrom, rowsOf, withoutOld, AreRows, StepsTo}
 use Rattle.tree.specs.Pass.{tableImage, metBy, joinedIf, settledRow, deepest, Pass, closedTo, metRow, readRow, passOver, atStart}
 use Rattle.tree.specs.Pass.{blankRow, SetsFit, steppedOf, steppedRows}
 use Rattle.tree.specs.declared.rows.Row.{Row}
