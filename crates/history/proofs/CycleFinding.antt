@@ -1,8 +1,7 @@
--- Finding entry and period in constant memory. Brent's search holds one tree, t(power − 1), and reads on from it: after lam
--- rounds that tree has not come back; where it does, the distance is the period. If it has not come back after `power` rounds,
--- the tree reached is held instead, and the power doubled. Then two places that are a period apart go forward together from the
--- start: the first that have equal trees are the entry and the end of its period.
-use mathlib.Core.Path.{_≡_, sym, ap}
+-- Finding the period in constant memory. Brent's search holds one tree, t(power − 1), and reads on from it: after lam rounds
+-- that tree has not come back; where it does, the distance is the period. If it has not come back after `power` rounds, the tree
+-- reached is held instead, and the power doubled.
+use mathlib.Core.Path.{_≡_, sym}
 use Prim.Native.Nat.{ℕ, suc, _+_, _*_, _-_, _^_, _≤_, _<_, max}
 use native.Mathlib.Omega.{arith}
 use native.Mathlib.Decide.{decLe, ℕ-discrete}
@@ -18,9 +17,9 @@ pub record BrentSoFar (t : ℕ → Tree) (power lam : ℕ) : Type 0 where
   -- the power is at most twice the larger of entry and period
   pub bounded : (entry period : ℕ) → FirstRepeat t entry period → power ≤ 2 * max entry period
 
--- the search for the entry, with the period known: no place below c has the tree of a period further
-pub record EntrySoFar (t : ℕ → Tree) (period c : ℕ) : Type 0 where
-  pub apart : (i : ℕ) → i < c → t i ≡ t (i + period) → ⊥
+-- t(half − 1) was held before, and had not come back after `half` rounds: a period as short as that begins later
+abbrev pub Skips : (ℕ → Tree) → ℕ → Type 0
+Skips t half = (entry period : ℕ) → FirstRepeat t entry period → period ≤ half → half ≤ entry
 
 module _ (t : ℕ → Tree) where
   -- at the start t(0) is held
@@ -30,6 +29,10 @@ module _ (t : ℕ → Tree) where
     apart = λ m low high same. omega arith;
     bounded = λ entry period F. omega (arith, F .positive);
   }
+
+  -- and nothing was held before t(0)
+  pub none-skips : Skips t 0
+  none-skips entry period F short = omega arith
 
   -- one round more, and the tree has still not come back
   unseen : (i l : ℕ) → ((m : ℕ) → 1 ≤ m → m ≤ l → t i ≡ t (i + m) → ⊥) → (t i ≡ t (i + (l + 1)) → ⊥)
@@ -45,40 +48,29 @@ module _ (t : ℕ → Tree) where
   brent-more power lam B new more =
       record { short = omega (arith, B .short); apart = unseen (power - 1) lam (B .apart) new; bounded = B .bounded }
 
-  -- the search for the entry at its start, and one place further
-  pub entry-start : (period : ℕ) → EntrySoFar t period 0
-  entry-start period = record { apart = λ i h same. omega arith }
-
-  pub entry-more : (period c : ℕ) → EntrySoFar t period c → (t c ≡ t (c + period) → ⊥) → EntrySoFar t period (c + 1)
-  entry-more period c E new = record { apart = λ i h same. go i h same (ℕ-discrete i c) }
-    where
-      go : (i : ℕ) → i < c + 1 → t i ≡ t (i + period) → Dec (i ≡ c) → ⊥
-      go i h same (yes e) = new (rw e at same)
-      go i h same (no e) = E .apart i (omega arith) same
-
 module _ (t : ℕ → Tree) (f : Tree → Tree) (next : (r : ℕ) → t (suc r) ≡ f (t r)) where
-  -- BRENT'S SEARCH
-
-  -- each turn reads one round more
-  pub brent-reads : (power lam : ℕ) → t (power - 1 + (lam + 1)) ≡ f (t (power - 1 + lam))
-  brent-reads power lam = let e : power - 1 + (lam + 1) ≡ suc (power - 1 + lam) = omega arith in rw e (next (power - 1 + lam))
-
-  -- a power after which t(power − 1) has not come back is no larger than entry or than period
-  reset-due : (power lam : ℕ) → BrentSoFar t power lam → (t (power - 1) ≡ t (power - 1 + (lam + 1)) → ⊥) → lam + 1 ≡ power
-      → (entry period : ℕ) → FirstRepeat t entry period → power ≤ max entry period
-  reset-due power lam B new full entry period F = go (decLe power (max entry period))
+  -- a period no longer than a power after which t(power − 1) has not come back begins later
+  pub reset-skips : (power lam : ℕ) → BrentSoFar t power lam → (t (power - 1) ≡ t (power - 1 + (lam + 1)) → ⊥) → lam + 1 ≡ power
+      → Skips t power
+  reset-skips power lam B new full entry period F short = go (decLe power entry)
     where
-      go : Dec (power ≤ max entry period) → power ≤ max entry period
+      go : Dec (power ≤ entry) → power ≤ entry
       go (yes h) = h
       go (no h) =
           let one : 1 * period ≡ period = omega arith in
           absurd (unseen t (power - 1) lam (B .apart) new period (F .positive) (omega arith)
           (rw one at (periodic t f next entry period F 1 (power - 1) (omega arith))))
 
-  -- then the tree reached is held
-  pub reset-holds : (power lam : ℕ) → lam + 1 ≡ power → t (power - 1 + (lam + 1)) ≡ t (power + power - 1)
-  reset-holds power lam full = ap t (omega arith)
+  -- so that power is no larger than entry or than period
+  reset-due : (power lam : ℕ) → BrentSoFar t power lam → (t (power - 1) ≡ t (power - 1 + (lam + 1)) → ⊥) → lam + 1 ≡ power
+      → (entry period : ℕ) → FirstRepeat t entry period → power ≤ max entry period
+  reset-due power lam B new full entry period F = go (decLe period power)
+    where
+      go : Dec (period ≤ power) → power ≤ max entry period
+      go (yes h) = omega (arith, reset-skips power lam B new full entry period F h)
+      go (no h) = omega arith
 
+  -- then the tree reached is held
   pub brent-reset : (power lam : ℕ) → BrentSoFar t power lam → (t (power - 1) ≡ t (power - 1 + (lam + 1)) → ⊥) → lam + 1 ≡ power
       → BrentSoFar t (power + power) 0
   brent-reset power lam B new full = record {
@@ -112,21 +104,3 @@ module _ (t : ℕ → Tree) (f : Tree → Tree) (next : (r : ℕ) → t (suc r) 
       -- the loop ends: power + lam grows by one each turn, and stays below this
       pub brent-measure : (power lam : ℕ) → BrentSoFar t power lam → power + lam < 2 ^ 65
       brent-measure power lam B = omega (arith, brent-bound power lam B .1)
-
-    -- THE ENTRY
-
-    -- the search does not pass the entry
-    pub entry-bound : (c : ℕ) → EntrySoFar t period c → c ≤ entry
-    entry-bound c E = go (decLe c entry)
-      where
-        go : Dec (c ≤ entry) → c ≤ entry
-        go (yes h) = h
-        go (no h) = absurd (E .apart entry (omega arith) (F .back))
-
-    -- and stops there
-    pub entry-found : (c : ℕ) → EntrySoFar t period c → t c ≡ t (c + period) → c ≡ entry
-    entry-found c E same = omega (
-      arith,
-      entry-bound c E,
-      repeat-only t f next entry period F c (c + period) (omega (arith, F .positive)) same .0,
-    )

@@ -7,7 +7,7 @@ use mathlib.Core.List.{List, [], _∷_}
 use Prim.Native.Nat.{ℕ, zero, suc, _+_, _*_, _≤_, _<_}
 use native.Mathlib.Omega.{arith}
 use native.Mathlib.Decide.{ℕ-discrete}
-use borrow.Author.Tests.{lt-ltb}
+use borrow.Author.Tests.{lt-ltb, ltb-true}
 use lib.Dec.{ltb}
 use lib.ListN.{length, getD, take}
 use Rattle.table.specs.BitSet.{member}
@@ -152,6 +152,9 @@ module _ (R : Rule) (u v : List ℕ) (entry period : ℕ) (F : FirstRepeat (roun
       let T = roundTree R u v start in
       let f : List ℕ → Bool = λ w. stableThrough R T (rounds period v) w && acceptingOnce R T (rounds period v) w in
       ap (λ (X : Tree). member (byNumber f X) j) cycle-back ∙ member-by T f j
+
+  pub member-node : (j : ℕ) → member (acceptedMap R (roundTree R u v start) (rounds period v)) j ≡ true → j < size (roundTree R u v start)
+  member-node j m = ltb-true j _ (and-in (ltb j (size (roundTree R u v start))) _ (sym (member-followed j) ∙ m) .0)
 
   -- and these are the witnesses
   pub member-witness : (j : ℕ) → j < size (roundTree R u v start)

@@ -49,4 +49,3 @@ pub mod CycleFinding
 pub mod NamesByDepth
 -- Verdicts by computation, and the examples of document 01.
 pub mod VerdictTest
-pub mod VerdictExamples

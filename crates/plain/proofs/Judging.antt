@@ -8,12 +8,12 @@ use Rattle.table.specs.Limits.{maxStates, maxLetters, maxSets}
 use Rattle.table.specs.Rule.{Grid, Rule}
 use Rattle.table.specs.Table.{Every}
 use Rattle.table.specs.Storing.{stored}
+use Rattle.table.specs.HeldRule.{HoldsRule}
 use Rattle.table.specs.declared.header.Header.{Header}
 use Rattle.table.proofs.Every.{every-at}
 use Rattle.word.specs.Loop.{Loop}
 use Rattle.word.specs.Verdict.{Decides}
 use Rattle.plain.specs.PlainCall.{scratchLength}
-use Rattle.plain.specs.HeldRule.{HoldsRule}
 use Rattle.plain.specs.TailRows.{BytesFit, TailFits}
 use Rattle.plain.specs.Rounds.{RoundsRow}
 use Rattle.plain.specs.Scratch.{rowAt, rowLength, squareLength, ChangedWithin}

@@ -10,30 +10,19 @@ use Rattle.table.specs.Rule.{Grid, Rule}
 use Rattle.table.specs.Table.{readRule}
 use Rattle.table.specs.Storing.{stored}
 use Rattle.table.specs.declared.header.Header.{Header}
-use Rattle.table.proofs.GridReading.{RuleRead}
+use Rattle.table.proofs.GridReading.{RuleRead, read-holds}
 use Rattle.word.specs.Walk.{walkOutcome, askWalk}
 use Rattle.word.specs.Loop.{Loop}
 use Rattle.word.specs.Verdict.{Decides}
 use Rattle.word.proofs.WalkQuestions.{walk-accepted, walk-next, walk-refused}
 use Rattle.plain.specs.PlainCall.{plainOutcome, PlainAnswers, scratchAfter, scratchLength}
-use Rattle.plain.specs.HeldRule.{HoldsRule, Judgeable}
+use Rattle.plain.specs.Judgeable.{Judgeable}
 use Rattle.plain.specs.declared.judge.PlainAnswer.{PlainAnswer}
 
 -- what the contract says of an answer and the scratch bytes afterwards
 abbrev Done : List ℕ → List ℕ → List ℕ → List ℕ → PlainAnswer → List ℕ → Type 0
 Done table u v before answer after =
     PlainAnswers (plainOutcome table u v before) u v answer × (after ≡ scratchAfter (plainOutcome table u v before) before)
-
--- the read table holds the rule
-pub read-holds : {table : List ℕ} {header : Header} {cells : Grid} (r : RuleRead table header cells) → HoldsRule (r .rule) header cells
-read-holds r = record {
-  numbers = r .numbers;
-  transitions = r .holds;
-  well = r .well;
-  states = r .range .states;
-  letters = r .range .letters;
-  sets = r .range .sets;
-}
 
 -- with an accepted walk and enough scratch bytes it can be judged
 pub read-judgeable : {table : List ℕ} {header : Header} {cells : Grid} → RuleRead table header cells → (u v scratch : List ℕ) (number : ℕ)

@@ -22,7 +22,7 @@ plain-decides R u v answer (_, d) well nonempty =
     decides-same loop-to-run run-to-loop d
 
 -- two verdicts on one statement are the same
-decides-one : {a b : ℕ} {P : Type 0} → Decides a P → Decides b P → a ≡ b
+pub decides-one : {a b : ℕ} {P : Type 0} → Decides a P → Decides b P → a ≡ b
 decides-one (inl (x, p)) (inl (y, q)) = x ∙ sym y
 decides-one (inl (x, p)) (inr (y, q)) = absurd (q p)
 decides-one (inr (x, p)) (inl (y, q)) = absurd (p q)

@@ -5,4 +5,4 @@ pub mod TailRows
 pub mod Scratch
 pub mod Rounds
 pub mod Search
-pub mod HeldRule
+pub mod Judgeable

@@ -19,17 +19,19 @@ use word::walk::walk_number;
 ghost use mathlib.Core.Path.{_≡_};
 ghost use Prim.Native.Nat.{ℕ, _+_, _*_, _<_, _≤_};
 ghost use lib.ListN.{length, replicate};
+ghost use Rattle.table.specs.HeldRule.{HoldsRule};
 ghost use Rattle.table.specs.Rule.{Rule};
 ghost use Rattle.table.specs.Storing.{stored};
 ghost use Rattle.word.specs.Loop.{Loop};
 ghost use Rattle.word.specs.Verdict.{Decides};
-ghost use Rattle.plain.specs.HeldRule.{HoldsRule, Judgeable};
+ghost use Rattle.plain.specs.Judgeable.{Judgeable};
 ghost use Rattle.plain.specs.PlainCall.{PlainAnswers, plainOutcome, scratchAfter, scratchLength};
 ghost use Rattle.plain.specs.Rounds.{RoundsRow};
 ghost use Rattle.plain.specs.Scratch.{ChangedWithin, rowAt, rowLength, squareLength};
 ghost use Rattle.plain.specs.TailRows.{TailFits};
 
 // The plain judge's answer: 0 and the verdict (1 yes, 0 no), or the number of the question that failed and zero.
+#[repr(C)]
 pub struct PlainAnswer {
     pub number: u8,
     pub verdict: u8,

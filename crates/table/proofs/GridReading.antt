@@ -12,6 +12,7 @@ use Rattle.table.specs.Outcome.{Outcome, refused, accepted, ask, _then_}
 use Rattle.table.specs.Rule.{Grid, Rule}
 use Rattle.table.specs.Table.{Every, WellFormed, gridBytes, readRule, inRange}
 use Rattle.table.specs.Storing.{stored}
+use Rattle.table.specs.HeldRule.{HoldsRule}
 use Rattle.table.specs.Held.{pad, heldRow, heldSquare, held, narrow}
 use Rattle.table.specs.ReadCall.{readOutcome, readAnswer, gridAfter, readingOf, cellsAfter}
 use Rattle.table.specs.declared.header.Header.{Header}
@@ -58,6 +59,18 @@ pub record RuleRead (table : List ℕ) (header : Header) (cells : Grid) : Type 0
   pub holds : cells ≡ held (rule .grid)
   pub well : WellFormed rule
   pub range : InRange (rule .states) (rule .letters) (rule .sets)
+
+-- the read table holds it
+pub read-holds : {table : List ℕ} {header : Header} {cells : Grid} (r : RuleRead table header cells) → HoldsRule (r .rule) header cells
+read-holds r = record {
+  numbers = r .numbers;
+  transitions = r .holds;
+  well = r .well;
+  states = r .range .states;
+  letters = r .range .letters;
+  some-set = r .range .some-set;
+  sets = r .range .sets;
+}
 
 module _ (table : List ℕ) (before after : Grid) (kept : after ≡ cellsAfter (readRule table) before) where
   pub reading-refused : (number : ℕ) → Refused number ≡ readingOf (readRule table) → readRule table ≡ refused number

@@ -12,8 +12,8 @@ use Rattle.table.specs.Held.{blankSquare, blankCells}
 use Rattle.table.specs.declared.cursor.Cursor.{Cursor}
 use Rattle.table.specs.declared.cursor.Next.{Next}
 use Rattle.table.specs.declared.cursor.Next.the-variants.{Byte, End}
-use Rattle.table.specs.declared.cursor.CellByte.{CellByte}
-use Rattle.table.specs.declared.cursor.CellByte.the-variants.{Byte as CellByte·Byte, Refused}
+use Rattle.table.specs.declared.cells.CellByte.{CellByte}
+use Rattle.table.specs.declared.cells.CellByte.the-variants.{Byte as CellByte·Byte, Refused}
 use Rattle.table.specs.declared.cells.Progress.{Progress}
 use Rattle.table.specs.declared.cells.Progress.the-variants.{At, Refused as Progress·Refused}
 

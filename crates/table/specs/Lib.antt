@@ -11,6 +11,7 @@ pub mod Theorems
 -- Inside: what the contracts of this crate's own functions cite.
 pub mod Header
 pub mod Held
+pub mod HeldRule
 pub mod Cursor
 pub mod Writing
 pub mod Lookup

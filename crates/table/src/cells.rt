@@ -1,19 +1,25 @@
 // Reading the cells of a table (questions 4 and 5) into arrays of arrays.
-use crate::cursor::CellByte;
 use crate::cursor::Cursor;
-use crate::cursor::read_byte;
+use crate::cursor::Next;
 use crate::limits::Cells;
 use crate::limits::NO_TRANSITION;
 use crate::limits::Row;
 use crate::limits::STATES;
 use crate::limits::Square;
+use crate::source::byte_at;
 ghost use mathlib.Core.Path.{_≡_};
 ghost use Prim.Native.Nat.{_^_, _<_, _≤_};
 ghost use lib.ListN.{drop};
 ghost use Rattle.table.specs.Limits.{maxLetters, maxStates};
-ghost use Rattle.table.specs.Table.{readCell, readRow};
+ghost use Rattle.table.specs.Table.{readByte, readCell, readRow};
 ghost use Rattle.table.specs.Held.{blankCells, blankSquare};
-ghost use Rattle.table.specs.Cursor.{progress, readHeld, readSquare};
+ghost use Rattle.table.specs.Cursor.{byteRead, progress, readHeld, readSquare};
+
+// A cell byte with the cursor behind it, or the number of the question that it fails.
+pub enum CellByte {
+    Byte(u8, Cursor),
+    Refused(u8),
+}
 
 // The cursor behind what was read, or the number of the question that failed.
 pub enum Progress {
@@ -25,6 +31,29 @@ pub enum Progress {
 pub struct RowRead {
     pub cells: Row,
     pub next: Progress,
+}
+
+fn widen(x: u8) -> u16
+    ensures { λ r. ⌜ r ≡ x ⌝ }
+{
+    x as u16
+}
+
+// Questions 4 and 5 at one cell byte, in which the bits below `width` may stand.
+fn read_byte(s: &[u8], c: Cursor, width: usize) -> CellByte
+    requires { ⌜ width < 16 ⌝ }
+    ensures { λ r. ⌜ byteRead (now (s .entry)) r ≡ readByte width (drop (c .at) (now (s .entry))) ⌝ }
+{
+    match byte_at(s, c.at) {
+        Next::End => CellByte::Refused(4),
+        Next::Byte(x, next) => {
+            if widen(x) < 1u16 << width {
+                CellByte::Byte(x, next)
+            } else {
+                CellByte::Refused(5)
+            }
+        }
+    }
 }
 
 // The set bytes of a cell, "as many as the map has standing bits, lowest bit first".

@@ -1,9 +1,6 @@
-// The cells of a table are read once, from front to back, by a cursor by value.
+// A place in the bytes of a table, by value, and what stands there.
 ghost use mathlib.Core.Path.{_≡_};
-ghost use Prim.Native.Nat.{_<_};
-ghost use lib.ListN.{drop};
-ghost use Rattle.table.specs.Table.{readByte};
-ghost use Rattle.table.specs.Cursor.{nextAt, byteRead};
+ghost use Rattle.table.specs.Cursor.{nextAt};
 
 // A place in the table's bytes.
 pub struct Cursor {
@@ -16,12 +13,6 @@ pub enum Next {
     End,
 }
 
-// A cell byte with the cursor behind it, or the number of the question that it fails.
-pub enum CellByte {
-    Byte(u8, Cursor),
-    Refused(u8),
-}
-
 impl Cursor {
     pub fn next(self, s: &[u8]) -> Next
         ensures { λ r. ⌜ r ≡ nextAt (now (s .entry)) (self .at) ⌝ }
@@ -31,29 +22,6 @@ impl Cursor {
             Next::Byte(s[at], Cursor { at: at + 1 })
         } else {
             Next::End
-        }
-    }
-}
-
-fn widen(x: u8) -> u16
-    ensures { λ r. ⌜ r ≡ x ⌝ }
-{
-    x as u16
-}
-
-// Questions 4 and 5 at one cell byte, in which the bits below `width` may stand.
-pub fn read_byte(s: &[u8], c: Cursor, width: usize) -> CellByte
-    requires { ⌜ width < 16 ⌝ }
-    ensures { λ r. ⌜ byteRead (now (s .entry)) r ≡ readByte width (drop (c .at) (now (s .entry))) ⌝ }
-{
-    match c.next(s) {
-        Next::End => CellByte::Refused(4),
-        Next::Byte(x, next) => {
-            if widen(x) < 1u16 << width {
-                CellByte::Byte(x, next)
-            } else {
-                CellByte::Refused(5)
-            }
         }
     }
 }

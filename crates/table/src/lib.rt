@@ -6,4 +6,5 @@ pub mod header;
 pub mod limits;
 pub mod lookup;
 pub mod reader;
+mod source;
 pub mod writer;

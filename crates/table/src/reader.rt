@@ -24,6 +24,7 @@ pub enum Reading {
 }
 
 // The reader's answer: 0 and the rule's numbers, or the number of the question that failed and zeros.
+#[repr(C)]
 pub struct ReadAnswer {
     pub number: u8,
     pub states: usize,

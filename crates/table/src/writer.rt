@@ -13,6 +13,7 @@ ghost use Rattle.table.specs.WriteCall.{tableAfter, writeAnswer, writeOu
 ghost use Rattle.table.specs.Writing.{counted, lengthOf, rowCells};
 
 // The writer's answer: 0 and the table's length, or the number of the question that failed and zero.
+#[repr(C)]
 pub struct WriteAnswer {
     pub number: u8,
     pub written: usize,

@@ -1,5 +1,4 @@
--- The calls, and the examples of document 01.
-pub mod Examples
+-- The calls.
 pub mod StartCall
 pub mod StepCall
 -- One letter in one pass over the rows.

@@ -14,6 +14,7 @@ ghost use Rattle.table.specs.Outcome.{refused};
 ghost use Rattle.tree.specs.TreeCalls.{startOutcome, startAnswer, startAfter, stepOutcome, stepAnswer, stepAfter};
 
 // 0 and the record's length, or the number of the question that failed and zero.
+#[repr(C)]
 pub struct StartAnswer {
     pub number: u8,
     pub written: usize,
@@ -21,6 +22,7 @@ pub struct StartAnswer {
 
 // 0, the new record's length, the accepting and the stable map by old node number; or the number of the question that
 // failed and zeros.
+#[repr(C)]
 pub struct StepAnswer {
     pub number: u8,
     pub written: usize,

@@ -2,9 +2,9 @@
 use borrow.Author.Needs.{needs}
 use native.Mathlib.Omega.{arith}
 use mathlib.Core.Path.{sym, _∙_}
-use Rattle.table.proofs.GridReading.{reading-refused, reading-rule}
+use Rattle.table.proofs.GridReading.{read-holds, reading-refused, reading-rule}
 use Rattle.plain.proofs.ScratchBytes.{scratch-length}
-use Rattle.plain.proofs.PlainCalls.{read-holds, read-judgeable, table-refused, walk-no, scratch-no, judged}
+use Rattle.plain.proofs.PlainCalls.{read-judgeable, table-refused, walk-no, scratch-no, judged}
 use Rattle.plain.proofs.judge.plain_judge.Statement.{statement}
 use Rattle.plain.proofs.judge.plain_judge.Tie as tie
 

@@ -10,7 +10,7 @@ use Rattle.table.proofs.cells.read_row.Statement.{statement}
 use Rattle.table.proofs.cells.read_row.Tie as tie
 use Rattle.table.proofs.cells.read_row.Reads as reads
 use Rattle.table.proofs.cells.read_row.Lts as lts
-use Rattle.table.proofs.cursor.read_byte.Reads as read-byte-reads
+use Rattle.table.proofs.cells.read_byte.Reads as read-byte-reads
 
 abbrev Inv-loop : tie.InvT-loop
 Inv-loop s standing k cells₀ at₀ rest₀ left₀ state₀ cells at rest left state =

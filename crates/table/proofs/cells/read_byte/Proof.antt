@@ -2,15 +2,15 @@
 use borrow.Author.Needs.{needs}
 use mathlib.Core.Path.{sym, _∙_}
 use Rattle.table.proofs.CellByte.{byte-missing, byte-accepted, byte-refused}
-use Rattle.table.proofs.cursor.read_byte.Statement.{statement}
-use Rattle.table.proofs.cursor.read_byte.Tie as tie
-use Rattle.table.proofs.cursor.read_byte.Reads as reads
-use Rattle.table.proofs.cursor.read_byte.Lts as lts
-use Rattle.table.proofs.cursor.Cursor.next.Reads as next-reads
-use Rattle.table.proofs.cursor.widen.Reads as widen-reads
+use Rattle.table.proofs.cells.read_byte.Statement.{statement}
+use Rattle.table.proofs.cells.read_byte.Tie as tie
+use Rattle.table.proofs.cells.read_byte.Reads as reads
+use Rattle.table.proofs.cells.read_byte.Lts as lts
+use Rattle.table.proofs.source.byte_at.Reads as byte-at-reads
+use Rattle.table.proofs.cells.widen.Reads as widen-reads
 
-next-requires : tie.Need-next-requires
-next-requires c κs = search needs
+byte-at-requires : tie.Need-byte-at-requires
+byte-at-requires c κs = search needs
 
 enum-told : tie.Need-enum-told
 enum-told c = search needs
@@ -28,23 +28,23 @@ shl-if1 : tie.Need-shl-if1
 shl-if1 c = search needs
 
 returns : tie.Need-returns
-returns c = byte-missing _ _ _ (sym (c .before .before .next .ensures) ∙ c .enum-told .given .1)
+returns c = byte-missing _ _ _ (sym (c .before .before .byte-at .ensures) ∙ c .enum-told .given .1)
 
 returns-2 : tie.Need-returns-2
 returns-2 c =
     let a = c .before .before .before .before .before in
-    byte-accepted _ _ _ _ _ _ (sym (a .next .ensures) ∙ c .before .before .before .x .given .1) (a .before .before .pre) (c .before .widen .ensures) (c .if1 .taken)
+    byte-accepted _ _ _ _ _ _ (sym (a .byte-at .ensures) ∙ c .before .before .before .x .given .1) (a .before .before .pre) (c .before .widen .ensures) (c .if1 .taken)
 
 returns-3 : tie.Need-returns-3
 returns-3 c =
     let a = c .before .before .before .before .before in
-    byte-refused _ _ _ _ _ _ (sym (a .next .ensures) ∙ c .before .before .before .x .given .1) (a .before .before .pre) (c .before .widen .ensures) (c .if1 .left)
+    byte-refused _ _ _ _ _ _ (sym (a .byte-at .ensures) ∙ c .before .before .before .x .given .1) (a .before .before .pre) (c .before .widen .ensures) (c .if1 .left)
 
 pub read-byte-spec : {M : Type 1} → statement M
 read-byte-spec =
     tie.close
     (tie.spec
-    next-requires
+    byte-at-requires
     enum-told
     enum-known-x
     widen-requires

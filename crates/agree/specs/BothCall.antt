@@ -1,0 +1,15 @@
+-- The call of both judges: what it answers, and what it leaves in the two lent buffers, for all inputs.
+use mathlib.Core.Path.{_≡_}
+use mathlib.Core.List.{List}
+use Prim.Native.Nat.{ℕ}
+use Rattle.treejudge.specs.JudgeCall.{treeOutcome, TreeAnswers}
+use Rattle.plain.specs.PlainCall.{plainOutcome, PlainAnswers, scratchAfter}
+use Rattle.agree.specs.Agreement.{Agreement}
+use Rattle.agree.specs.declared.both.BothAnswers.{BothAnswers}
+
+-- each judge answers, and leaves its own buffer, exactly as its own contract says, and the two agree
+pub record BothAnswer (table u v names scratch : List ℕ) (answers : BothAnswers) (names′ scratch′ : List ℕ) : Type 0 where
+  pub tree : TreeAnswers (treeOutcome table u v names) u v names (answers .tree) names′
+  pub plain : PlainAnswers (plainOutcome table u v scratch) u v (answers .plain)
+  pub clears : scratch′ ≡ scratchAfter (plainOutcome table u v scratch) scratch
+  pub agreement : Agreement table u v names scratch (answers .tree) (answers .plain)

@@ -1,0 +1,2 @@
+// Both judges side by side, and their agreement: demand 3.
+pub mod both;

@@ -1,0 +1,142 @@
+-- The search for the period (Brent), as the loop of `find_cycle` makes it.
+use mathlib.Core.Path.{_≡_, _∙_, ap}
+use mathlib.Core.Bool.{true, false}
+use mathlib.Core.List.{List, _++_}
+use Prim.Native.Nat.{ℕ, _+_, _-_, _^_, _≤_, _<_}
+use native.Mathlib.Omega.{arith}
+use lib.ListN.{take}
+use Rattle.table.specs.Limits.{maxStates}
+use Rattle.table.specs.Rule.{Rule}
+use Rattle.word.specs.Walk.{rounds}
+use Rattle.word.proofs.Paths.{rounds-add, rounds-one}
+use Rattle.history.specs.Rounds.{readLetters, roundTree, FirstRepeat}
+use Rattle.history.proofs.TreesOfWalk.{round-next}
+use Rattle.history.proofs.RepeatExists.{repeat-exists}
+use Rattle.history.proofs.CycleVerdict.{read-rounds}
+use Rattle.history.proofs.CycleFinding.{BrentSoFar, Skips, brent-start, none-skips, brent-more, brent-reset, reset-skips}
+use Rattle.history.proofs.CycleFinding.{brent-found, lam-steps, power-doubles, brent-measure}
+use Rattle.treejudge.specs.Names.{Follows, FollowsOn, FollowsTo, begunAt}
+use Rattle.treejudge.specs.SameRows.{sameRows}
+use Rattle.treejudge.specs.Cycles.{AtRound, CycleOf}
+use Rattle.treejudge.specs.declared.letters.CountedRows.{CountedRows}
+use Rattle.treejudge.specs.declared.follow.Followed.{Followed}
+use Rattle.treejudge.proofs.NamesFollowed.{begun-follows}
+use Rattle.treejudge.proofs.RoundsRead.{both-small, rows-same, rows-differ}
+
+-- one round more
+rounds-more : (r : ℕ) (v : List ℕ) → rounds (r + 1) v ≡ rounds r v ++ v
+rounds-more r v = rounds-add r 1 v ∙ ap (rounds r v ++_) (rounds-one v)
+
+-- at the head of the loop: x is t(power − 1), y is t(half − 1), and lam rounds were followed from x on
+pub record Searching (R : Rule) (u v : List ℕ) (tables : List (List (List ℕ))) (k : ℕ) (x y : CountedRows) (half power lam : ℕ)
+    (now : Followed) : Type 0 where
+  pub held : AtRound R u v tables k (power - 1) x
+  pub before : AtRound R u v tables k (half - 1) y
+  pub below : half < power
+  pub brent : BrentSoFar (roundTree R u v) power lam
+  pub skips : Skips (roundTree R u v) half
+  pub follows : Follows R (roundTree R u v (power - 1)) (rounds lam v) now
+
+-- t(0) is held first
+pub search-start : {R : Rule} {u v : List ℕ} {tables : List (List (List ℕ))} {k : ℕ} {first : CountedRows}
+    → AtRound R u v tables k 0 first → Searching R u v tables k first first 0 1 0 (begunAt first)
+unfolding rounds
+search-start {R} {u} {v} A = record {
+  held = A;
+  before = A;
+  below = omega arith;
+  brent = brent-start (roundTree R u v);
+  skips = none-skips (roundTree R u v);
+  follows = begun-follows R _ _ (A .tree);
+}
+
+module _ {R : Rule} {u v : List ℕ} {tables : List (List (List ℕ))} {k : ℕ} {x y : CountedRows} {half power lam : ℕ} {now : Followed}
+    (S : Searching R u v tables k x y half power lam now) where
+  -- a round is followed from there
+  pub search-follows : FollowsOn R (roundTree R u v (power - 1)) (rounds lam v) tables k v now
+  search-follows = record { holds = S .held .holds; below = S .held .below; follows = S .follows }
+
+  -- there are fewer than 2 ^ 63 trees
+  repeat : (entry : ℕ) × (period : ℕ) × FirstRepeat (roundTree R u v) entry period × (entry + period < 2 ^ 63)
+  repeat = let H = S .held .holds in repeat-exists R (H .well) (H .some-set) (H .states) (H .sets) u v
+
+  -- so lam fits, and the loop ends
+  pub lam-fits : lam + 1 < 2 ^ 64
+  lam-fits =
+      let (e, p, F, small) = repeat in lam-steps (roundTree R u v) (readLetters R v) (round-next R u v) e p F small power lam (S .brent)
+
+  pub search-measure : power + lam < 2 ^ 65
+  search-measure =
+      let (e, p, F, small) = repeat in brent-measure (roundTree R u v) (readLetters R v) (round-next R u v) e p F small power lam (S .brent)
+
+  module _ (next : Followed) {reached : CountedRows} (on : FollowsTo tables k v now next)
+      (is : reached ≡ record { rows = next .rows; count = next .count }) where
+    -- it leads to the tree one round further
+    followed : Follows R (roundTree R u v (power - 1)) (rounds (lam + 1) v) next
+    unfolding FollowsTo
+    followed = rw rounds-more (on R _ _ search-follows)
+
+    there : AtRound R u v tables k (power - 1 + (lam + 1)) reached
+    there = record {
+      holds = S .held .holds;
+      below = S .held .below;
+      tree = rw (is, ← read-rounds R u v (lam + 1) (power - 1)) (followed .tree);
+    }
+
+    -- the held tree and the one reached can be compared
+    pub search-small : (x .count ≤ maxStates) × (reached .count ≤ maxStates)
+    search-small = both-small (S .held) there
+
+    -- where they are the same, the cycle is found
+    pub search-found : sameRows (take (x .count) (x .rows)) (take (reached .count) (reached .rows)) ≡ true
+        → (entry period : ℕ) → FirstRepeat (roundTree R u v) entry period
+        → CycleOf R u v entry period
+        (record { held = x; before = y; half = half; power = power; period = lam + 1; accepted = next .accepted })
+    search-found same entry period F =
+        let (back, late) = brent-found (roundTree R u v) (readLetters R v) (round-next R u v) entry period F power lam (S .brent)
+        (rows-same (S .held) there same) in
+        record {
+          held = S .held .tree;
+          before = S .before .tree;
+          below = S .below;
+          back = back;
+          late = late;
+          skips = S .skips entry period F;
+          accepted = rw (← back) (followed .accepted);
+        }
+
+    module _ (differ : sameRows (take (x .count) (x .rows)) (take (reached .count) (reached .rows)) ≡ false) where
+      apart : roundTree R u v (power - 1) ≡ roundTree R u v (power - 1 + (lam + 1)) → ⊥
+      apart = rows-differ (S .held) there differ
+
+      -- otherwise the search goes on
+      pub search-more : (lam + 1 ≡ power → ⊥) → Searching R u v tables k x y half power (lam + 1) next
+      search-more more = record {
+        held = S .held;
+        before = S .before;
+        below = S .below;
+        brent = brent-more (roundTree R u v) power lam (S .brent) apart more;
+        skips = S .skips;
+        follows = followed;
+      }
+
+      -- or holds the tree reached
+      module _ (full : lam + 1 ≡ power) where
+        pub power-fits : power + power < 2 ^ 64
+        power-fits =
+            let (e, p, F, small) = repeat in
+            power-doubles (roundTree R u v) (readLetters R v) (round-next R u v) e p F small power lam (S .brent) apart full
+
+        pub search-reset : Searching R u v tables k reached x power (power + power) 0 (begunAt reached)
+        unfolding rounds
+        search-reset =
+            let e : power - 1 + (lam + 1) ≡ power + power - 1 = omega (arith, S .below) in
+            let A : AtRound R u v tables k (power + power - 1) reached = rw e at there in
+            record {
+              held = A;
+              before = S .held;
+              below = omega (arith, S .below);
+              brent = brent-reset (roundTree R u v) (readLetters R v) (round-next R u v) power lam (S .brent) apart full;
+              skips = reset-skips (roundTree R u v) (readLetters R v) (round-next R u v) power lam (S .brent) apart full;
+              follows = begun-follows R _ _ (A .tree);
+            }

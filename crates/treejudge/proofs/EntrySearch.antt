@@ -1,0 +1,98 @@
+-- The search for the entry, with the period known: two places that are a period apart go forward together, towards the entry.
+use mathlib.Core.Path.{_≡_}
+use mathlib.Core.Bool.{true, false}
+use mathlib.Core.List.{List}
+use Prim.Native.Nat.{ℕ, _+_, _-_, _≤_, _<_}
+use native.Mathlib.Omega.{arith}
+use native.Mathlib.Decide.{ℕ-discrete}
+use lib.ListN.{take}
+use Rattle.table.specs.Limits.{maxStates}
+use Rattle.table.specs.Rule.{Rule}
+use Rattle.history.specs.Rounds.{readLetters, roundTree}
+use Rattle.history.proofs.TreesOfWalk.{round-next}
+use Rattle.history.proofs.FirstRepeats.{repeat-only}
+use Rattle.treejudge.specs.Reading.{ReadsTo}
+use Rattle.treejudge.specs.SameRows.{sameRows}
+use Rattle.treejudge.specs.Cycles.{AtRound, Ahead, Bracket, Searched}
+use Rattle.treejudge.specs.declared.letters.CountedRows.{CountedRows}
+use Rattle.treejudge.specs.declared.cycle.Cycle.{Cycle}
+use Rattle.treejudge.proofs.RoundsRead.{round-read, rounds-read, both-small, rows-same, rows-differ}
+
+module _ {R : Rule} {u v : List ℕ} {tables : List (List (List ℕ))} {k entry period place high : ℕ} {x y : CountedRows}
+    (N : Bracket R u v tables k entry period place high x y) where
+  -- the two trees can be compared
+  pub trees-small : (x .count ≤ maxStates) × (y .count ≤ maxStates)
+  trees-small = both-small (N .place) (N .ahead)
+
+  -- where they are the same, the place is the entry
+  pub entry-here : sameRows (take (x .count) (x .rows)) (take (y .count) (y .rows)) ≡ true → place ≡ entry
+  entry-here same =
+      let F = N .repeat in
+      let (late, _) = repeat-only (roundTree R u v) (readLetters R v) (round-next R u v) entry period F place (place + period)
+      (omega (arith, F .positive)) (rows-same (N .place) (N .ahead) same) in
+      omega (arith, N .from)
+
+  module _ (differ : sameRows (take (x .count) (x .rows)) (take (y .count) (y .rows)) ≡ false) where
+    -- otherwise the entry is later
+    pub entry-later : place + 1 ≤ entry
+    entry-later = go (ℕ-discrete place entry)
+      where
+        go : Dec (place ≡ entry) → place + 1 ≤ entry
+        go (yes e) = absurd (rows-differ (N .place) (N .ahead) differ (rw e (N .repeat .back)))
+        go (no e) = omega (arith, N .from)
+
+    -- and both places go forward
+    pub bracket-more : {x′ y′ : CountedRows} → ReadsTo tables k v x x′ → ReadsTo tables k v y y′
+        → Bracket R u v tables k entry period (place + 1) high x′ y′
+    bracket-more read read-ahead =
+        let e : place + period + 1 ≡ place + 1 + period = omega arith in
+        record {
+          place = round-read (N .place) read;
+          ahead = rw e at (round-read (N .ahead) read-ahead);
+          repeat = N .repeat;
+          from = entry-later;
+          upto = N .upto;
+        }
+
+-- WHERE THE SEARCH BEGINS
+
+module _ {R : Rule} {u v : List ℕ} {tables : List (List (List ℕ))} {k entry period : ℕ} {first : CountedRows} {c : Cycle}
+    (S : Searched R u v tables k entry period first c) where
+  -- the tree that was held before
+  pub before-place : AtRound R u v tables k (c .half - 1) (c .before)
+  before-place = record { holds = S .place .holds; below = S .place .below; tree = S .cycle .before }
+
+  -- at t(0), with t(period) read from there
+  pub bracket-first : c .half < c .period → (left : ℕ) → left ≡ c .period - (c .half - 1) → {y : CountedRows}
+      → Ahead tables k v left (c .before) y → Bracket R u v tables k entry (c .period) 0 (c .power - 1) first y
+  bracket-first long left is on =
+      let e : c .half - 1 + left ≡ 0 + c .period = omega arith in
+      record {
+        place = S .place;
+        ahead = rw e at (rounds-read before-place left on);
+        repeat = rw (S .cycle .back) (S .repeat);
+        from = omega arith;
+        upto = S .cycle .late;
+      }
+
+  module _ (short : c .period ≤ c .half) where
+    -- a period no longer than `half` begins at t(half) or later
+    pub entry-from-half : c .half ≤ entry
+    entry-from-half = S .cycle .skips (omega (arith, S .cycle .back))
+
+    module _ {x : CountedRows} (read : ReadsTo tables k v (c .before) x) where
+      pub half-place : AtRound R u v tables k (c .half) x
+      half-place = let e : c .half - 1 + 1 ≡ c .half = omega (arith, S .repeat .positive, S .cycle .back) in
+          rw e at (round-read before-place read)
+
+      -- so the search may begin there
+      pub bracket-half : {y : CountedRows} → Ahead tables k v (c .period) x y
+          → Bracket R u v tables k entry (c .period) (c .half) (c .power - 1) x y
+      bracket-half on =
+          record {
+            place = half-place;
+            ahead = rounds-read half-place (c .period) on;
+            repeat = rw (S .cycle .back) (S .repeat);
+            from = entry-from-half;
+            upto = S .cycle .late;
+          }

@@ -1,0 +1,68 @@
+-- The examples of document 01 that are marked P: one theorem for the list. Each row is computed: a record or a step by itself, a verdict by
+-- a test that decides it.
+use mathlib.Core.Path.{_≡_, refl}
+use mathlib.Core.Bool.{Bool, true, _&&_}
+use mathlib.Core.List.{List}
+use Prim.Native.Nat.{ℕ}
+use borrow.Author.Tests.{leb-true}
+use lib.Count.{ones, onesIn}
+use lib.Dec.{leb}
+use lib.ListN.{length, replicate}
+use Rattle.table.specs.BitSet.{member, minus, collect, some}
+use Rattle.table.specs.Outcome.{accepted}
+use Rattle.table.specs.Rule.{Rule, cellAt, edge, edgeIn, image, successors, successorsIn}
+use Rattle.table.specs.Table.{Every, inRange, startFits, askHeader, readByte, readTransition, readRow, readCell, readMany, readGrid, ended, readBody, readRule}
+use Rattle.table.proofs.Every.{every-weaker}
+use Rattle.table.proofs.Logic.{and-in}
+use Rattle.word.specs.Walk.{lengthsFit, lettersBelow, askWalk}
+use Rattle.history.specs.Forest.{size, change, listing, namedFrom, named, names, sameNumbers}
+use Rattle.history.specs.Tree.{labels, disjoint, strictlyInside, nodesFit, isTree, startTree}
+use Rattle.history.specs.Letter.{begun, succeeded, youngest, child, sprouting, separated, grownLabels, nextSet, kept, pruned, survivors, nextTree}
+use Rattle.history.specs.Letter.{isOld, anyOf, accepting, stable, byNumber, acceptingMap, stableMap}
+use Rattle.history.specs.Record.{hostFrom, host, membersFrom, members, marks, recordOf, rank, hostedIn, planted, decoded, isRecord, readTree}
+use Rattle.history.specs.Finding.{Finding}
+use Rattle.history.proofs.VerdictTest.{verdictTest, verdict-by-test, ruleTest, rule-by-test}
+use Rattle.tree.specs.TreeCalls.{recordRoom, startOutcome, stepOutcome}
+use Rattle.treejudge.specs.JudgeCall.{nameRoom, treeOutcome}
+use Rattle.treejudge.specs.Examples.{Example, starts, steps, judges, Holds, tableA, tableB, tableC, examples}
+
+-- is the walk accepted, and are these its entry, its period and the finding?
+rowTest : List ℕ → List ℕ → List ℕ → ℕ → ℕ → Finding → Bool
+unfolding ruleTest verdictTest lengthsFit lettersBelow
+rowTest table u v entry period finding =
+    lengthsFit u v && ruleTest (λ R. (lettersBelow (R .letters) u && lettersBelow (R .letters) v) && verdictTest R u v entry period finding) table
+
+-- all questions are answered yes
+call-accepted : (table u v : List ℕ) (R : Rule) → readRule table ≡ accepted R → lengthsFit u v ≡ true
+    → (lettersBelow (R .letters) u && lettersBelow (R .letters) v) ≡ true → treeOutcome table u v (replicate nameRoom 0) ≡ accepted R
+unfolding treeOutcome askWalk
+call-accepted table u v R reads fit below = rw (reads, fit, below)
+
+row-holds : (table u v : List ℕ) (entry period : ℕ) (finding : Finding) → rowTest table u v entry period finding ≡ true
+    → Holds (judges table u v entry period finding)
+unfolding rowTest lengthsFit
+row-holds table u v entry period finding h =
+    let (fit, h′) = and-in (lengthsFit u v) _ h in
+    let (_, tail) = and-in (leb (length u) _) _ fit in
+    let (filled, _) = and-in (leb 1 (length v)) _ tail in
+    let (R, reads, passes) = rule-by-test _ table h′ in
+    let (below, judged) = and-in (lettersBelow (R .letters) u && lettersBelow (R .letters) v) _ passes in
+    let (repeats, found) = verdict-by-test R u v entry period finding (leb-true 1 (length v) filled) judged in
+    (R, call-accepted table u v R reads fit below, repeats, found)
+
+-- what is computed of a row, and that the row then holds
+abbrev Computes : Example → Type 0
+Computes (starts table bytes) = startOutcome table (replicate recordRoom 0) ≡ accepted bytes
+Computes (steps table a bytes outcome) = stepOutcome table a bytes (replicate recordRoom 0) ≡ outcome
+Computes (judges table u v entry period finding) = rowTest table u v entry period finding ≡ true
+
+computed-holds : (x : Example) → Computes x → Holds x
+computed-holds (starts table bytes) h = h
+computed-holds (steps table a bytes outcome) h = h
+computed-holds (judges table u v entry period finding) h = row-holds table u v entry period finding h
+
+-- every row holds
+pub examples-hold : Every Holds examples
+unfolding ones onesIn member minus collect some cellAt edge edgeIn image successors successorsIn inRange startFits askHeader readByte readTransition readRow readCell readMany readGrid ended readBody readRule size change listing namedFrom named names sameNumbers labels disjoint strictlyInside nodesFit isTree startTree begun succeeded youngest child sprouting separated grownLabels nextSet kept pruned survivors nextTree isOld anyOf accepting stable byNumber acceptingMap stableMap hostFrom host membersFrom members marks recordOf rank hostedIn planted decoded isRecord readTree startOutcome stepOutcome rowTest tableA tableB tableC examples
+examples-hold = every-weaker Computes Holds examples computed-holds
+    (refl, (refl, (refl, (refl, (refl, (refl, (refl, (refl, (refl, (refl, (refl, (refl, tt))))))))))))

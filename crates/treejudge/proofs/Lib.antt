@@ -1,0 +1,15 @@
+-- What the contract says, the examples of document 01, and the public call.
+pub mod TreeVerdict
+pub mod Examples
+pub mod JudgeCalls
+pub mod Judging
+-- Reading letters, and following names through them.
+pub mod LettersRead
+pub mod NamesFollowed
+-- Finding the first repeat: rounds read and compared, the search for the period, the search for the entry.
+pub mod SameTrees
+pub mod RoundsRead
+pub mod CycleSearch
+pub mod EntrySearch
+-- The name of a node.
+pub mod NodeNames

@@ -1,0 +1,160 @@
+-- Following nodes by their names: the map of old numbers carried to the new ones, the maps before the first letter, and those after
+-- the letters read so far.
+use mathlib.Core.Path.{_≡_, refl, sym, _∙_, ap}
+use mathlib.Core.Bool.{true, false, and-false}
+use mathlib.Core.List.{List, [], _∷_, _++_, map, append-nil, append-assoc}
+use Prim.Native.Nat.{ℕ, _+_, _*_, _-_, _%_, _^_, _≤_, _<_}
+use native.Mathlib.Nat.{one-mul}
+use native.Mathlib.Numerals.{add-one}
+use native.Mathlib.Omega.{arith}
+use lib.Bits.{bitOr, or-zero-r}
+use lib.ListN.{length, getD, take, length-map, List·getD-map}
+use lib.Pow.{shl-exact}
+use lib.Seq.{length-take-le, take-suc, take-all, getD-take}
+use Rattle.table.specs.Limits.{maxStates}
+use Rattle.table.specs.BitSet.{member, collect}
+use Rattle.table.specs.Rule.{Rule}
+use Rattle.table.proofs.BitSet.{member-none, member-lt, empty-set, member-collect, collect-ext}
+use Rattle.table.proofs.Every.{every-at}
+use Rattle.table.proofs.Logic.{never}
+use Rattle.table.proofs.LookupSteps.{collect-more}
+use Rattle.history.specs.Tree.{Tree}
+use Rattle.history.specs.Rounds.{readLetters}
+use Rattle.history.specs.OldNumbers.{noNode}
+use Rattle.history.specs.Following.{carried}
+use Rattle.history.proofs.FollowingLaws.{follow-none, follow-kept, follow-accepted}
+use Rattle.history.proofs.TreesOfWalk.{read-append}
+use Rattle.tree.specs.Pass.{blankRow, SetsFit, steppedRows}
+use Rattle.tree.specs.declared.rows.Row.{Row}
+use Rattle.tree.specs.declared.rows.Stepped.{Stepped}
+use Rattle.treejudge.specs.Reading.{HoldsTables, HoldsTree, Readable}
+use Rattle.treejudge.specs.Names.{followedBy, begunAt, Follows, FollowsOn, Followable, FollowsTo}
+use Rattle.treejudge.specs.declared.letters.CountedRows.{CountedRows}
+use Rattle.treejudge.specs.declared.follow.Followed.{Followed}
+use Rattle.treejudge.proofs.LettersRead.{tree-small, letter-ready, letter-steps, letter-holds}
+
+-- A MAP CARRIED TO THE NEW NUMBERS
+
+-- the map of one number, within a width
+pub one-shifted : (width j : ℕ) → j < width → 1 * 2 ^ j % 2 ^ width ≡ 2 ^ j
+one-shifted width j h = shl-exact 1 j width (omega arith) (omega arith) ∙ one-mul (2 ^ j)
+
+-- a number past the width is in no map
+pub not-far : (width nodes old : ℕ) → nodes < 2 ^ width → width ≤ old → member nodes old ≡ false
+not-far width nodes old small far = never (member nodes old) (λ m. omega (arith, member-lt width nodes old small m))
+
+-- the empty map
+pub carried-none : (olds : List ℕ) → carried olds 0 ≡ 0
+unfolding carried
+carried-none olds = empty-set _ (λ q. member-collect (length olds) _ q ∙ rw (member-none, and-false))
+
+-- the first j rows whose old numbers are in a map
+unfoldable pub carriedTo : List Row → ℕ → ℕ → ℕ
+carriedTo rows nodes j = collect j (λ i. member nodes (getD rows i blankRow .old))
+
+-- none yet
+pub carried-start : (rows : List Row) (nodes : ℕ) → 0 ≡ carriedTo rows nodes 0
+unfolding carriedTo collect
+carried-start rows nodes = refl
+
+module _ (rows : List Row) (nodes j new : ℕ) (so-far : new ≡ carriedTo rows nodes j) where
+  -- one row more: its old number is in the map
+  pub carried-in : member nodes (getD rows j blankRow .old) ≡ true → bitOr new (2 ^ j) ≡ carriedTo rows nodes (j + 1)
+  unfolding carriedTo
+  carried-in h = rw (add-one, so-far) (sym (collect-more j _ ∙ rw h))
+
+  -- or is not
+  pub carried-out : member nodes (getD rows j blankRow .old) ≡ false → new ≡ carriedTo rows nodes (j + 1)
+  unfolding carriedTo
+  carried-out h = rw (add-one, so-far) (sym (collect-more j _ ∙ rw h (or-zero-r _)))
+
+-- all rows
+pub carried-all : (rows : List Row) (nodes count : ℕ) → count ≤ length rows
+    → carriedTo rows nodes count ≡ carried (map (λ x. x .old) (take count rows)) nodes
+unfolding carried carriedTo
+carried-all rows nodes count h =
+    let olds : List ℕ = map (λ (x : Row). x .old) (take count rows) in
+    let many : length olds ≡ count = length-map (take count rows) (λ (x : Row). x .old) ∙ length-take-le count rows h in
+    sym (ap (λ (n : ℕ). collect n (λ i. member nodes (getD olds i 0))) many
+    ∙ collect-ext count _ _ (λ i l. ap (member nodes) (List·getD-map (λ (x : Row). x .old) (take count rows) i blankRow
+    ∙ ap (λ (x : Row). x .old) (getD-take count rows i blankRow l))))
+
+-- BEFORE THE FIRST LETTER
+
+-- all nodes of a tree have kept their names, and none was accepting
+pub begun-follows : (R : Rule) (T : Tree) (x : CountedRows) → HoldsTree R T x → Follows R T [] (begunAt x)
+unfolding begunAt readLetters
+begun-follows R T x tree = let (kept, accepted) = follow-none R T in record {
+  first = tree .fits;
+  tree = tree;
+  kept = ap (λ (n : ℕ). 2 ^ n - 1) (tree .nodes) ∙ sym kept;
+  accepted = sym accepted;
+}
+
+-- ONE LETTER
+
+module _ (R : Rule) (T : Tree) (before : List ℕ) (tables : List (List (List ℕ))) (k : ℕ) (holds : HoldsTables R tables k)
+    (x : Followed) (v : Follows R T before x) (a : ℕ) (less : a < R .letters)
+    (next : Stepped) (is : next ≡ steppedRows (getD tables a []) k (take (x .count) (x .rows))) where
+  -- it carries both maps to the new numbers
+  pub letter-follows : Follows R T (before ++ (a ∷ [])) (followedBy next (x .kept) (x .accepted))
+  unfolding followedBy readLetters
+  letter-follows =
+      let few : R .states < noNode = omega (arith, holds .states) in
+      let s = letter-steps R (readLetters R before T) tables k holds (x .rows) (x .count) (v .tree) a less next is in
+      record {
+        first = v .first;
+        tree = rw read-append (letter-holds R (readLetters R before T) tables k holds (x .rows) (x .count) (v .tree) a less next is);
+        kept = rw (s .olds, s .stable, v .kept) (sym (follow-kept R (holds .well) (holds .some-set) few T (v .first) before a));
+        accepted = rw (s .olds, s .stable, s .accepting, v .kept, v .accepted)
+            (sym (follow-accepted R (holds .well) (holds .some-set) few T (v .first) before a));
+      }
+
+  -- and from its answer the next one can be read
+  pub letter-few : next .count ≤ maxStates
+  letter-few = tree-small R _ _ (holds .states)
+      (letter-holds R (readLetters R before T) tables k holds (x .rows) (x .count) (v .tree) a less next is)
+
+-- LETTER BY LETTER
+
+-- the followed nodes y after the first `at` letters of w, read from x on
+pub record FollowedUpTo (tables : List (List (List ℕ))) (k : ℕ) (w : List ℕ) (x : Followed) (at : ℕ) (y : Followed) : Type 0 where
+  pub upto : at ≤ length w
+  pub names : (R : Rule) (T : Tree) (before : List ℕ) → FollowsOn R T before tables k w x → Follows R T (before ++ take at w) y
+
+module _ (tables : List (List (List ℕ))) (k : ℕ) (w : List ℕ) (x : Followed) where
+  -- the letters can be read
+  pub followed-reads : Followable tables k w x → Readable tables k w (record { rows = x .rows; count = x .count })
+  unfolding Followable Readable
+  followed-reads (R, T, before, v) =
+      (R, readLetters R before T, record { holds = v .holds; below = v .below; tree = v .follows .tree })
+
+  -- at the start, and at the end
+  pub followed-none : FollowedUpTo tables k w x 0 x
+  followed-none = record { upto = omega arith; names = λ R T before v. rw append-nil (v .follows) }
+
+  pub followed-all : (at : ℕ) (y : Followed) → FollowedUpTo tables k w x at y → length w ≤ at → FollowsTo tables k w x y
+  unfolding FollowsTo
+  followed-all at y v h R T before on = rw (take-all at w h) at (v .names R T before on)
+
+  module _ (at : ℕ) (y : Followed) (v : FollowedUpTo tables k w x at y) where
+    -- the next letter can be read
+    pub followed-ready : Followable tables k w x → (y .count ≤ maxStates) × SetsFit (take (y .count) (y .rows))
+    unfolding Followable
+    followed-ready (R, T, before, on) = letter-ready R _ tables k (on .holds) (y .rows) (y .count) (v .names R T before on .tree)
+
+    module _ (h : at < length w)
+        (next : Stepped) (is : next ≡ steppedRows (getD tables (getD w at 0) []) k (take (y .count) (y .rows))) where
+      -- and leads on
+      pub followed-few : Followable tables k w x → next .count ≤ maxStates
+      unfolding Followable
+      followed-few (R, T, before, on) = letter-few R T (before ++ take at w) tables k (on .holds) y (v .names R T before on)
+          (getD w at 0) (every-at (λ a. a < R .letters) w at 0 (on .below) h) next is
+
+      pub followed-more : FollowedUpTo tables k w x (at + 1) (followedBy next (y .kept) (y .accepted))
+      followed-more = record {
+        upto = omega arith;
+        names = λ R T before on. rw (add-one, take-suc w at 0 h, ← append-assoc)
+            (letter-follows R T (before ++ take at w) tables k (on .holds) y (v .names R T before on)
+            (getD w at 0) (every-at (λ a. a < R .letters) w at 0 (on .below) h) next is);
+      }

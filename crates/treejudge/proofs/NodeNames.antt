@@ -1,0 +1,190 @@
+-- The name of a tree's node, found from the depths of the rows, and the lowest node of a map.
+use mathlib.Core.Path.{_≡_, refl, sym, _∙_, ap}
+use mathlib.Core.Bool.{false}
+use mathlib.Core.List.{List, [], _∷_, _++_, map, map-map, map-append}
+use Prim.Native.Nat.{ℕ, suc, _+_, _-_, _/_, _%_, _^_, _≤_, _<_}
+use native.Mathlib.Omega.{arith}
+use native.Mathlib.Numerals.{add-one}
+use native.Mathlib.Decide.{decLt}
+use borrow.Author.Tests.{eq-eqb, ne-eqb}
+use lib.ListN.{length, getD, take, set, length-take, length-set, List·getD-map}
+use lib.Seq.{getD-take, take-take, take-suc-set, length-take-le}
+use Rattle.table.specs.BitSet.{member}
+use Rattle.table.specs.Limits.{maxStates}
+use Rattle.table.specs.Rule.{Rule}
+use Rattle.history.specs.Forest.{nil, node, size, names}
+use Rattle.history.specs.NamesByDepth.{depthsFrom, depths, nameAfter}
+use Rattle.history.specs.Tree.{Tree}
+use Rattle.history.proofs.NamesByDepth.{after-deeper, after-beside, name-root, name-next, name-depth, depth-next, name-small}
+use Rattle.tree.specs.Rows.{rowsFrom, rowsOf, withoutOld}
+use Rattle.tree.specs.Pass.{blankRow}
+use Rattle.tree.specs.declared.rows.Row.{Row}
+use Rattle.treejudge.specs.JudgeCall.{nameRoom}
+use Rattle.treejudge.specs.NodeNames.{Lowest, SomeNode, IsName}
+use Rattle.treejudge.specs.Reading.{HoldsTree}
+use Rattle.treejudge.specs.declared.letters.CountedRows.{CountedRows}
+use Rattle.treejudge.proofs.LettersRead.{tree-small}
+
+-- THE LOWEST NODE
+
+-- the numbers below j are no members
+pub record NoneBefore (map j : ℕ) : Type 0 where
+  pub upto : j ≤ maxStates
+  pub none : (i : ℕ) → i < j → member map i ≡ false
+
+pub none-start : (map : ℕ) → NoneBefore map 0
+none-start map = record { upto = omega arith; none = λ i h. absurd (omega arith) }
+
+module _ {map j : ℕ} (v : NoneBefore map j) where
+  pub none-next : j < maxStates → map / 2 ^ j % 2 ≡ 0 → NoneBefore map (j + 1)
+  unfolding member
+  none-next h e = record { upto = omega arith; none = λ i l. go i l (decLt i j) }
+    where
+      go : (i : ℕ) → i < j + 1 → Dec (i < j) → member map i ≡ false
+      go i l (yes h) = v .none i h
+      go i l (no h) = let same : i ≡ j = omega arith in rw same (ne-eqb (map / 2 ^ j % 2) 1 (λ z. omega arith))
+
+  pub lowest-here : (map / 2 ^ j % 2 ≡ 0 → ⊥) → Lowest map j
+  unfolding member
+  lowest-here e = record { none-before = v .none; here = λ _. eq-eqb (map / 2 ^ j % 2) 1 (omega arith) }
+
+  pub lowest-none : maxStates ≤ j → Lowest map j
+  lowest-none h = record { none-before = v .none; here = λ l. absurd (omega arith) }
+
+-- DEPTHS
+
+depths-of-rows : (d : ℕ) (F : Tree) → map (λ x. x .depth) (rowsFrom d F) ≡ depthsFrom d F
+unfolding rowsFrom depthsFrom
+depths-of-rows d nil = refl
+depths-of-rows d (node x below younger) =
+    rw (map-append (λ x. x .depth) (rowsFrom (suc d) below) (rowsFrom d younger), depths-of-rows (suc d) below, depths-of-rows d younger)
+
+abbrev rowDepth : CountedRows → ℕ → ℕ
+rowDepth x i = getD (x .rows) i blankRow .depth
+
+-- a row has the depth of its node
+depth-at : (R : Rule) (T : Tree) (x : CountedRows) → HoldsTree R T x → (i : ℕ) → i < x .count → rowDepth x i ≡ getD (depths T) i 0
+unfolding depths rowsOf
+depth-at R T x held i h =
+    let rows = take (x .count) (x .rows) in
+    ap (λ (r : Row). r .depth) (sym (getD-take (x .count) (x .rows) i blankRow h))
+    ∙ sym (List·getD-map (λ (r : Row). r .depth) rows i blankRow)
+    ∙ ap (λ (l : List ℕ). getD l i 0) (sym (map-map (λ (r : Row). r .depth) withoutOld rows)
+    ∙ ap (map (λ (r : Row). r .depth)) (held .are) ∙ depths-of-rows 0 T)
+
+-- ONE NAME BEHIND ANOTHER, IN PLACE
+
+module _ (numbers : List ℕ) (long d : ℕ) (low : 1 ≤ d) (room : d ≤ length numbers) where
+  -- the numbers above the depth are kept
+  kept : (x : ℕ) → d ≤ suc long → take d (set numbers (d - 1) x) ≡ take (d - 1) (take long numbers) ++ (x ∷ [])
+  kept x h = let e : d ≡ suc (d - 1) = omega arith in
+      ap (λ (c : ℕ). take c (set numbers (d - 1) x)) e ∙ take-suc-set numbers (d - 1) x (omega arith)
+      ∙ ap (λ (l : List ℕ). l ++ (x ∷ [])) (sym (take-take (d - 1) long numbers (omega arith)))
+
+  put-deeper : long < d → d ≤ suc long → take d (set numbers (d - 1) 0) ≡ nameAfter (take long numbers) d
+  put-deeper h g = kept 0 g ∙ sym (after-deeper (take long numbers) d low (omega (arith, length-take long numbers)))
+
+  put-beside : d ≤ long → long ≤ length numbers
+      → take d (set numbers (d - 1) (getD numbers (d - 1) 0 + 1)) ≡ nameAfter (take long numbers) d
+  put-beside h g = kept _ (omega arith)
+      ∙ ap (λ (c : ℕ). take (d - 1) (take long numbers) ++ (c ∷ [])) (add-one (getD numbers (d - 1) 0)
+      ∙ ap suc (sym (getD-take long numbers (d - 1) 0 (omega arith))))
+      ∙ sym (after-beside (take long numbers) d low (omega (arith, length-take-le long numbers g)))
+
+-- THE NAME OF A NODE
+
+-- the nodes up to node i are passed, and the first `long` numbers are the name of node i in every tree of these rows
+pub record NamedSoFar (rows : List Row) (number : ℕ) (numbers : List ℕ) (long i : ℕ) : Type 0 where
+  pub upto : i ≤ number
+  pub room : length numbers ≡ maxStates
+  pub short : long ≤ nameRoom
+  pub name : (R : Rule) (T : Tree) (count : ℕ) → HoldsTree R T (record { rows = rows; count = count }) → i < count
+      → take long numbers ≡ getD (names T) i []
+
+pub name-start : (rows : List Row) (number : ℕ) (numbers : List ℕ) → length numbers ≡ maxStates → NamedSoFar rows number numbers 0 0
+name-start rows number numbers room =
+    record { upto = omega arith; room = room; short = omega arith; name = λ R T count held h. sym (name-root T) }
+
+-- the next node in any tree of the rows: its depth and its name
+module _ (R : Rule) (T : Tree) (x : CountedRows) (held : HoldsTree R T x) (i : ℕ) (h : i + 1 < x .count) where
+  later : suc i < size T
+  later = omega (arith, held .nodes)
+
+  same : rowDepth x (i + 1) ≡ getD (depths T) (suc i) 0
+  same = ap (rowDepth x) (add-one i) ∙ depth-at R T x held (suc i) (omega arith)
+
+  next-depth : (1 ≤ rowDepth x (i + 1)) × ((rowDepth x (i + 1) ≤ suc (length (getD (names T) i []))) × (rowDepth x (i + 1) < R .states))
+  next-depth =
+      let (low, step) = depth-next (R .states) (R .sets) T (held .fits) i later in
+      let own = name-depth (R .states) (R .sets) T (held .fits) (suc i) in
+      let (small, _) = name-small (R .states) (R .sets) T (held .fits) (suc i) later in (
+        omega (arith, same),
+        (omega (arith, same, name-depth (R .states) (R .sets) T (held .fits) i), omega (arith, same)),
+      )
+
+  next-name : nameAfter (getD (names T) i []) (rowDepth x (i + 1)) ≡ getD (names T) (i + 1) []
+  next-name = ap (nameAfter (getD (names T) i [])) same ∙ sym (name-next (R .states) (R .sets) T (held .fits) i later)
+      ∙ ap (λ (c : ℕ). getD (names T) c []) (sym (add-one i))
+
+-- a number of a node is below the limit
+pub node-few : {x : CountedRows} {number : ℕ} → SomeNode x number → number < maxStates
+node-few {x} some = omega (arith, tree-small (some .rule) (some .tree) x (some .states) (some .holds))
+
+module _ {x : CountedRows} {number : ℕ} (some : SomeNode x number) {numbers : List ℕ} {long i : ℕ}
+    (v : NamedSoFar (x .rows) number numbers long i) (h : i < number) where
+  abbrev depth : ℕ
+  depth = rowDepth x (i + 1)
+
+  -- the name of node i in some tree
+  now : take long numbers ≡ getD (names (some .tree)) i []
+  now = v .name (some .rule) (some .tree) (x .count) (some .holds) (omega (arith, some .node))
+
+  -- the depth of the next node is from 1 to one more than that of node i, and there is room for its name
+  next : (1 ≤ depth) × ((depth ≤ suc long) × (depth ≤ nameRoom))
+  next = let (low, (step, most)) = next-depth (some .rule) (some .tree) x (some .holds) i (omega (arith, some .node)) in
+      (low, (omega (arith, ap length now, length-take long numbers), omega (arith, some .states)))
+
+  pub depth-low : 1 ≤ depth
+  depth-low = next .0
+
+  pub depth-short : depth ≤ nameRoom
+  depth-short = next .1 .1
+
+  -- a number of the name can be raised
+  pub number-small : depth - 1 < long → getD numbers (depth - 1) 0 < maxStates
+  number-small l =
+      let long-is = length-take-le long numbers (omega (arith, v .room, v .short)) in
+      let (_, small) =
+      name-small (some .rule .states) (some .rule .sets) (some .tree) (some .holds .fits) i (omega (arith, some .holds .nodes)) in
+      rw (← getD-take long numbers (depth - 1) 0 l, now) (omega (arith, small (depth - 1) (omega (arith, ap length now)), some .states))
+
+  -- the next name
+  named : (c : ℕ) → take depth (set numbers (depth - 1) c) ≡ nameAfter (take long numbers) depth
+      → NamedSoFar (x .rows) number (set numbers (depth - 1) c) depth (i + 1)
+  named c e = record {
+    upto = omega arith;
+    room = length-set numbers (depth - 1) c ∙ v .room;
+    short = depth-short;
+    name = λ R T count held l. e ∙ ap (λ (w : List ℕ). nameAfter w depth) (v .name R T count held (omega arith))
+        ∙ next-name R T (record { rows = x .rows; count = count }) held i l;
+  }
+
+  pub name-beside : depth - 1 < long
+      → NamedSoFar (x .rows) number (set numbers (depth - 1) (getD numbers (depth - 1) 0 + 1)) depth (i + 1)
+  name-beside l = let (low, (_, most)) = next in
+      named _ (put-beside numbers long depth low (omega (arith, v .room)) (omega arith) (omega (arith, v .room, v .short)))
+
+  pub name-deeper : long ≤ depth - 1 → NamedSoFar (x .rows) number (set numbers (depth - 1) 0) depth (i + 1)
+  name-deeper l = let (low, (step, most)) = next in
+      named _ (put-deeper numbers long depth low (omega (arith, v .room)) (omega arith) step)
+
+-- all nodes in front are passed
+pub name-done : {x : CountedRows} {number : ℕ} → SomeNode x number → {numbers : List ℕ} {long i : ℕ}
+    → NamedSoFar (x .rows) number numbers long i → number ≤ i → IsName x number (record { numbers = numbers; length = long })
+name-done {x} {number} some {numbers} {long} {i} v h =
+    let last : i ≡ number = omega (arith, v .upto) in
+    record {
+      places = v .room;
+      short = v .short;
+      numbers = λ R T held. v .name R T (x .count) held (omega (arith, some .node)) ∙ ap (λ (c : ℕ). getD (names T) c []) last;
+    }

@@ -1,0 +1,54 @@
+-- What the tree judge's contract says: its verdict decides whether an endless run goes through every set infinitely often, and the
+-- contract leaves no choice of the answer or of the buffer.
+use mathlib.Core.Path.{_≡_, refl, sym, _∙_, ap, ap₂}
+use mathlib.Core.Logic.{inl, inr}
+use mathlib.Core.List.{List, []}
+use Prim.Native.Nat.{ℕ, _≤_}
+use Rattle.table.specs.Outcome.{Outcome, refused, accepted}
+use Rattle.table.specs.Rule.{Rule}
+use Rattle.table.specs.Table.{WellFormed}
+use Rattle.word.specs.Run.{AcceptingRun}
+use Rattle.word.specs.Verdict.{Decides}
+use Rattle.history.specs.Rounds.{roundTree}
+use Rattle.history.specs.Finding.{Finding, yes-node, no-node, Found}
+use Rattle.history.proofs.FirstRepeats.{repeat-unique}
+use Rattle.history.proofs.FirstWitness.{first-unique}
+use Rattle.history.proofs.TreeTheorem.{tree-theorem}
+use Rattle.treejudge.specs.JudgeCall.{treeAnswer, namesAfter, Judged, TreeAnswers}
+use Rattle.treejudge.specs.declared.judge.TreeAnswer.{TreeAnswer}
+
+-- DEMAND 3, THE TREE JUDGE'S PART
+
+-- an accepted call says yes just if some endless run goes through every accepting set infinitely often, and no otherwise
+pub tree-decides : (R : Rule) (u v names : List ℕ) (answer : TreeAnswer) (after : List ℕ) → Judged R u v names answer after
+    → WellFormed R → 1 ≤ R .sets → (v ≡ [] → ⊥) → Decides (answer .verdict) (AcceptingRun R u v)
+unfolding treeAnswer
+tree-decides R u v names answer after J well sets nonempty = go (J .finding) (J .found) (J .answers)
+  where
+    go : (f : Finding) → Found R u v (J .entry) (J .period) f → answer ≡ treeAnswer (J .entry) (J .period) f
+        → Decides (answer .verdict) (AcceptingRun R u v)
+    go (yes-node w) found is =
+        inl (ap (λ (x : TreeAnswer). x .verdict) is, tree-theorem R well sets u v nonempty (J .entry) (J .period) (J .repeat) .0 (w, found .witness))
+    go no-node none is = inr (
+      ap (λ (x : TreeAnswer). x .verdict) is,
+      λ run. let (w, W) = tree-theorem R well sets u v nonempty (J .entry) (J .period) (J .repeat) .1 run in none w W,
+    )
+
+-- THE CONTRACT DETERMINES ANSWER AND BUFFER
+
+-- two right findings are the same
+found-one : (R : Rule) (u v : List ℕ) (entry period : ℕ) (f g : Finding) → Found R u v entry period f → Found R u v entry period g → f ≡ g
+found-one R u v entry period (yes-node w) (yes-node p) F G = ap (λ (x : List ℕ). yes-node x) (first-unique R u v entry period w p F G)
+found-one R u v entry period (yes-node w) no-node F none = absurd (none w (F .witness))
+found-one R u v entry period no-node (yes-node p) none G = absurd (none p (G .witness))
+found-one R u v entry period no-node no-node F G = refl
+
+pub tree-determined : (o : Outcome Rule) (u v names : List ℕ) (a b : TreeAnswer) (x y : List ℕ)
+    → TreeAnswers o u v names a x → TreeAnswers o u v names b y → (a ≡ b) × (x ≡ y)
+tree-determined (refused number) u v names a b x y (p, kept) (q, kept′) = (p ∙ sym q, kept ∙ sym kept′)
+tree-determined (accepted R) u v names a b x y J K =
+    let (e, p) = repeat-unique (roundTree R u v) (J .entry) (J .period) (K .entry) (K .period) (J .repeat) (K .repeat) in
+    let f : J .finding ≡ K .finding =
+    found-one R u v (K .entry) (K .period) (J .finding) (K .finding) (rw (e, p) at (J .found)) (K .found) in
+    let same : treeAnswer (J .entry) (J .period) (J .finding) ≡ treeAnswer (K .entry) (K .period) (K .finding) = rw (e, p, f) in
+    (J .answers ∙ same ∙ sym (K .answers), J .leaves ∙ ap (λ (g : Finding). namesAfter g names) f ∙ sym (K .leaves))

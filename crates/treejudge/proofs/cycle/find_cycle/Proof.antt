@@ -1,0 +1,126 @@
+-- `find_cycle` meets its contract, by the laws of CycleSearch. The loop ends, since power + lam grows and there are few trees.
+use borrow.Author.Needs.{needs}
+use native.Mathlib.Omega.{arith}
+use mathlib.Core.Path.{sym, _∙_}
+use mathlib.Core.List.{List}
+use Prim.Native.Nat.{ℕ, _+_, _-_, _^_}
+use Rattle.table.specs.Rule.{Rule}
+use Rattle.treejudge.specs.Names.{Followable}
+use Rattle.treejudge.specs.Cycles.{AtRound, FirstRound, CycleFound}
+use Rattle.treejudge.proofs.RoundsRead.{both-small}
+use Rattle.treejudge.proofs.CycleSearch.{Searching, search-start, search-follows, lam-fits, search-measure, search-small}
+use Rattle.treejudge.proofs.CycleSearch.{search-found, search-more, power-fits, search-reset}
+use Rattle.treejudge.proofs.cycle.find_cycle.Statement.{statement}
+use Rattle.treejudge.proofs.cycle.find_cycle.Tie as tie
+
+abbrev Inv-loop : tie.InvT-loop
+Inv-loop tables k v held₀ before₀ half₀ power₀ lam₀ now₀ held before half power lam now =
+    (R : Rule) (u : List ℕ) → AtRound R u v tables k 0 held₀ → Searching R u v tables k held before half power lam now
+
+abbrev μ-loop : tie.MeasureT-loop
+μ-loop tables k v held₀ before₀ half₀ power₀ lam₀ now₀ held before half power lam now = 2 ^ 65 - (power + lam)
+
+-- the search over the rule and the lead-in that are known
+search-known : (c : tie.At-loop Inv-loop μ-loop) → let args = c .before .before .before .args in (R : Rule) × (u : List ℕ)
+    × Searching R u (args .v .now) (args .tables .now) (args .k) (c .loop .held) (c .loop .before) (c .loop .half) (c .loop .power)
+    (c .loop .lam) (c .loop .now)
+unfolding FirstRound
+search-known c = let (R, u, A) = c .before .before .before .pre in (R, u, c .loop .inv R u A)
+
+begin-requires : tie.Need-begin-requires Inv-loop μ-loop
+unfolding FirstRound
+begin-requires c κs = let (R, u, A) = c .before .pre in both-small A A .0
+
+loop-holds : tie.Need-loop-holds Inv-loop μ-loop
+loop-holds c R u A = rw (c .begin .ensures) (search-start A)
+
+follow-letters-requires : tie.Need-follow-letters-requires Inv-loop μ-loop
+unfolding Followable
+follow-letters-requires c κs = let (R, u, S) = search-known c in (R, _, _, search-follows S)
+
+add-lam : tie.Need-add-lam Inv-loop μ-loop
+add-lam c = let (R, u, S) = search-known (c .before) in omega (arith, lam-fits S)
+
+tree-of-requires : tie.Need-tree-of-requires Inv-loop μ-loop
+tree-of-requires c κs = search needs
+
+same-tree-requires : tie.Need-same-tree-requires Inv-loop μ-loop
+same-tree-requires c κs =
+    let followed = c .before in
+    let (R, u, S) = search-known (followed .before) in
+    search-small S _ (followed .follow-letters .ensures) (c .tree-of .ensures)
+
+returns : tie.Need-returns Inv-loop μ-loop
+unfolding CycleFound
+returns c R u entry period A F =
+    let same = c .before in
+    let reached = same .before in
+    let followed = reached .before in
+    search-found (followed .before .loop .inv R u A) _ (followed .follow-letters .ensures) (reached .tree-of .ensures)
+    (sym (same .same-tree .ensures) ∙ c .if1 .taken) entry period F
+
+add-power : tie.Need-add-power Inv-loop μ-loop
+add-power c =
+    let same = c .before .before in
+    let reached = same .before in
+    let followed = reached .before in
+    let (R, u, S) = search-known (followed .before) in
+    omega (
+      arith,
+      power-fits S _ (followed .follow-letters .ensures) (reached .tree-of .ensures)
+          (sym (same .same-tree .ensures) ∙ c .before .if1 .left) (c .if2 .taken),
+    )
+
+begin-requires-2 : tie.Need-begin-requires-2 Inv-loop μ-loop
+begin-requires-2 c κs =
+    let reached = c .before .before .before in
+    let followed = reached .before in
+    let (R, u, S) = search-known (followed .before) in
+    search-small S _ (followed .follow-letters .ensures) (reached .tree-of .ensures) .1
+
+loop-less : tie.Need-loop-less Inv-loop μ-loop
+loop-less c =
+    let (R, u, S) = search-known (c .before .before .before .before .before .before) in
+    omega (arith, search-measure S)
+
+loop-again : tie.Need-loop-again Inv-loop μ-loop
+loop-again c R u A =
+    let same = c .before .before .before in
+    let reached = same .before in
+    let followed = reached .before in
+    rw (c .begin2 .ensures)
+    (search-reset (followed .before .loop .inv R u A) _ (followed .follow-letters .ensures) (reached .tree-of .ensures)
+    (sym (same .same-tree .ensures) ∙ c .before .before .if1 .left) (c .before .if2 .taken))
+
+loop-less-2 : tie.Need-loop-less-2 Inv-loop μ-loop
+loop-less-2 c =
+    let (R, u, S) = search-known (c .before .before .before .before .before) in
+    omega (arith, search-measure S)
+
+loop-again-2 : tie.Need-loop-again-2 Inv-loop μ-loop
+loop-again-2 c R u A =
+    let same = c .before .before in
+    let reached = same .before in
+    let followed = reached .before in
+    search-more (followed .before .loop .inv R u A) _ (followed .follow-letters .ensures) (reached .tree-of .ensures)
+    (sym (same .same-tree .ensures) ∙ c .before .if1 .left) (c .if2 .left)
+
+pub find-cycle-spec : {M : Type 1} → statement M
+find-cycle-spec =
+    tie.close
+    (tie.spec
+    Inv-loop
+    μ-loop
+    begin-requires
+    loop-holds
+    follow-letters-requires
+    add-lam
+    tree-of-requires
+    same-tree-requires
+    returns
+    add-power
+    begin-requires-2
+    loop-less
+    loop-again
+    loop-less-2
+    loop-again-2)

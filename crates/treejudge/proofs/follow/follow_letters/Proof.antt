@@ -1,0 +1,72 @@
+-- `follow_letters` meets its contract. The loop has the nodes followed through the letters that it has passed.
+use borrow.Author.Needs.{needs}
+use Prim.Native.Nat.{_-_}
+use native.Mathlib.Omega.{arith}
+use lib.ListN.{length}
+use Rattle.treejudge.proofs.LettersRead.{letter-small}
+use Rattle.treejudge.proofs.NamesFollowed.{FollowedUpTo, followed-reads, followed-none, followed-ready}
+use Rattle.treejudge.proofs.NamesFollowed.{followed-few, followed-more, followed-all}
+use Rattle.treejudge.proofs.follow.follow_letters.Statement.{statement}
+use Rattle.treejudge.proofs.follow.follow_letters.Tie as tie
+
+abbrev Inv-loop : tie.InvT-loop
+Inv-loop tables k w now₀ at₀ now at = FollowedUpTo tables k w now₀ at now
+
+abbrev μ-loop : tie.MeasureT-loop
+μ-loop tables k w now₀ at₀ now at = length w - at
+
+loop-holds : tie.Need-loop-holds Inv-loop μ-loop
+loop-holds c = followed-none _ _ _ _
+
+shared-slice-read-step-rows : tie.Need-shared-slice-read-step-rows Inv-loop μ-loop
+shared-slice-read-step-rows c = search needs
+
+index-1-step-rows : tie.Need-index-1-step-rows Inv-loop μ-loop
+index-1-step-rows c = let inside = c .before .before in
+    letter-small _ _ _ _ (followed-reads _ _ _ _ (inside .before .before .before .pre)) _ (inside .loop-test .taken)
+
+cast-step-rows : tie.Need-cast-step-rows Inv-loop μ-loop
+cast-step-rows c = omega (arith, index-1-step-rows c)
+
+mul-step-rows : tie.Need-mul-step-rows Inv-loop μ-loop
+mul-step-rows c = omega (arith, index-1-step-rows c)
+
+step-rows-requires : tie.Need-step-rows-requires Inv-loop μ-loop
+step-rows-requires c κs = let at = c .before .before .before .before in followed-ready _ _ _ _ _ _ (at .loop .inv) (at .before .before .pre)
+
+follow-requires : tie.Need-follow-requires Inv-loop μ-loop
+follow-requires c κs = let inside = c .before .before .before .before in
+    followed-few _ _ _ _ _ _ (inside .before .loop .inv) (inside .loop-test .taken) _ (c .step-rows .ensures)
+    (inside .before .before .before .pre)
+
+add-at : tie.Need-add-at Inv-loop μ-loop
+add-at c = search needs
+
+loop-less : tie.Need-loop-less Inv-loop μ-loop
+loop-less c = search needs
+
+loop-again : tie.Need-loop-again Inv-loop μ-loop
+loop-again c = let inside = c .before .before .before .before .before in
+    rw (c .follow .ensures)
+    (followed-more _ _ _ _ _ _ (inside .before .loop .inv) (inside .loop-test .taken) _ (c .before .step-rows .ensures))
+
+returns : tie.Need-returns Inv-loop μ-loop
+returns c = followed-all _ _ _ _ _ _ (c .before .loop .inv) (c .loop-test .left)
+
+pub follow-letters-spec : {M : Type 1} → statement M
+follow-letters-spec =
+    tie.close
+    (tie.spec
+    Inv-loop
+    μ-loop
+    loop-holds
+    shared-slice-read-step-rows
+    cast-step-rows
+    mul-step-rows
+    index-1-step-rows
+    step-rows-requires
+    follow-requires
+    add-at
+    loop-less
+    loop-again
+    returns)

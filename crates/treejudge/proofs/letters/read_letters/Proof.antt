@@ -1,0 +1,63 @@
+-- `read_letters` meets its contract. The loop has the tree after the letters that it has passed.
+use borrow.Author.Needs.{needs}
+use Prim.Native.Nat.{_-_}
+use native.Mathlib.Omega.{arith}
+use lib.ListN.{length}
+use Rattle.treejudge.proofs.LettersRead.{ReadUpTo, letter-small, upto-none, upto-ready, upto-more, upto-all}
+use Rattle.treejudge.proofs.letters.read_letters.Statement.{statement}
+use Rattle.treejudge.proofs.letters.read_letters.Tie as tie
+
+abbrev Inv-loop : tie.InvT-loop
+Inv-loop tables k w rows₀ count₀ at₀ rows count at =
+    ReadUpTo tables k w (record { rows = rows₀; count = count₀ }) at (record { rows = rows; count = count })
+
+abbrev μ-loop : tie.MeasureT-loop
+μ-loop tables k w rows₀ count₀ at₀ rows count at = length w - at
+
+loop-holds : tie.Need-loop-holds Inv-loop μ-loop
+loop-holds c = upto-none _ _ _ _
+
+shared-slice-read-step-rows : tie.Need-shared-slice-read-step-rows Inv-loop μ-loop
+shared-slice-read-step-rows c = search needs
+
+index-1-step-rows : tie.Need-index-1-step-rows Inv-loop μ-loop
+index-1-step-rows c = letter-small _ _ _ _ (c .before .before .before .before .before .pre) _ (c .before .loop-test .taken)
+
+cast-step-rows : tie.Need-cast-step-rows Inv-loop μ-loop
+cast-step-rows c = omega (arith, index-1-step-rows c)
+
+mul-step-rows : tie.Need-mul-step-rows Inv-loop μ-loop
+mul-step-rows c = omega (arith, index-1-step-rows c)
+
+step-rows-requires : tie.Need-step-rows-requires Inv-loop μ-loop
+step-rows-requires c κs = let at = c .before .before .before in upto-ready _ _ _ _ _ _ _ (at .loop .inv) (at .before .before .before .pre)
+
+add-at : tie.Need-add-at Inv-loop μ-loop
+add-at c = search needs
+
+loop-less : tie.Need-loop-less Inv-loop μ-loop
+loop-less c = search needs
+
+loop-again : tie.Need-loop-again Inv-loop μ-loop
+loop-again c = let at = c .before .before .before .before .before in
+    upto-more _ _ _ _ _ _ _ (at .loop .inv) (c .before .before .before .before .loop-test .taken) _ (c .before .step-rows .ensures)
+
+returns : tie.Need-returns Inv-loop μ-loop
+returns c = upto-all _ _ _ _ _ _ (c .before .loop .inv) (c .loop-test .left)
+
+pub read-letters-spec : {M : Type 1} → statement M
+read-letters-spec =
+    tie.close
+    (tie.spec
+    Inv-loop
+    μ-loop
+    loop-holds
+    shared-slice-read-step-rows
+    cast-step-rows
+    mul-step-rows
+    index-1-step-rows
+    step-rows-requires
+    add-at
+    loop-less
+    loop-again
+    returns)

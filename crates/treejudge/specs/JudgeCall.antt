@@ -1,0 +1,58 @@
+-- The tree judge's call (document 01, "Walks and verdicts"): what it answers, and what it leaves in the lent name buffer, for all
+-- inputs.
+use mathlib.Core.Path.{_≡_}
+use mathlib.Core.List.{List}
+use Prim.Native.Nat.{ℕ}
+use lib.Dec.{leb}
+use lib.ListN.{length}
+use Rattle.table.specs.Outcome.{Outcome, refused, accepted, ask, _then_}
+use Rattle.table.specs.Rule.{Rule}
+use Rattle.table.specs.Table.{readRule}
+use Rattle.table.specs.Storing.{stored}
+use Rattle.word.specs.Walk.{askWalk}
+use Rattle.history.specs.Rounds.{roundTree, FirstRepeat}
+use Rattle.history.specs.Finding.{Finding, yes-node, no-node, Found}
+use Rattle.treejudge.specs.declared.judge.TreeAnswer.{TreeAnswer}
+
+-- "7 for a name"
+abbrev pub nameRoom : ℕ
+nameRoom = 7
+
+-- "On no, the length is 255"
+abbrev pub noName : ℕ
+noName = 255
+
+-- questions 1 to 6, 7, 8 and 10
+unfoldable pub treeOutcome : List ℕ → List ℕ → List ℕ → List ℕ → Outcome Rule
+treeOutcome table u v names =
+    readRule table then λ R.
+    askWalk (R .letters) u v
+    (ask (leb nameRoom (length names)) 10
+    (accepted R))
+
+-- the answer to a walk: yes is 1, with the length of the node's name; no is 0, with the length 255
+unfoldable pub treeAnswer : ℕ → ℕ → Finding → TreeAnswer
+treeAnswer entry period (yes-node w) = record { number = 0; verdict = 1; entry = entry; period = period; length = length w }
+treeAnswer entry period no-node = record { number = 0; verdict = 0; entry = entry; period = period; length = noName }
+
+-- the name buffer afterwards: "numbers in a lent 7-byte buffer, the rest of it unchanged. On no, .. the buffer unchanged"
+unfoldable pub namesAfter : Finding → List ℕ → List ℕ
+namesAfter (yes-node w) names = stored 0 w names
+namesAfter no-node names = names
+
+-- an accepted call: entry and period are those of the first repeated tree at a round end, the finding is right, and the answer
+-- and the buffer are as it says
+pub record Judged (R : Rule) (u v names : List ℕ) (answer : TreeAnswer) (after : List ℕ) : Type 0 where
+  pub entry : ℕ
+  pub period : ℕ
+  pub repeat : FirstRepeat (roundTree R u v) entry period
+  pub finding : Finding
+  pub found : Found R u v entry period finding
+  pub answers : answer ≡ treeAnswer entry period finding
+  pub leaves : after ≡ namesAfter finding names
+
+-- the answer and the buffer afterwards: on a refusal its number and zero for all else, the buffer unchanged
+abbrev pub TreeAnswers : Outcome Rule → List ℕ → List ℕ → List ℕ → TreeAnswer → List ℕ → Type 0
+TreeAnswers (refused number) u v names answer after =
+    (answer ≡ record { number = number; verdict = 0; entry = 0; period = 0; length = 0 }) × (after ≡ names)
+TreeAnswers (accepted R) u v names answer after = Judged R u v names answer after

@@ -1,0 +1,51 @@
+-- Following nodes by their names: what the contracts of the tree judge's own functions say of the two maps.
+use mathlib.Core.Path.{_≡_}
+use mathlib.Core.Bool.{true}
+use mathlib.Core.List.{List, map, _++_}
+use Prim.Native.Nat.{ℕ, _-_, _^_, _<_}
+use lib.Bits.{bitAnd, bitOr}
+use lib.ListN.{take}
+use Rattle.table.specs.Rule.{Rule}
+use Rattle.table.specs.Table.{Every}
+use Rattle.history.specs.Tree.{Tree, isTree}
+use Rattle.history.specs.Rounds.{readLetters}
+use Rattle.history.specs.Following.{carried, keptMap, acceptedMap}
+use Rattle.tree.specs.declared.rows.Stepped.{Stepped}
+use Rattle.treejudge.specs.Reading.{HoldsTables, HoldsTree}
+use Rattle.treejudge.specs.declared.letters.CountedRows.{CountedRows}
+use Rattle.treejudge.specs.declared.follow.Followed.{Followed}
+
+-- the followed nodes behind a letter
+unfoldable pub followedBy : Stepped → ℕ → ℕ → Followed
+followedBy next kept accepted =
+    record {
+      rows = next .rows;
+      count = next .count;
+      kept = carried (map (λ x. x .old) (take (next .count) (next .rows))) (bitAnd kept (next .stable));
+      accepted = carried (map (λ x. x .old) (take (next .count) (next .rows)))
+          (bitAnd (bitOr accepted (bitAnd kept (next .accepting))) (next .stable));
+    }
+
+-- all nodes, before the first letter
+unfoldable pub begunAt : CountedRows → Followed
+begunAt x = record { rows = x .rows; count = x .count; kept = 2 ^ x .count - 1; accepted = 0 }
+
+-- the tree after the letters w from T on, and the maps of its nodes that kept their names all along, and were accepting once
+pub record Follows (R : Rule) (T : Tree) (w : List ℕ) (x : Followed) : Type 0 where
+  pub first : isTree (R .states) (R .sets) T ≡ true
+  pub tree : HoldsTree R (readLetters R w T) (record { rows = x .rows; count = x .count })
+  pub kept : x .kept ≡ keptMap R T w
+  pub accepted : x .accepted ≡ acceptedMap R T w
+
+-- the letters w are read on, behind others
+pub record FollowsOn (R : Rule) (T : Tree) (before : List ℕ) (tables : List (List (List ℕ))) (k : ℕ) (w : List ℕ) (x : Followed) : Type 0 where
+  pub holds : HoldsTables R tables k
+  pub below : Every (λ a. a < R .letters) w
+  pub follows : Follows R T before x
+
+unfoldable pub Followable : List (List (List ℕ)) → ℕ → List ℕ → Followed → Type 0
+Followable tables k w x = (R : Rule) × (T : Tree) × (before : List ℕ) × FollowsOn R T before tables k w x
+
+unfoldable pub FollowsTo : List (List (List ℕ)) → ℕ → List ℕ → Followed → Followed → Type 0
+FollowsTo tables k w x r =
+    (R : Rule) (T : Tree) (before : List ℕ) → FollowsOn R T before tables k w x → Follows R T (before ++ w) r

@@ -1,0 +1,71 @@
+// The period, by Brent's search: one tree is held, t(power − 1), and rounds are read from it until it comes back. If it has not
+// come back after `power` rounds, the tree reached is held instead, and the power doubled. The nodes of the held tree are followed
+// on the way: where it comes back, its rounds were one cycle, and the verdict is known.
+use crate::follow::Followed;
+use crate::follow::begin;
+use crate::follow::follow_letters;
+use crate::letters::AllTables;
+use crate::letters::CountedRows;
+use crate::same::same_tree;
+ghost use mathlib.Core.Path.{_≡_};
+ghost use Rattle.treejudge.specs.Cycles.{FirstRound, CycleFound};
+
+// What the search has found: the tree t(power − 1), to which `period` rounds lead back; the map of its nodes that keep their names in
+// these rounds and are accepting once; and the tree that was held before it, t(half − 1), where it was not the first.
+pub struct Cycle {
+    pub held: CountedRows,
+    pub before: CountedRows,
+    pub half: u64,
+    pub power: u64,
+    pub period: u64,
+    pub accepted: u16,
+}
+
+// The tree of the followed nodes.
+fn tree_of(now: Followed) -> CountedRows
+    ensures { λ r. ⌜ r ≡ record { rows = now .rows; count = now .count } ⌝ }
+{
+    let rows = now.rows;
+    CountedRows {
+        rows: rows,
+        count: now.count,
+    }
+}
+
+// From t(0) on.
+pub fn find_cycle(tables: &AllTables, k: u8, v: &[u8], first: CountedRows) -> Cycle
+    requires { ⌜ FirstRound (now tables) k (now v) first ⌝ }
+    ensures { λ r. ⌜ CycleFound (now (tables .entry)) k (now (v .entry)) first r ⌝ }
+{
+    let mut held = first;
+    let mut before = first;
+    let mut half = 0u64;
+    let mut power = 1u64;
+    let mut lam = 0u64;
+    let mut now = begin(first);
+    loop {
+        let next = follow_letters(tables, k, v, now);
+        lam += 1;
+        let reached = tree_of(next);
+        if same_tree(held, reached) {
+            return Cycle {
+                held: held,
+                before: before,
+                half: half,
+                power: power,
+                period: lam,
+                accepted: next.accepted,
+            };
+        }
+        if lam == power {
+            before = held;
+            held = reached;
+            half = power;
+            power = power + power;
+            lam = 0;
+            now = begin(reached);
+        } else {
+            now = next;
+        }
+    }
+}

@@ -1,0 +1,92 @@
+// The entry, once the period is known: two places that are a period apart go forward together, and the first that have equal trees
+// are t(e) and t(e + p).
+use crate::cycle::Cycle;
+use crate::letters::AllTables;
+use crate::letters::CountedRows;
+use crate::letters::read_letters;
+use crate::same::same_tree;
+ghost use mathlib.Core.Path.{_≡_};
+ghost use Prim.Native.Nat.{_-_, _<_};
+ghost use Rattle.treejudge.specs.Cycles.{SomeRound, Ahead, Bracketed, EntryBetween, SearchDone, EntryFound};
+
+// The tree `count` rounds further.
+fn read_rounds(tables: &AllTables, k: u8, v: &[u8], count: u64, tree: CountedRows) -> CountedRows
+    requires { ⌜ SomeRound (now tables) k (now v) tree ⌝ }
+    ensures { λ r. ⌜ Ahead (now (tables .entry)) k (now (v .entry)) count tree r ⌝ }
+{
+    let mut now = tree;
+    let mut round = 0u64;
+    while round < count {
+        let next = read_letters(tables, k, v, now);
+        now = next;
+        round += 1;
+    }
+    now
+}
+
+// The entry from `low` to `high`, where `here` is t(low) and `there` is the tree a period further.
+fn entry_between(
+    tables: &AllTables,
+    k: u8,
+    v: &[u8],
+    low: u64,
+    high: u64,
+    here: CountedRows,
+    there: CountedRows,
+) -> u64
+    requires { ⌜ Bracketed (now tables) k (now v) low high here there ⌝ }
+    ensures { λ r. ⌜ EntryBetween (now (tables .entry)) k (now (v .entry)) low high here there r ⌝ }
+{
+    let mut now = here;
+    let mut ahead = there;
+    let mut place = low;
+    while place < high {
+        if same_tree(now, ahead) {
+            return place;
+        }
+        place += 1;
+        if place == high {
+            return high;
+        }
+        let next = read_letters(tables, k, v, now);
+        let next_ahead = read_letters(tables, k, v, ahead);
+        now = next;
+        ahead = next_ahead;
+    }
+    high
+}
+
+// How far t(period) is from t(half − 1).
+fn rounds_past(half: u64, period: u64) -> u64
+    requires { ⌜ half < period ⌝ }
+    ensures { λ r. ⌜ r ≡ period - (half - 1) ⌝ }
+{
+    if half == 0 {
+        return period;
+    }
+    period - (half - 1)
+}
+
+// The entry of the cycle that was found from t(0) on; it is no later than t(power − 1). A period longer than `half` reaches past
+// the tree that was held before, t(half − 1), so t(period) is read from there. A shorter one begins at t(half) or later, since
+// t(half − 1) has not come back.
+pub fn find_entry(tables: &AllTables, k: u8, v: &[u8], first: CountedRows, cycle: Cycle) -> u64
+    requires { ⌜ SearchDone (now tables) k (now v) first cycle ⌝ }
+    ensures { λ r. ⌜ EntryFound (now (tables .entry)) k (now (v .entry)) first cycle r ⌝ }
+{
+    let high = cycle.power - 1;
+    if high == 0 {
+        return 0;
+    }
+    if cycle.half < cycle.period {
+        let left = rounds_past(cycle.half, cycle.period);
+        let there = read_rounds(tables, k, v, left, cycle.before);
+        return entry_between(tables, k, v, 0, high, first, there);
+    }
+    if cycle.half == high {
+        return high;
+    }
+    let here = read_letters(tables, k, v, cycle.before);
+    let there = read_rounds(tables, k, v, cycle.period, here);
+    entry_between(tables, k, v, cycle.half, high, here, there)
+}

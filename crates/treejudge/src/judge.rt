@@ -1,0 +1,116 @@
+// The tree judge: entry and period of the first repeated tree at a round end, and the verdict with its node.
+use crate::cycle::find_cycle;
+use crate::entry::find_entry;
+use crate::letters::CountedRows;
+use crate::letters::all_tables;
+use crate::letters::read_letters;
+use crate::name::first_node;
+use crate::name::node_name;
+use crate::name::store_name;
+use table::header::Header;
+use table::limits::Cells;
+use table::limits::LETTERS;
+use table::limits::NO_TRANSITION;
+use table::limits::STATES;
+use table::reader::Reading;
+use table::reader::read_rule;
+use tree::record::Tree;
+use word::walk::letters_left;
+use word::walk::walk_number;
+ghost use mathlib.Core.Path.{_≡_};
+ghost use Rattle.table.specs.HeldRule.{HoldsRule};
+ghost use Rattle.table.specs.Rule.{Rule};
+ghost use Rattle.treejudge.specs.JudgeCall.{treeOutcome, TreeAnswers, Judged};
+ghost use Rattle.treejudge.specs.Judgeable.{Judgeable};
+
+// The tree judge's answer: 0, the verdict (1 yes, 0 no), entry and period, and the length of the node's name (255 on no); or the
+// number of the question that failed and zeros.
+#[repr(C)]
+pub struct TreeAnswer {
+    pub number: u8,
+    pub verdict: u8,
+    pub entry: u64,
+    pub period: u64,
+    pub length: u8,
+}
+
+// A name length that is none: "On no, the length is 255".
+const NO_NAME: u8 = 255;
+
+// The judge on a read table, for any walk over its letters. Its answer is right for every rule that the table holds.
+pub fn judge_walk<'a>(
+    cells: &Cells,
+    header: Header,
+    u: &'a [u8],
+    v: &'a [u8],
+    names: &mut [u8],
+) -> TreeAnswer
+    requires { ⌜ Judgeable header (now cells) (now u) (now v) (now names) ⌝ }
+    ensures { λ r. ⌜ ((R : Rule) → HoldsRule R header (now (cells .entry))
+        → Judged R (now (u .entry)) (now (v .entry)) (now (names .entry)) r (now (names .exit))) ⌝ }
+{
+    let k = header.sets as u8;
+    let tables = all_tables(cells, header.letters);
+    let root = Tree::start(header.start);
+    let rows = root.rows;
+    let start = CountedRows {
+        rows: rows,
+        count: 1,
+    };
+    // t(0) follows u; then the rounds, each the whole tail
+    let first = read_letters(&tables, k, letters_left(u, v, false, 0), start);
+    let tail = letters_left(u, v, true, 0);
+    let cycle = find_cycle(&tables, k, tail, first);
+    let entry = find_entry(&tables, k, tail, first, cycle);
+    if cycle.accepted == 0 {
+        return TreeAnswer {
+            number: 0,
+            verdict: 0,
+            entry: entry,
+            period: cycle.period,
+            length: NO_NAME,
+        };
+    }
+    let name = node_name(cycle.held, first_node(cycle.accepted));
+    store_name(name, names);
+    TreeAnswer {
+        number: 0,
+        verdict: 1,
+        entry: entry,
+        period: cycle.period,
+        length: name.length as u8,
+    }
+}
+
+fn tree_refusal(number: u8) -> TreeAnswer
+    ensures { λ r. ⌜ r ≡ record { number = number; verdict = 0; entry = 0; period = 0; length = 0 } ⌝ }
+{
+    TreeAnswer {
+        number: number,
+        verdict: 0,
+        entry: 0,
+        period: 0,
+        length: 0,
+    }
+}
+
+// THE TREE JUDGE: questions 1 to 6 to the table, 7 and 8 to the walk, 10 to the name buffer, then the verdict.
+pub fn tree_judge<'a>(table: &[u8], u: &'a [u8], v: &'a [u8], names: &mut [u8]) -> TreeAnswer
+    ensures { λ r. ⌜ TreeAnswers (treeOutcome (now (table .entry)) (now (u .entry)) (now (v .entry)) (now (names .entry)))
+        (now (u .entry)) (now (v .entry)) (now (names .entry)) r (now (names .exit)) ⌝ }
+{
+    let mut cells = [[[NO_TRANSITION; STATES]; STATES]; LETTERS];
+    match read_rule(table, &mut cells) {
+        Reading::Refused(number) => tree_refusal(number),
+        Reading::Rule(header) => {
+            let number = walk_number(header.letters, u, v);
+            if number != 0 {
+                return tree_refusal(number);
+            }
+            if names.len() < Tree::NAME {
+                return tree_refusal(10);
+            }
+            judge_walk(&cells, header, u, v, names)
+        }
+    }
+}
