@@ -5,4 +5,3 @@ pub mod TailRows
 pub mod Scratch
 pub mod Rounds
 pub mod Search
-pub mod Judgeable

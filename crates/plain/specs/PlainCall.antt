@@ -3,13 +3,11 @@
 use mathlib.Core.Path.{_≡_}
 use mathlib.Core.List.{List}
 use Prim.Native.Nat.{ℕ}
-use lib.Dec.{leb}
-use lib.ListN.{length, replicate}
-use Rattle.table.specs.Outcome.{Outcome, refused, accepted, ask, _then_}
+use lib.ListN.{replicate}
+use Rattle.table.specs.Outcome.{Outcome, refused, accepted}
 use Rattle.table.specs.Rule.{Rule}
-use Rattle.table.specs.Table.{readRule}
 use Rattle.table.specs.Storing.{stored}
-use Rattle.word.specs.Walk.{askWalk}
+use Rattle.word.specs.Judging.{judgeQuestions}
 use Rattle.word.specs.Loop.{Loop}
 use Rattle.word.specs.Verdict.{Decides}
 use Rattle.plain.specs.declared.judge.PlainAnswer.{PlainAnswer}
@@ -20,11 +18,7 @@ scratchLength = 32768
 
 -- questions 1 to 6, 7, 8 and 10
 unfoldable pub plainOutcome : List ℕ → List ℕ → List ℕ → List ℕ → Outcome Rule
-plainOutcome table u v scratch =
-    readRule table then λ R.
-    askWalk (R .letters) u v
-    (ask (leb scratchLength (length scratch)) 10
-    (accepted R))
+plainOutcome table u v scratch = judgeQuestions scratchLength table u v scratch
 
 -- the answer: yes exactly when the walk keeps the rule, that is, when there is a loop; on a refusal its number and zero
 abbrev pub PlainAnswers : Outcome Rule → List ℕ → List ℕ → PlainAnswer → Type 0

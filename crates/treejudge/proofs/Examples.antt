@@ -14,6 +14,7 @@ use Rattle.table.specs.Rule.{Rule, cellAt, edge, edgeIn, image, successors, suc
 use Rattle.table.specs.Table.{Every, inRange, startFits, askHeader, readByte, readTransition, readRow, readCell, readMany, readGrid, ended, readBody, readRule}
 use Rattle.table.proofs.Every.{every-weaker}
 use Rattle.table.proofs.Logic.{and-in}
+use Rattle.word.specs.Judging.{judgeQuestions}
 use Rattle.word.specs.Walk.{lengthsFit, lettersBelow, askWalk}
 use Rattle.history.specs.Forest.{size, change, listing, namedFrom, named, names, sameNumbers}
 use Rattle.history.specs.Tree.{labels, disjoint, strictlyInside, nodesFit, isTree, startTree}
@@ -35,7 +36,7 @@ rowTest table u v entry period finding =
 -- all questions are answered yes
 call-accepted : (table u v : List ℕ) (R : Rule) → readRule table ≡ accepted R → lengthsFit u v ≡ true
     → (lettersBelow (R .letters) u && lettersBelow (R .letters) v) ≡ true → treeOutcome table u v (replicate nameRoom 0) ≡ accepted R
-unfolding treeOutcome askWalk
+unfolding treeOutcome judgeQuestions askWalk
 call-accepted table u v R reads fit below = rw (reads, fit, below)
 
 row-holds : (table u v : List ℕ) (entry period : ℕ) (finding : Finding) → rowTest table u v entry period finding ≡ true

@@ -3,13 +3,11 @@
 use mathlib.Core.Path.{_≡_}
 use mathlib.Core.List.{List}
 use Prim.Native.Nat.{ℕ}
-use lib.Dec.{leb}
 use lib.ListN.{length}
-use Rattle.table.specs.Outcome.{Outcome, refused, accepted, ask, _then_}
+use Rattle.table.specs.Outcome.{Outcome, refused, accepted}
 use Rattle.table.specs.Rule.{Rule}
-use Rattle.table.specs.Table.{readRule}
 use Rattle.table.specs.Storing.{stored}
-use Rattle.word.specs.Walk.{askWalk}
+use Rattle.word.specs.Judging.{judgeQuestions}
 use Rattle.history.specs.Rounds.{roundTree, FirstRepeat}
 use Rattle.history.specs.Finding.{Finding, yes-node, no-node, Found}
 use Rattle.treejudge.specs.declared.judge.TreeAnswer.{TreeAnswer}
@@ -24,11 +22,7 @@ noName = 255
 
 -- questions 1 to 6, 7, 8 and 10
 unfoldable pub treeOutcome : List ℕ → List ℕ → List ℕ → List ℕ → Outcome Rule
-treeOutcome table u v names =
-    readRule table then λ R.
-    askWalk (R .letters) u v
-    (ask (leb nameRoom (length names)) 10
-    (accepted R))
+treeOutcome table u v names = judgeQuestions nameRoom table u v names
 
 -- the answer to a walk: yes is 1, with the length of the node's name; no is 0, with the length 255
 unfoldable pub treeAnswer : ℕ → ℕ → Finding → TreeAnswer

@@ -7,4 +7,3 @@ pub mod Names
 pub mod SameRows
 pub mod Cycles
 pub mod NodeNames
-pub mod Judgeable

@@ -20,8 +20,8 @@ use word::walk::walk_number;
 ghost use mathlib.Core.Path.{_≡_};
 ghost use Rattle.table.specs.HeldRule.{HoldsRule};
 ghost use Rattle.table.specs.Rule.{Rule};
-ghost use Rattle.treejudge.specs.JudgeCall.{treeOutcome, TreeAnswers, Judged};
-ghost use Rattle.treejudge.specs.Judgeable.{Judgeable};
+ghost use Rattle.word.specs.Judging.{Judgeable};
+ghost use Rattle.treejudge.specs.JudgeCall.{treeOutcome, TreeAnswers, Judged, nameRoom};
 
 // The tree judge's answer: 0, the verdict (1 yes, 0 no), entry and period, and the length of the node's name (255 on no); or the
 // number of the question that failed and zeros.
@@ -45,7 +45,7 @@ pub fn judge_walk<'a>(
     v: &'a [u8],
     names: &mut [u8],
 ) -> TreeAnswer
-    requires { ⌜ Judgeable header (now cells) (now u) (now v) (now names) ⌝ }
+    requires { ⌜ Judgeable header (now cells) (now u) (now v) nameRoom (now names) ⌝ }
     ensures { λ r. ⌜ ((R : Rule) → HoldsRule R header (now (cells .entry))
         → Judged R (now (u .entry)) (now (v .entry)) (now (names .entry)) r (now (names .exit))) ⌝ }
 {

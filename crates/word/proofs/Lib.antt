@@ -7,3 +7,4 @@ pub mod RunToLoop
 pub mod LoopTheorem
 pub mod Variants
 pub mod WalkQuestions
+pub mod JudgeQuestions

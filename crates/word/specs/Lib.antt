@@ -1,4 +1,5 @@
 pub mod Walk
+pub mod Judging
 pub mod Run
 pub mod Loop
 pub mod Verdict

@@ -1,10 +1,11 @@
--- The plain judge, by the laws of PlainCalls.
+-- The plain judge, by the laws of the questions and of PlainCalls.
 use borrow.Author.Needs.{needs}
 use native.Mathlib.Omega.{arith}
 use mathlib.Core.Path.{sym, _∙_}
 use Rattle.table.proofs.GridReading.{read-holds, reading-refused, reading-rule}
+use Rattle.word.proofs.JudgeQuestions.{table-no, walk-no, room-no, all-yes, read-judgeable}
 use Rattle.plain.proofs.ScratchBytes.{scratch-length}
-use Rattle.plain.proofs.PlainCalls.{read-judgeable, table-refused, walk-no, scratch-no, judged}
+use Rattle.plain.proofs.PlainCalls.{plain-refused, plain-judged}
 use Rattle.plain.proofs.judge.plain_judge.Statement.{statement}
 use Rattle.plain.proofs.judge.plain_judge.Tie as tie
 
@@ -26,7 +27,7 @@ returns c =
     let told = walk .before .before in
     let read = told .before .before .read-rule .ensures in
     let r = reading-rule _ _ _ (read .1) _ (sym (told .header .given .1) ∙ read .0) in
-    walk-no _ _ _ _ _ _ r _ (walk .walk-number .ensures) (c .if1 .taken)
+    plain-refused _ _ _ _ _ (walk-no _ _ _ _ _ _ _ r _ (walk .walk-number .ensures) (c .if1 .taken))
 
 returns-2 : tie.Need-returns-2
 returns-2 c =
@@ -34,7 +35,8 @@ returns-2 c =
     let told = walk .before .before in
     let read = told .before .before .read-rule .ensures in
     let r = reading-rule _ _ _ (read .1) _ (sym (told .header .given .1) ∙ read .0) in
-    scratch-no _ _ _ _ _ _ r _ (walk .walk-number .ensures) (c .before .if1 .left) (omega (arith, c .if2 .taken, scratch-length))
+    plain-refused _ _ _ _ _
+    (room-no _ _ _ _ _ _ _ r _ (walk .walk-number .ensures) (c .before .if1 .left) (omega (arith, c .if2 .taken, scratch-length)))
 
 judge-walk-requires : tie.Need-judge-walk-requires
 judge-walk-requires c κs =
@@ -42,13 +44,14 @@ judge-walk-requires c κs =
     let told = walk .before .before in
     let read = told .before .before .read-rule .ensures in
     let r = reading-rule _ _ _ (read .1) _ (sym (told .header .given .1) ∙ read .0) in
-    read-judgeable r _ _ _ _ (walk .walk-number .ensures) (c .before .before .before .if1 .left)
+    read-judgeable _ _ _ _ _ _ _ r _ (walk .walk-number .ensures) (c .before .before .before .if1 .left)
     (omega (arith, c .before .before .if2 .left, scratch-length))
 
 returns-3 : tie.Need-returns-3
 returns-3 c =
     let read = c .before .before .before .read-rule .ensures in
-    table-refused _ _ _ _ _ (reading-refused _ _ _ (read .1) _ (sym (c .before .number .given .1) ∙ read .0))
+    plain-refused _ _ _ _ _
+    (table-no _ _ _ _ _ _ (reading-refused _ _ _ (read .1) _ (sym (c .before .number .given .1) ∙ read .0)))
 
 same-length : tie.Need-same-length
 same-length c = search needs
@@ -61,7 +64,8 @@ returns-4 c =
     let r = reading-rule _ _ _ (read .1) _ (sym (told .header .given .1) ∙ read .0) in
     let judge = c .before .before .judge-walk .ensures in
     let room = c .before .before .before .before .before in
-    judged _ _ _ _ _ _ r _ (walk .walk-number .ensures) (room .before .if1 .left) (omega (arith, room .if2 .left, scratch-length))
+    plain-judged _ _ _ _ _
+    (all-yes _ _ _ _ _ _ _ r _ (walk .walk-number .ensures) (room .before .if1 .left) (omega (arith, room .if2 .left, scratch-length)))
     _ _ (judge .0 (r .rule) (read-holds r)) (judge .1)
 
 pub plain-judge-spec : {M : Type 1} → statement M

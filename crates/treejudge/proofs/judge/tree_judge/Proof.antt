@@ -1,8 +1,9 @@
--- The tree judge, by the laws of JudgeCalls.
+-- The tree judge, by the laws of the questions and of JudgeCalls.
 use borrow.Author.Needs.{needs}
 use mathlib.Core.Path.{sym, _∙_}
 use Rattle.table.proofs.GridReading.{read-holds, reading-refused, reading-rule}
-use Rattle.treejudge.proofs.JudgeCalls.{read-judgeable, table-refused, walk-no, room-no, judged}
+use Rattle.word.proofs.JudgeQuestions.{table-no, walk-no, room-no, all-yes, read-judgeable}
+use Rattle.treejudge.proofs.JudgeCalls.{tree-refused, tree-judged}
 use Rattle.treejudge.proofs.judge.tree_judge.Statement.{statement}
 use Rattle.treejudge.proofs.judge.tree_judge.Tie as tie
 
@@ -30,7 +31,7 @@ returns c =
     let told = walk .before .before in
     let read = told .before .before .read-rule .ensures in
     let r = reading-rule _ _ _ (read .1) _ (sym (told .header .given .1) ∙ read .0) in
-    walk-no _ _ _ _ _ _ r _ (walk .walk-number .ensures) (c .before .if1 .taken) _ (c .tree-refusal2 .ensures)
+    tree-refused _ _ _ _ _ (walk-no _ _ _ _ _ _ _ r _ (walk .walk-number .ensures) (c .before .if1 .taken)) _ (c .tree-refusal2 .ensures)
 
 tree-refusal-requires-3 : tie.Need-tree-refusal-requires-3
 tree-refusal-requires-3 c κs = search needs
@@ -41,7 +42,8 @@ returns-2 c =
     let told = walk .before .before in
     let read = told .before .before .read-rule .ensures in
     let r = reading-rule _ _ _ (read .1) _ (sym (told .header .given .1) ∙ read .0) in
-    room-no _ _ _ _ _ _ r _ (walk .walk-number .ensures) (c .before .before .if1 .left) (c .before .if2 .taken) _ (c .tree-refusal3 .ensures)
+    tree-refused _ _ _ _ _
+    (room-no _ _ _ _ _ _ _ r _ (walk .walk-number .ensures) (c .before .before .if1 .left) (c .before .if2 .taken)) _ (c .tree-refusal3 .ensures)
 
 judge-walk-requires : tie.Need-judge-walk-requires
 judge-walk-requires c κs =
@@ -49,12 +51,13 @@ judge-walk-requires c κs =
     let told = walk .before .before in
     let read = told .before .before .read-rule .ensures in
     let r = reading-rule _ _ _ (read .1) _ (sym (told .header .given .1) ∙ read .0) in
-    read-judgeable r _ _ _ _ (walk .walk-number .ensures) (c .before .before .before .if1 .left) (c .before .before .if2 .left)
+    read-judgeable _ _ _ _ _ _ _ r _ (walk .walk-number .ensures) (c .before .before .before .if1 .left) (c .before .before .if2 .left)
 
 returns-3 : tie.Need-returns-3
 returns-3 c =
     let read = c .before .before .before .before .read-rule .ensures in
-    table-refused _ _ _ _ _ (reading-refused _ _ _ (read .1) _ (sym (c .before .before .number .given .1) ∙ read .0)) _ (c .tree-refusal .ensures)
+    tree-refused _ _ _ _ _
+    (table-no _ _ _ _ _ _ (reading-refused _ _ _ (read .1) _ (sym (c .before .before .number .given .1) ∙ read .0))) _ (c .tree-refusal .ensures)
 
 same-length : tie.Need-same-length
 same-length c = search needs
@@ -66,7 +69,7 @@ returns-4 c =
     let read = told .before .before .read-rule .ensures in
     let r = reading-rule _ _ _ (read .1) _ (sym (told .header .given .1) ∙ read .0) in
     let room = c .before .before .before .before .before in
-    judged _ _ _ _ _ _ r _ (walk .walk-number .ensures) (room .before .if1 .left) (room .if2 .left) _ _
+    tree-judged _ _ _ _ _ (all-yes _ _ _ _ _ _ _ r _ (walk .walk-number .ensures) (room .before .if1 .left) (room .if2 .left)) _ _
     (c .before .before .judge-walk .ensures (r .rule) (read-holds r))
 
 pub tree-judge-spec : {M : Type 1} → statement M
