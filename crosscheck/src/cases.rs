@@ -1,0 +1,194 @@
+//! One call with its inputs, the lent buffer inside a larger one, and what
+//! comes of it.
+
+use crate::answers::{
+    Calls, Judges, Numbers, PlainAnswer, ReadAnswer, StartAnswer, StepAnswer, TreeAnswer,
+    WriteAnswer,
+};
+use crate::hex;
+use crate::random::Random;
+use crate::reference::{NAME_LENGTH, RECORD_LENGTH, SCRATCH_LENGTH};
+use std::ops::Range;
+
+/// A walk under a table.
+pub struct Walk {
+    pub table: Vec<u8>,
+    pub u: Vec<u8>,
+    pub v: Vec<u8>,
+}
+
+/// A call and its inputs, the lent buffer left out.
+pub enum Case {
+    Read(Vec<u8>),
+    Write(Numbers, Vec<u8>),
+    Start(Vec<u8>),
+    Step(Vec<u8>, u8, Vec<u8>),
+    Tree(Walk),
+    Plain(Walk),
+}
+
+/// The calls' names, in the order of `Case::kind`.
+pub const KINDS: [&str; 6] = ["read", "write", "start", "step", "tree", "plain"];
+
+#[derive(Debug, PartialEq)]
+pub enum Answer {
+    Read(ReadAnswer),
+    Write(WriteAnswer),
+    Start(StartAnswer),
+    Step(StepAnswer),
+    Tree(TreeAnswer),
+    Plain(PlainAnswer),
+}
+
+impl Answer {
+    pub fn number(&self) -> u8 {
+        match self {
+            Answer::Read(answer) => answer.number,
+            Answer::Write(answer) => answer.number,
+            Answer::Start(answer) => answer.number,
+            Answer::Step(answer) => answer.number,
+            Answer::Tree(answer) => answer.number,
+            Answer::Plain(answer) => answer.number,
+        }
+    }
+
+    /// The numbers in the order the stored results have them.
+    pub fn numbers(&self) -> Vec<u64> {
+        match *self {
+            Answer::Read(ReadAnswer { number, states, letters, sets, start }) => {
+                vec![number.into(), states as u64, letters as u64, sets as u64, start.into()]
+            }
+            Answer::Write(WriteAnswer { number, written })
+            | Answer::Start(StartAnswer { number, written }) => {
+                vec![number.into(), written as u64]
+            }
+            Answer::Step(StepAnswer { number, written, accepting, stable }) => {
+                vec![number.into(), written as u64, accepting.into(), stable.into()]
+            }
+            Answer::Tree(TreeAnswer { number, verdict, entry, period, length }) => {
+                vec![number.into(), verdict.into(), entry, period, length.into()]
+            }
+            Answer::Plain(PlainAnswer { number, verdict }) => vec![number.into(), verdict.into()],
+        }
+    }
+}
+
+impl Case {
+    pub fn kind(&self) -> usize {
+        match self {
+            Case::Read(..) => 0,
+            Case::Write(..) => 1,
+            Case::Start(..) => 2,
+            Case::Step(..) => 3,
+            Case::Tree(..) => 4,
+            Case::Plain(..) => 5,
+        }
+    }
+
+    /// The length the lent buffer needs (a guess for inputs not accepted).
+    pub fn needed(&self) -> usize {
+        match self {
+            Case::Read(table) if table.len() >= 2 => {
+                usize::from(table[0].min(8)).pow(2) * usize::from(table[1].min(16))
+            }
+            Case::Write(numbers, grid) => {
+                let standing = grid.iter().filter(|byte| **byte != 255).count();
+                4 + numbers.states.min(8) * numbers.letters.min(16) + standing
+            }
+            Case::Read(..) | Case::Start(..) | Case::Step(..) => RECORD_LENGTH,
+            Case::Tree(..) => NAME_LENGTH,
+            Case::Plain(..) => SCRATCH_LENGTH,
+        }
+    }
+
+    /// The call, put to one of the judges. Only for walks.
+    pub fn judged_by(&self, judges: &dyn Judges, lent: &mut [u8]) -> Answer {
+        match self {
+            Case::Tree(Walk { table, u, v }) => Answer::Tree(judges.tree_judge(table, u, v, lent)),
+            Case::Plain(Walk { table, u, v }) => {
+                Answer::Plain(judges.plain_judge(table, u, v, lent))
+            }
+            _ => unreachable!("only walks are judged"),
+        }
+    }
+
+    /// The call.
+    pub fn answered_by(&self, calls: &dyn Calls, lent: &mut [u8]) -> Answer {
+        match self {
+            Case::Read(table) => Answer::Read(calls.read(table, lent)),
+            Case::Write(numbers, grid) => Answer::Write(calls.write(*numbers, grid, lent)),
+            Case::Start(table) => Answer::Start(calls.start(table, lent)),
+            Case::Step(table, letter, record) => {
+                Answer::Step(calls.step(table, *letter, record, lent))
+            }
+            Case::Tree(Walk { table, u, v }) => Answer::Tree(calls.tree_judge(table, u, v, lent)),
+            Case::Plain(Walk { table, u, v }) => {
+                Answer::Plain(calls.plain_judge(table, u, v, lent))
+            }
+        }
+    }
+
+    /// The call and its inputs, as text.
+    pub fn shown(&self) -> String {
+        let name = KINDS[self.kind()];
+        match self {
+            Case::Read(table) | Case::Start(table) => format!("{name} {}", hex::show(table)),
+            Case::Write(numbers, grid) => {
+                let Numbers { states, letters, sets, start } = numbers;
+                format!("{name} {states} {letters} {sets} {start} {}", hex::show(grid))
+            }
+            Case::Step(table, letter, record) => {
+                format!("{name} {} {letter} {}", hex::show(table), hex::show(record))
+            }
+            Case::Tree(Walk { table, u, v }) | Case::Plain(Walk { table, u, v }) => {
+                format!("{name} {} {} {}", hex::show(table), hex::show(u), hex::show(v))
+            }
+        }
+    }
+}
+
+/// A large buffer, and the part of it that is lent.
+#[derive(Clone, PartialEq)]
+pub struct Lending {
+    pub whole: Vec<u8>,
+    pub part: Range<usize>,
+}
+
+impl Lending {
+    /// A lent part of an interesting length, all bytes filled one way or
+    /// another.
+    pub fn random(random: &mut Random, needed: usize) -> Lending {
+        let length = match random.below(12) {
+            0 => 0,
+            1 => needed.saturating_sub(1),
+            2 => random.below(needed.max(1)),
+            3 | 4 => needed + random.between(1, 40),
+            5 => needed + 1,
+            _ => needed,
+        };
+        let before = random.between(1, 40);
+        let behind = random.between(1, 40);
+        let mut whole = vec![0; before + length + behind];
+        match random.below(8) {
+            0 => {}
+            1 => whole.fill(255),
+            2 => whole.fill(1),
+            _ => random.fill(&mut whole),
+        }
+        Lending { whole, part: before..before + length }
+    }
+
+    pub fn lent(&mut self) -> &mut [u8] {
+        &mut self.whole[self.part.clone()]
+    }
+
+    /// The places where two of them differ, with the part each lies in.
+    pub fn differences(&self, other: &Lending) -> String {
+        let places = (0..self.whole.len()).filter(|at| self.whole[*at] != other.whole[*at]);
+        let shown = places.take(20).map(|at| {
+            let place = at as isize - self.part.start as isize;
+            format!("[{place}] {:02x}/{:02x}", self.whole[at], other.whole[at])
+        });
+        shown.collect::<Vec<_>>().join(" ")
+    }
+}

@@ -1,0 +1,183 @@
+//! Call by call, the library (or the tuned code) against the reference, on
+//! random inputs.
+
+use crate::answers::{Judges, Numbers};
+use crate::cases::{Answer, Case, Lending, Walk, KINDS};
+use crate::ffi;
+use crate::inputs::{self, Reach};
+use crate::random::Random;
+use crate::reference::Reference;
+use crate::tuned::{Relations, Tuned};
+use std::time::Instant;
+
+/// How many cases of each call.
+const CASES: [usize; 6] = [40_000, 40_000, 20_000, 62_000, 24_000, 14_000];
+
+/// How many walks of each judge when the tuned code is compared.
+const TUNED_CASES: [usize; 6] = [0, 0, 0, 0, 40_000, 20_000];
+
+/// Of a walk's cases, one in so many is at the limit of length.
+const LIMIT_IN: usize = 250;
+
+fn write_case(random: &mut Random) -> Case {
+    let (mut numbers, mut grid) = inputs::gridded(random);
+    match random.below(12) {
+        0 => inputs::damage(random, &mut grid),
+        1 if !grid.is_empty() => {
+            let place = random.below(grid.len());
+            grid[place] = random.pick(&[1 << numbers.sets, 254, 128, 16]);
+        }
+        2 => spoil_numbers(random, &mut numbers),
+        _ => {}
+    }
+    Case::Write(numbers, grid)
+}
+
+/// Numbers just or far out of range, or a bad starting map.
+fn spoil_numbers(random: &mut Random, numbers: &mut Numbers) {
+    let far = random.pick(&[0, 256, 257, 65_536, 1 << 32, usize::MAX, usize::MAX / 2 + 2]);
+    match random.below(5) {
+        0 => numbers.states = random.pick(&[0, 9, far]),
+        1 => numbers.letters = random.pick(&[0, 17, far]),
+        2 => numbers.sets = random.pick(&[0, 5, far]),
+        3 => numbers.start |= 1 << random.between(numbers.states, 15),
+        _ => numbers.start = random.pick(&[0, 1 << numbers.states, 256, 65_535]),
+    }
+}
+
+fn step_case(random: &mut Random) -> Case {
+    let mut table = inputs::table(random);
+    let record = inputs::record(random, &table);
+    let limit = table[1];
+    let letter = match random.below(20) {
+        0 => random.pick(&[limit, 16, 255]),
+        _ => random.below(limit.into()) as u8,
+    };
+    if random.once_in(16) {
+        inputs::damage(random, &mut table);
+    }
+    Case::Step(table, letter, record)
+}
+
+/// A walk under a table, now and then one of them bad.
+fn random_walk(random: &mut Random) -> Walk {
+    let mut table = inputs::table(random);
+    let limit = table[1].into();
+    let reach = match random.below(LIMIT_IN) {
+        0 => Reach::Limit,
+        place if place % 5 == 1 => Reach::Middle,
+        _ => Reach::Short,
+    };
+    let mut walk = inputs::walk(random, reach, limit);
+    if random.once_in(10) {
+        inputs::spoil_walk(random, &mut walk, limit);
+    }
+    if random.once_in(16) {
+        inputs::damage(random, &mut table);
+    }
+    Walk { table, u: walk.0, v: walk.1 }
+}
+
+/// A random case of one kind of call.
+fn random_case(random: &mut Random, kind: usize) -> Case {
+    match kind {
+        0 => Case::Read(inputs::any_table(random, 3)),
+        1 => write_case(random),
+        2 => Case::Start(inputs::any_table(random, 3)),
+        3 => step_case(random),
+        4 => Case::Tree(random_walk(random)),
+        _ => Case::Plain(random_walk(random)),
+    }
+}
+
+/// What was counted for one kind of call.
+#[derive(Default, Clone, Copy)]
+struct Count {
+    cases: usize,
+    differences: usize,
+    /// By refusal number; 0 for accepted.
+    numbers: [usize; 13],
+}
+
+/// Whose answers are held against the reference's.
+type Subject<'a> = &'a dyn Fn(&Case, &mut [u8]) -> Answer;
+
+/// One case: the same call twice, on equal buffers.
+fn check(random: &mut Random, case: &Case, subject: Subject, count: &mut Count) {
+    let mut expected = Lending::random(random, case.needed());
+    let mut found = expected.clone();
+    let right = case.answered_by(&Reference, expected.lent());
+    let answer = subject(case, found.lent());
+    count.cases += 1;
+    count.numbers[right.number() as usize] += 1;
+    if answer == right && found == expected {
+        return;
+    }
+    count.differences += 1;
+    println!("difference: {} lent {}", case.shown(), found.part.len());
+    println!("  reference {right:?}");
+    println!("  other     {answer:?}");
+    if found != expected {
+        println!("  bytes (reference/other) {}", expected.differences(&found));
+    }
+}
+
+/// All cases of a list, in a mixed order; says whether there was none that
+/// differs.
+fn run(seed: u64, cases: &[usize; 6], subject: Subject) -> bool {
+    let begun = Instant::now();
+    let mut random = Random::new(seed);
+    let mut counts = [Count::default(); 6];
+    let rounds = cases.iter().max().copied().unwrap_or(0);
+    for round in 0..rounds {
+        for kind in 0..6 {
+            // Spreads each kind evenly over the rounds.
+            if (round + 1) * cases[kind] / rounds > round * cases[kind] / rounds {
+                let case = random_case(&mut random, kind);
+                check(&mut random, &case, subject, &mut counts[kind]);
+            }
+        }
+    }
+    report(&counts);
+    println!("seed {seed}, {:.1} s", begun.elapsed().as_secs_f64());
+    counts.iter().all(|count| count.differences == 0)
+}
+
+fn report(counts: &[Count; 6]) {
+    for (name, count) in KINDS.iter().zip(counts) {
+        if count.cases == 0 {
+            continue;
+        }
+        print!("{name:6} {:6} cases {:3} differences", count.cases, count.differences);
+        print!("   accepted {}", count.numbers[0]);
+        for (number, times) in count.numbers.iter().enumerate().skip(1) {
+            if *times != 0 {
+                print!(", {number}: {times}");
+            }
+        }
+        println!();
+    }
+    let cases: usize = counts.iter().map(|count| count.cases).sum();
+    let differences: usize = counts.iter().map(|count| count.differences).sum();
+    println!("all    {cases:6} cases {differences:3} differences");
+}
+
+/// The library against the reference.
+pub fn compare(seed: u64) -> bool {
+    let Some(library) = ffi::library() else {
+        eprintln!("compare needs the library: build with --features linked");
+        return false;
+    };
+    run(seed, &CASES, &|case, lent| case.answered_by(library, lent))
+}
+
+/// The tuned judges against the reference.
+pub fn compare_tuned(seed: u64) -> bool {
+    let against = |name: &str, judges: &dyn Judges, cases: &[usize; 6]| {
+        println!("{name}:");
+        run(seed, cases, &|case, lent| case.judged_by(judges, lent))
+    };
+    let tuned = against("tuned", &Tuned, &TUNED_CASES);
+    let relations = against("tuned, plain by relations", &Relations, &[0, 0, 0, 0, 0, 20_000]);
+    tuned && relations
+}
