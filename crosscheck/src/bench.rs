@@ -8,7 +8,7 @@ use crate::inputs::{self, Reach};
 use crate::job;
 use crate::random::Random;
 use crate::reference::{LONGEST, NAME_LENGTH, NO_TRANSITION, SCRATCH_LENGTH};
-use crate::tuned::{letters_stepped, Relations, Tuned};
+use crate::tuned::{letters_stepped, OtherWays, Tuned};
 use crate::vectors::hard_jobs;
 use std::fs;
 use std::hint::black_box;
@@ -182,13 +182,13 @@ fn line(inputs: &Inputs, name: &str, which: Which, library: Option<f64>, tuned: 
     }
 }
 
-/// Times one list and prints its three lines; says whether all agree.
+/// Times one list and prints its four lines; says whether all agree.
 fn measure(inputs: &Inputs, library: Option<&'static dyn Calls>) -> bool {
-    let mut judges: Vec<&dyn Judges> = vec![&Tuned];
+    let mut judges: Vec<&dyn Judges> = vec![&OtherWays, &Tuned];
     judges.extend(library.map(|library| library as &dyn Judges));
     let (tree, trees_agree) = best(&judges, Which::Tree, &inputs.walks);
-    line(inputs, "tree judge", Which::Tree, tree.get(1).copied(), tree[0]);
-    judges.insert(0, &Relations);
+    line(inputs, "tree, rows", Which::Tree, tree.get(2).copied(), tree[0]);
+    line(inputs, "tree, words", Which::Tree, tree.get(2).copied(), tree[1]);
     let (plain, plains_agree) = best(&judges, Which::Plain, &inputs.walks);
     line(inputs, "plain, squares", Which::Plain, plain.get(2).copied(), plain[1]);
     line(inputs, "plain, relations", Which::Plain, plain.get(2).copied(), plain[0]);

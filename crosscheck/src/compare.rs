@@ -7,7 +7,7 @@ use crate::ffi;
 use crate::inputs::{self, Reach};
 use crate::random::Random;
 use crate::reference::Reference;
-use crate::tuned::{Relations, Tuned};
+use crate::tuned::{OtherWays, Tuned};
 use std::time::Instant;
 
 /// How many cases of each call.
@@ -178,6 +178,6 @@ pub fn compare_tuned(seed: u64) -> bool {
         run(seed, cases, &|case, lent| case.judged_by(judges, lent))
     };
     let tuned = against("tuned", &Tuned, &TUNED_CASES);
-    let relations = against("tuned, plain by relations", &Relations, &[0, 0, 0, 0, 0, 20_000]);
+    let relations = against("tuned, rows and relations", &OtherWays, &[0, 0, 0, 0, 40_000, 20_000]);
     tuned && relations
 }

@@ -4,15 +4,24 @@
 
 mod judge;
 mod plain;
+mod rows;
 mod table;
 mod tree;
 
 use crate::answers::{Judges, PlainAnswer, TreeAnswer};
 use crate::reference::{LONGEST, NAME_LENGTH, SCRATCH_LENGTH};
+use judge::History;
+use rows::Rows;
 use table::{check_walk, parse, Successors};
+use tree::Tree;
 
 /// The tree judge's answer, and the letters that were stepped for it.
-fn judged(table: &[u8], u: &[u8], v: &[u8], names: &mut [u8]) -> Result<(TreeAnswer, u64), u8> {
+fn judged<T: History>(
+    table: &[u8],
+    u: &[u8],
+    v: &[u8],
+    names: &mut [u8],
+) -> Result<(TreeAnswer, u64), u8> {
     let mut successors = Successors::new();
     let header = parse(table, &mut successors)?;
     check_walk(&header, u, v)?;
@@ -20,7 +29,7 @@ fn judged(table: &[u8], u: &[u8], v: &[u8], names: &mut [u8]) -> Result<(TreeAns
         return Err(10);
     }
     successors.close(header.letters);
-    let found = judge::search(&successors, header.sets, header.start, u, v);
+    let found = judge::search::<T>(&successors, header.sets, header.start, u, v);
     let mut answer = TreeAnswer {
         number: 0,
         verdict: 0,
@@ -39,7 +48,7 @@ fn judged(table: &[u8], u: &[u8], v: &[u8], names: &mut [u8]) -> Result<(TreeAns
 
 /// The letters the tuned tree judge steps for an accepted walk.
 pub fn letters_stepped(table: &[u8], u: &[u8], v: &[u8]) -> u64 {
-    judged(table, u, v, &mut [0; NAME_LENGTH]).map_or(0, |(_, letters)| letters)
+    judged::<Tree>(table, u, v, &mut [0; NAME_LENGTH]).map_or(0, |(_, letters)| letters)
 }
 
 /// The plain judge, given how the tail is read.
@@ -63,12 +72,12 @@ fn plainly(
     Ok(PlainAnswer { number: 0, verdict: verdict.into() })
 }
 
-/// The tuned judges; the plain one by squares of combinations.
+/// The tuned judges: trees in two words, squares of combinations.
 pub struct Tuned;
 
 impl Judges for Tuned {
     fn tree_judge(&self, table: &[u8], u: &[u8], v: &[u8], names: &mut [u8]) -> TreeAnswer {
-        judged(table, u, v, names).map_or_else(TreeAnswer::refused, |(answer, _)| answer)
+        judged::<Tree>(table, u, v, names).map_or_else(TreeAnswer::refused, |(answer, _)| answer)
     }
 
     fn plain_judge(&self, table: &[u8], u: &[u8], v: &[u8], scratch: &mut [u8]) -> PlainAnswer {
@@ -76,12 +85,13 @@ impl Judges for Tuned {
     }
 }
 
-/// The same, but the plain judge by relations: a sharper baseline.
-pub struct Relations;
+/// The same in other ways: trees as rows of nodes, which is the more usual
+/// one; the plain judge by relations, which is the sharper one.
+pub struct OtherWays;
 
-impl Judges for Relations {
+impl Judges for OtherWays {
     fn tree_judge(&self, table: &[u8], u: &[u8], v: &[u8], names: &mut [u8]) -> TreeAnswer {
-        Tuned.tree_judge(table, u, v, names)
+        judged::<Rows>(table, u, v, names).map_or_else(TreeAnswer::refused, |(answer, _)| answer)
     }
 
     fn plain_judge(&self, table: &[u8], u: &[u8], v: &[u8], scratch: &mut [u8]) -> PlainAnswer {

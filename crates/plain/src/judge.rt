@@ -54,7 +54,7 @@ fn fill_squares(cells: &Cells, v: &[u8], n: usize, k: usize, scratch: &mut [u8])
 }
 
 // The judge on a read table, for any walk over its letters. Its verdict is right for every rule that the table holds.
-pub fn judge_walk(cells: &Cells, header: Header, u: &[u8], v: &[u8], scratch: &mut [u8]) -> u8
+fn judge_walk(cells: &Cells, header: Header, u: &[u8], v: &[u8], scratch: &mut [u8]) -> u8
     requires { ⌜ Judgeable header (now cells) (now u) (now v) scratchLength (now scratch) ⌝ }
     ensures { λ r. ⌜ ((R : Rule) → HoldsRule R header (now (cells .entry)) → Decides r (Loop R (now (u .entry)) (now (v .entry))))
         × (now (scratch .exit) ≡ stored 0 (replicate scratchLength 0) (now (scratch .entry))) ⌝ }

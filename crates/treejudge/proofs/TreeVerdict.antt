@@ -37,7 +37,7 @@ tree-decides R u v names answer after J well sets nonempty = go (J .finding) (J 
 -- THE CONTRACT DETERMINES ANSWER AND BUFFER
 
 -- two right findings are the same
-found-one : (R : Rule) (u v : List ℕ) (entry period : ℕ) (f g : Finding) → Found R u v entry period f → Found R u v entry period g → f ≡ g
+pub found-one : (R : Rule) (u v : List ℕ) (entry period : ℕ) (f g : Finding) → Found R u v entry period f → Found R u v entry period g → f ≡ g
 found-one R u v entry period (yes-node w) (yes-node p) F G = ap (λ (x : List ℕ). yes-node x) (first-unique R u v entry period w p F G)
 found-one R u v entry period (yes-node w) no-node F none = absurd (none w (F .witness))
 found-one R u v entry period no-node (yes-node p) none G = absurd (none p (G .witness))

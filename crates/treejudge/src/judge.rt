@@ -38,7 +38,7 @@ pub struct TreeAnswer {
 const NO_NAME: u8 = 255;
 
 // The judge on a read table, for any walk over its letters. Its answer is right for every rule that the table holds.
-pub fn judge_walk<'a>(
+fn judge_walk<'a>(
     cells: &Cells,
     header: Header,
     u: &'a [u8],

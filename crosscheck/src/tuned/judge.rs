@@ -2,7 +2,22 @@
 //! the count of stable and accepting nodes running along.
 
 use super::table::{Successors, Words};
-use super::tree::{Name, Tree};
+use super::tree::Name;
+
+/// A tree as the search reads it.
+pub trait History: Copy {
+    /// The root alone, active set 1.
+    fn starting(start: u8) -> Self;
+    /// The same tree, whatever is counted on it?
+    fn equals(&self, other: &Self) -> bool;
+    /// The same tree, every node stable so far and none accepted.
+    fn counting_anew(&self) -> Self;
+    /// The tree after one letter; counts stable and accepting nodes if COUNT.
+    fn step<const COUNT: bool>(&self, words: &Words, sets: u64) -> Self;
+    /// The first in dictionary order of the nodes that were stable all the
+    /// time and accepted.
+    fn kept_node(&self) -> Option<Name>;
+}
 
 /// Reads tails under one table.
 struct Reader<'a> {
@@ -16,7 +31,7 @@ struct Reader<'a> {
 impl Reader<'_> {
     /// The tree after some letters.
     #[inline(always)]
-    fn read<const COUNT: bool>(&mut self, mut tree: Tree, letters: &[u8]) -> Tree {
+    fn read<T: History, const COUNT: bool>(&mut self, mut tree: T, letters: &[u8]) -> T {
         self.letters += letters.len() as u64;
         for letter in letters {
             let words = &self.by_letter[usize::from(letter & 15)];
@@ -27,21 +42,21 @@ impl Reader<'_> {
 
     /// The tree after one tail.
     #[inline(never)]
-    fn tail(&mut self, tree: Tree) -> Tree {
-        self.read::<false>(tree, self.v)
+    fn tail<T: History>(&mut self, tree: T) -> T {
+        self.read::<T, false>(tree, self.v)
     }
 
     /// The tree after one tail, counted.
     #[inline(never)]
-    fn counted_tail(&mut self, tree: Tree) -> Tree {
-        self.read::<true>(tree, self.v)
+    fn counted_tail<T: History>(&mut self, tree: T) -> T {
+        self.read::<T, true>(tree, self.v)
     }
 }
 
 /// A tree and its round.
 #[derive(Clone, Copy)]
-struct Round {
-    tree: Tree,
+struct Round<T> {
+    tree: T,
     number: u64,
 }
 
@@ -58,10 +73,10 @@ pub struct Found {
 /// The whole search. The tree kept for comparing is that of round 2^i - 1,
 /// for 2^i rounds. Since the last of these is on the cycle and the count
 /// began there, the count is right when its tree comes again.
-pub fn search(successors: &Successors, sets: usize, start: u8, u: &[u8], v: &[u8]) -> Found {
+pub fn search<T: History>(successors: &Successors, sets: usize, start: u8, u: &[u8], v: &[u8]) -> Found {
     let by_letter = &successors.by_letter;
     let mut reader = Reader { by_letter, sets: sets as u64, v, letters: 0 };
-    let first = Round { tree: reader.read::<false>(Tree::starting(start), u), number: 0 };
+    let first = Round { tree: reader.read::<T, false>(T::starting(start), u), number: 0 };
     let (mut last, mut kept) = (first, first);
     let (mut limit, mut period) = (1, 1);
     let mut tree = reader.counted_tail(first.tree.counting_anew());
@@ -90,7 +105,13 @@ pub fn search(successors: &Successors, sets: usize, start: u8, u: &[u8], v: &[u8
 
 /// The first round on the cycle, from a round on (behind it if `off`), at
 /// the latest that of the kept tree: two trees a period apart.
-fn entry(reader: &mut Reader, from: Round, off: bool, kept: Round, period: u64) -> u64 {
+fn entry<T: History>(
+    reader: &mut Reader,
+    from: Round<T>,
+    off: bool,
+    kept: Round<T>,
+    period: u64,
+) -> u64 {
     let (mut round, mut behind) = (from.number, from.tree);
     if off && round + 1 == kept.number {
         return kept.number;

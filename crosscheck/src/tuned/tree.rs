@@ -11,6 +11,7 @@
 //! node's subtree begins, bit 6 "stable since the count began", bit 7
 //! "accepted since then". Places are counted in bits, so 8 for each node.
 
+use super::judge::History;
 use super::table::{word, Words};
 use std::hint::select_unpredictable as select;
 
@@ -28,28 +29,24 @@ pub struct Tree {
     marks: u64,
 }
 
-impl Tree {
-    /// The root alone, active set 1.
-    pub fn starting(start: u8) -> Tree {
+impl History for Tree {
+    fn starting(start: u8) -> Tree {
         Tree { labels: start.into(), marks: 1 }
     }
 
-    /// The same tree, whatever is counted on it?
     #[inline(always)]
-    pub fn equals(&self, other: &Tree) -> bool {
+    fn equals(&self, other: &Tree) -> bool {
         self.labels == other.labels && (self.marks ^ other.marks) & SHAPE == 0
     }
 
-    /// The same tree, every node stable so far and none accepted.
-    pub fn counting_anew(&self) -> Tree {
+    fn counting_anew(&self) -> Tree {
         let marks = self.marks & SHAPE;
         let standing = (marks | marks >> 1 | marks >> 2) & ONES;
         Tree { labels: self.labels, marks: marks | standing << 6 }
     }
 
-    /// The tree after one letter; counts stable and accepting nodes if COUNT.
     #[inline(always)]
-    pub fn step<const COUNT: bool>(self, words: &Words, sets: u64) -> Tree {
+    fn step<const COUNT: bool>(&self, words: &Words, sets: u64) -> Tree {
         let (mut labels, mut marks) = (self.labels, self.marks);
         let mut out = Tree { labels: 0, marks: 0 };
         // The next place to put out to, and the states that have a host.
@@ -99,6 +96,15 @@ impl Tree {
         out
     }
 
+    fn kept_node(&self) -> Option<Name> {
+        let both = (STABLE | ACCEPTED) as u8;
+        let marks = self.marks.to_le_bytes();
+        let kept = (0..8).filter(|place| marks[*place] & both == both);
+        kept.map(|place| self.name(place)).min_by(|one, other| one.get().cmp(other.get()))
+    }
+}
+
+impl Tree {
     /// The name of the node at a place: for it and each node above it the
     /// number of siblings before.
     fn name(&self, place: usize) -> Name {
@@ -117,15 +123,6 @@ impl Tree {
         }
         name
     }
-
-    /// The first in dictionary order of the nodes that were stable all the
-    /// time and accepted.
-    pub fn kept_node(&self) -> Option<Name> {
-        let both = (STABLE | ACCEPTED) as u8;
-        let marks = self.marks.to_le_bytes();
-        let kept = (0..8).filter(|place| marks[*place] & both == both);
-        kept.map(|place| self.name(place)).min_by(|one, other| one.get().cmp(other.get()))
-    }
 }
 
 /// A node's name.
@@ -141,6 +138,13 @@ impl Name {
         self.length = (self.length + 1).min(8);
         self.numbers.copy_within(0..7, 1);
         self.numbers[0] = number;
+    }
+
+    /// The name of the next node in number order, at a depth from 1 up.
+    pub fn follow(&mut self, depth: usize) {
+        let last = depth - 1;
+        self.numbers[last] = if last < self.length { self.numbers[last] + 1 } else { 0 };
+        self.length = depth;
     }
 
     pub fn get(&self) -> &[u8] {

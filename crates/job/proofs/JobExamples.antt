@@ -1,0 +1,36 @@
+-- The definitions on the example that document 01 prints whole, by computation.
+use mathlib.Core.Path.{_≡_, refl}
+use mathlib.Core.List.{List, [], _∷_, flatMap}
+use Prim.Native.Nat.{ℕ}
+use Rattle.table.specs.Outcome.{refused, accepted}
+use Rattle.table.specs.Table.{ended}
+use Rattle.history.specs.Finding.{yes-node, no-node}
+use Rattle.treejudge.specs.Examples.{tableA}
+use Rattle.job.specs.Ascii.{ascii}
+use Rattle.job.specs.JobCall.{readPart, jobParts, digits, digitsWithin, line, yesNo, findingVerdict, dotted, nameText, nodeText, fiveLines, refusalText}
+
+-- the job of table A, u empty, v = 1
+jobA : List ℕ
+jobA = 12 ∷ 0 ∷ 2 ∷ 2 ∷ 1 ∷ 1 ∷ 1 ∷ 0 ∷ 0 ∷ 3 ∷ 0 ∷ 0 ∷ 2 ∷ 1 ∷ 0 ∷ 0 ∷ 1 ∷ 0 ∷ 1 ∷ []
+
+parts-of-a : jobParts jobA ≡ accepted (record { table = tableA; lead = []; tail = 1 ∷ [] })
+unfolding jobA jobParts readPart ended tableA
+parts-of-a = refl
+
+-- "A, u empty, v = 1 prints, whole"
+lines-of-a : fiveLines 2 1 (yes-node (0 ∷ [])) 1 ≡ ascii "verdict yes\nentry 2\nperiod 1\nnode 0\nplain yes\n"
+unfolding fiveLines line yesNo findingVerdict nodeText nameText dotted flatMap digits digitsWithin
+lines-of-a = refl
+
+-- other lines: no node, the root, a node below it, a refusal
+lines-no : fiveLines 0 123 no-node 0 ≡ ascii "verdict no\nentry 0\nperiod 123\nnode none\nplain no\n"
+unfolding fiveLines line yesNo findingVerdict nodeText nameText dotted flatMap digits digitsWithin
+lines-no = refl
+
+names-written : (nameText [] ≡ ascii "-") × (nameText (1 ∷ 0 ∷ 2 ∷ []) ≡ ascii "1.0.2")
+unfolding nameText dotted flatMap digits digitsWithin
+names-written = (refl, refl)
+
+refusal-written : refusalText 5 ≡ ascii "refused 5\n"
+unfolding refusalText line digits digitsWithin
+refusal-written = refl

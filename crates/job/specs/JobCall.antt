@@ -1,0 +1,133 @@
+-- The call that judges one job (document 01, "Jobs and checked examples" and question 12): the text that it answers, for all
+-- inputs.
+use mathlib.Core.Path.{_≡_}
+use mathlib.Core.Bool.{Bool, _&&_, cond}
+use mathlib.Core.List.{List, [], _∷_, _++_, flatMap}
+use Prim.Native.Nat.{ℕ, zero, suc, _+_, _-_, _*_, _/_, _%_}
+use lib.Dec.{eqb, leb, ltb}
+use lib.ListN.{length, take, drop, replicate}
+use Rattle.table.specs.Outcome.{Outcome, refused, accepted, ask, _then_}
+use Rattle.table.specs.Rule.{Rule}
+use Rattle.table.specs.Table.{Read, readRule, ended}
+use Rattle.word.specs.Walk.{askWalk}
+use Rattle.word.specs.Loop.{Loop}
+use Rattle.word.specs.Verdict.{Decides}
+use Rattle.history.specs.Rounds.{roundTree, FirstRepeat}
+use Rattle.history.specs.Finding.{Finding, yes-node, no-node, Found}
+use Rattle.job.specs.Ascii.{ascii}
+use Rattle.job.specs.declared.answer.Text.{Text}
+
+-- THE PARTS OF A JOB
+
+-- "A job is three parts, ..: table, u, v."
+pub record Parts : Type 0 where
+  pub table : List ℕ
+  pub lead : List ℕ
+  pub tail : List ℕ
+
+-- a part "after its length in two bytes, low first", and the bytes behind it; 12 where it is not whole
+unfoldable pub readPart : List ℕ → Read (List ℕ)
+readPart [] = refused 12
+readPart (low ∷ []) = refused 12
+readPart (low ∷ high ∷ rest) =
+    let size = low + 256 * high in
+    ask (leb size (length rest)) 12
+    (accepted (take size rest, drop size rest))
+
+-- "has the job 6 to 9,354 bytes, and do its three parts end exactly with its last byte? 12"
+unfoldable pub jobParts : List ℕ → Outcome Parts
+jobParts job =
+    ask (leb 6 (length job) && leb (length job) 9354) 12
+    (readPart job then λ table.
+    readPart (table .1) then λ lead.
+    readPart (lead .1) then λ tail.
+    ask (ended (tail .1)) 12
+    (accepted (record { table = table .0; lead = lead .0; tail = tail .0 })))
+
+-- the questions behind it: 1 to 6 to the table, 7 and 8 to the walk
+unfoldable pub judgeOutcome : List ℕ → List ℕ → List ℕ → Outcome Rule
+judgeOutcome table u v = readRule table then λ R. askWalk (R .letters) u v (accepted R)
+
+-- THE LINES
+
+-- a number's decimal digits in ASCII, highest first: for every number, since none has more digits than it counts
+unfoldable pub digitsWithin : ℕ → ℕ → List ℕ
+digitsWithin zero n = (48 + n) ∷ []
+digitsWithin (suc more) n = cond (ltb n 10) ((48 + n) ∷ []) (digitsWithin more (n / 10) ++ ((48 + n % 10) ∷ []))
+
+unfoldable pub digits : ℕ → List ℕ
+digits n = digitsWithin n n
+
+-- a line: its label with a space, its value, a newline
+unfoldable pub line : List ℕ → List ℕ → List ℕ
+line label value = label ++ (value ++ ascii "\n")
+
+-- the verdict 1 is yes, 0 is no
+unfoldable pub yesNo : ℕ → List ℕ
+yesNo verdict = cond (eqb verdict 1) (ascii "yes") (ascii "no")
+
+unfoldable pub findingVerdict : Finding → ℕ
+findingVerdict (yes-node w) = 1
+findingVerdict no-node = 0
+
+-- "numbers joined by dots, `-` for the root"
+unfoldable pub dotted : ℕ → List ℕ
+dotted j = ascii "." ++ digits j
+
+unfoldable pub nameText : List ℕ → List ℕ
+nameText [] = ascii "-"
+nameText (i ∷ w) = digits i ++ flatMap dotted w
+
+-- "the word `none` on no"
+unfoldable pub nodeText : Finding → List ℕ
+nodeText (yes-node w) = nameText w
+nodeText no-node = ascii "none"
+
+-- "five lines: verdict, entry, period, node .., plain verdict"
+unfoldable pub fiveLines : ℕ → ℕ → Finding → ℕ → List ℕ
+fiveLines entry period finding plain =
+    line (ascii "verdict ") (yesNo (findingVerdict finding))
+    ++ (line (ascii "entry ") (digits entry)
+    ++ (line (ascii "period ") (digits period)
+    ++ (line (ascii "node ") (nodeText finding)
+    ++ line (ascii "plain ") (yesNo plain))))
+
+-- "A refusal prints one line, as `refused 5`."
+unfoldable pub refusalText : ℕ → List ℕ
+refusalText number = line (ascii "refused ") (digits number)
+
+-- THE ANSWER
+
+-- the length of a text's array
+abbrev pub textRoom : ℕ
+textRoom = 128
+
+-- the text with these bytes: they stand at the front of its array, zeros behind them
+unfoldable pub textOf : List ℕ → Text
+textOf bytes = record { bytes = bytes ++ replicate (textRoom - length bytes) 0; length = length bytes }
+
+-- a job that is judged: entry and period are those of the first repeated tree at a round end, the finding is right, the plain
+-- verdict says whether the walk keeps the rule, and the text has the five lines that say so
+pub record JobJudged (R : Rule) (u v : List ℕ) (text : Text) : Type 0 where
+  pub entry : ℕ
+  pub period : ℕ
+  pub repeat : FirstRepeat (roundTree R u v) entry period
+  pub finding : Finding
+  pub found : Found R u v entry period finding
+  pub plain : ℕ
+  pub decides : Decides plain (Loop R u v)
+  pub says : text ≡ textOf (fiveLines entry period finding plain)
+
+-- the answer to a job's parts: on a refusal its one line
+abbrev pub PartsAnswers : Outcome Rule → List ℕ → List ℕ → Text → Type 0
+PartsAnswers (refused number) u v text = text ≡ textOf (refusalText number)
+PartsAnswers (accepted R) u v text = JobJudged R u v text
+
+-- the answer to a job that question 12 was put to
+abbrev pub SplitAnswers : Outcome Parts → Text → Type 0
+SplitAnswers (refused number) text = text ≡ textOf (refusalText number)
+SplitAnswers (accepted p) text = PartsAnswers (judgeOutcome (p .table) (p .lead) (p .tail)) (p .lead) (p .tail) text
+
+-- THE CALL: this text answers this job
+unfoldable pub JobAnswer : List ℕ → Text → Type 0
+JobAnswer job text = SplitAnswers (jobParts job) text

@@ -1,0 +1,36 @@
+-- The places where a job's parts end.
+use mathlib.Core.Path.{_≡_}
+use mathlib.Core.List.{List}
+use Prim.Native.Nat.{ℕ, _+_, _-_, _≤_}
+use lib.ListN.{length, take, drop}
+use Rattle.table.specs.Outcome.{Outcome, refused, accepted}
+use Rattle.table.specs.Table.{Read}
+use Rattle.job.specs.declared.split.End.{End}
+use Rattle.job.specs.declared.split.End.the-variants.{Past, At}
+use Rattle.job.specs.declared.split.Ends.{Ends}
+use Rattle.job.specs.declared.split.Split.{Split}
+use Rattle.job.specs.declared.split.Split.the-variants.{Refused, Parts as Split·Parts}
+use Rattle.job.specs.JobCall.{Parts}
+
+-- where a part ends whose length stands at a place
+unfoldable pub endOf : ℕ → Read (List ℕ) → End
+endOf at (refused number) = Past
+endOf at (accepted part) = At (at + 2 + length (part .0))
+
+-- the bytes from one place to another
+abbrev pub between : ℕ → ℕ → List ℕ → List ℕ
+between from to bytes = take (to - from) (drop from bytes)
+
+-- the parts of a job stand between these places, each behind the two bytes of its length
+pub record EndsAt (job : List ℕ) (p : Parts) (ends : Ends) : Type 0 where
+  pub table-from : 2 ≤ ends .table
+  pub lead-from : ends .table + 2 ≤ ends .lead
+  pub tail-from : ends .lead + 2 ≤ length job
+  pub table : p .table ≡ between 2 (ends .table) job
+  pub lead : p .lead ≡ between (ends .table + 2) (ends .lead) job
+  pub tail : p .tail ≡ between (ends .lead + 2) (length job) job
+
+-- question 12's answer
+abbrev pub Splits : Outcome Parts → List ℕ → Split → Type 0
+Splits (refused number) job split = (number ≡ 12) × (split ≡ Refused)
+Splits (accepted p) job split = (ends : Ends) × (split ≡ Split·Parts ends) × EndsAt job p ends
