@@ -3,6 +3,7 @@
 
 mod answers;
 mod bench;
+mod boundaries;
 mod cases;
 mod compare;
 mod ffi;
@@ -21,6 +22,7 @@ const USAGE: &str = "usage: crosscheck compare [SEED]
        crosscheck tuned [SEED]
        crosscheck vectors DIR [slow]
        crosscheck bench [DIR] [slow]
+       crosscheck boundaries CALLS
        crosscheck job    (a job on standard input)";
 
 /// The seed when none is given.
@@ -51,6 +53,7 @@ fn run(arguments: &[String]) -> Option<bool> {
         "tuned" => Some(compare::compare_tuned(seed(argument)?)),
         "vectors" => Some(vectors::vectors(argument?, slow)),
         "bench" => Some(bench::bench(argument.map(String::as_str), slow)),
+        "boundaries" => Some(boundaries::boundaries(argument?)),
         "job" => Some(run_job()),
         _ => None,
     }

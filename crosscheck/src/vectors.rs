@@ -125,6 +125,13 @@ fn call(line: &str) -> Option<Call> {
     Some((case, hex::parse(buffer)?, numbers(answer)?, hex::parse(after)?))
 }
 
+/// The calls of calls.txt, each with its lent buffer's length and its number.
+pub fn calls(text: &str) -> Vec<(Case, usize, u8)> {
+    let call = |line| call(line).expect("a call");
+    let calls = content(text).map(|(_, line)| call(line));
+    calls.map(|(case, buffer, answer, _)| (case, buffer.len(), answer[0] as u8)).collect()
+}
+
 /// calls.txt: the answer and the lent buffer.
 fn check_calls(text: &str, calls: &dyn Calls) -> Count {
     let mut count = Count::default();

@@ -1,7 +1,7 @@
 -- Texts that grow at their end: one piece after another, from no text on.
-use mathlib.Core.Path.{_≡_, refl, sym, _∙_, ap, ap₂}
+use mathlib.Core.Path.{_≡_, sym, _∙_, ap}
 use mathlib.Core.List.{List, [], _++_, append-assoc}
-use Prim.Native.Nat.{ℕ, zero, suc, _+_, _-_, _≤_, _<_}
+use Prim.Native.Nat.{ℕ, _+_, _-_, _≤_}
 use native.Mathlib.Nat.{zero-add, add-zero}
 use native.Mathlib.Omega.{arith}
 use lib.ListN.{length, take, drop, replicate, length-append, length-replicate, replicate-append-replicate}
@@ -10,7 +10,7 @@ use Rattle.table.specs.Storing.{stored}
 use Rattle.table.proofs.Storing.{PiecesStored, stored-start, stored-next}
 use Rattle.job.specs.JobCall.{textRoom, textOf}
 use Rattle.job.specs.TextCode.{appended, Appends}
-use Rattle.job.specs.declared.answer.Text.{Text}
+use Rattle.job.specs.declared.call.Text.{Text}
 
 -- two pieces appended are one
 appended-twice : (text : Text) (a b : List ℕ) → text .length + length a + length b ≤ length (text .bytes)

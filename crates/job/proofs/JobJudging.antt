@@ -1,36 +1,35 @@
 -- The answers of the two judges as the text of a job: each way that their questions can go.
-use mathlib.Core.Path.{_≡_, refl, sym, _∙_, ap, ap₂, subst}
+use mathlib.Core.Path.{_≡_, refl, _∙_, ap, subst}
 use mathlib.Core.Bool.{Bool, true, false, cond}
-use mathlib.Core.List.{List, [], _++_}
+use mathlib.Core.List.{List}
 use Prim.Native.Nat.{ℕ, _+_, _≤_}
-use native.Mathlib.Nat.{zero-add}
 use native.Mathlib.Omega.{arith}
 use borrow.Author.Tests.{le-leb}
-use lib.Dec.{eqb, leb}
+use lib.Dec.{eqb}
 use lib.ListN.{length, take, drop, length-append}
 use lib.Seq.{take-at}
 use Rattle.table.specs.Outcome.{Outcome, refused, accepted}
 use Rattle.table.specs.Rule.{Rule}
 use Rattle.table.specs.Storing.{stored}
-use Rattle.history.specs.Finding.{Finding, yes-node, no-node, Found}
+use Rattle.history.specs.Finding.{Finding, yes-node, no-node}
 use Rattle.word.specs.Judging.{judgeQuestions}
-use Rattle.treejudge.specs.JudgeCall.{nameRoom, treeOutcome, treeAnswer, namesAfter, Judged, TreeAnswers}
+use Rattle.treejudge.specs.JudgeCall.{nameRoom, treeOutcome, treeAnswer, namesAfter, TreeAnswers}
 use Rattle.treejudge.specs.declared.judge.TreeAnswer.{TreeAnswer}
 use Rattle.plain.specs.PlainCall.{scratchLength, plainOutcome, PlainAnswers}
 use Rattle.plain.specs.declared.judge.PlainAnswer.{PlainAnswer}
-use Rattle.job.specs.JobCall.{judgeOutcome, yesNo, findingVerdict, fiveLines, refusalText, textOf, JobJudged, PartsAnswers}
+use Rattle.job.specs.JobCall.{judgeOutcome, yesNo, findingVerdict, fiveLines, refusalText, textOf, PartsAnswers}
 use Rattle.job.specs.TextCode.{findingOf}
-use Rattle.job.specs.declared.answer.Text.{Text}
+use Rattle.job.specs.declared.call.Text.{Text}
 use Rattle.job.proofs.RefusalNumbers.{IfRefused, judge-number}
 
 -- THE QUESTIONS
 
 -- with a name buffer, or scratch bytes, of enough length a judge puts the questions that are put to a job
-tree-outcome : (table u v names : List ℕ) → nameRoom ≤ length names → treeOutcome table u v names ≡ judgeOutcome table u v
+pub tree-outcome : (table u v names : List ℕ) → nameRoom ≤ length names → treeOutcome table u v names ≡ judgeOutcome table u v
 unfolding treeOutcome judgeQuestions judgeOutcome
 tree-outcome table u v names h = rw (le-leb nameRoom (length names) h)
 
-plain-outcome : (table u v scratch : List ℕ) → scratchLength ≤ length scratch → plainOutcome table u v scratch ≡ judgeOutcome table u v
+pub plain-outcome : (table u v scratch : List ℕ) → scratchLength ≤ length scratch → plainOutcome table u v scratch ≡ judgeOutcome table u v
 unfolding plainOutcome judgeQuestions judgeOutcome
 plain-outcome table u v scratch h = rw (le-leb scratchLength (length scratch) h)
 

@@ -1,18 +1,17 @@
 -- What the contract of a job's call says: it leaves no choice of the text, and the text fits its array.
 use mathlib.Core.Path.{_≡_, sym, _∙_, ap}
-use mathlib.Core.List.{List, _++_}
+use mathlib.Core.List.{List}
 use Prim.Native.Nat.{ℕ, _-_, _≤_}
 use native.Mathlib.Omega.{arith}
 use lib.ListN.{length, replicate, length-append, length-replicate}
 use Rattle.table.specs.Outcome.{Outcome, refused, accepted}
 use Rattle.table.specs.Rule.{Rule}
 use Rattle.history.specs.Rounds.{roundTree}
-use Rattle.history.specs.Finding.{Finding}
 use Rattle.history.proofs.FirstRepeats.{repeat-unique}
 use Rattle.treejudge.proofs.TreeVerdict.{found-one}
 use Rattle.plain.proofs.PlainVerdict.{decides-one}
-use Rattle.job.specs.JobCall.{Parts, jobParts, judgeOutcome, fiveLines, refusalText, textRoom, textOf, JobJudged, PartsAnswers, SplitAnswers, JobAnswer}
-use Rattle.job.specs.declared.answer.Text.{Text}
+use Rattle.job.specs.JobCall.{Parts, jobParts, judgeOutcome, fiveLines, refusalText, textRoom, textOf, PartsAnswers, SplitAnswers, JobAnswer}
+use Rattle.job.specs.declared.call.Text.{Text}
 
 -- THE CONTRACT DETERMINES THE TEXT
 

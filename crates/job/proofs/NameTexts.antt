@@ -1,14 +1,14 @@
 -- Names as texts: the numbers behind the first one by one, each behind a dot.
-use mathlib.Core.Path.{_≡_, refl, sym, _∙_, ap, subst}
+use mathlib.Core.Path.{_≡_, _∙_, ap}
 use mathlib.Core.List.{List, [], _∷_, _++_, flatMap, append-nil}
-use Prim.Native.Nat.{ℕ, zero, suc, _+_, _-_, _*_, _^_, _≤_, _<_}
+use Prim.Native.Nat.{ℕ, zero, suc, _+_, _-_, _*_, _≤_, _<_}
 use native.Mathlib.Omega.{arith}
-use lib.ListN.{length, take, drop, getD, length-append, length-drop}
+use lib.ListN.{length, take, drop, getD, length-drop}
 use lib.Seq.{take-suc, getD-drop}
 use Rattle.table.proofs.Parts.{flatMap-append}
 use Rattle.job.specs.JobCall.{digits, dotted, nameText, textRoom}
 use Rattle.job.specs.TextCode.{appended, Appends}
-use Rattle.job.specs.declared.answer.Text.{Text}
+use Rattle.job.specs.declared.call.Text.{Text}
 use Rattle.job.proofs.Appending.{appends, appends-none, appends-both}
 use Rattle.job.proofs.DecimalDigits.{digits-short}
 

@@ -1,22 +1,20 @@
 -- A part of a job, and question 12: each way that it can go.
 use mathlib.Core.Path.{_≡_, refl, sym, _∙_, ap, ap₂}
-use mathlib.Core.Bool.{true, false, _&&_}
 use mathlib.Core.List.{List, [], _∷_}
-use Prim.Native.Nat.{ℕ, zero, suc, _+_, _-_, _*_, _≤_, _<_}
+use Prim.Native.Nat.{ℕ, suc, _+_, _-_, _*_, _≤_, _<_}
 use native.Mathlib.Omega.{arith}
 use borrow.Author.Tests.{leb-true, le-leb, lt-leb}
 use lib.Dec.{leb}
 use lib.ListN.{length, getD, take, drop, length-drop}
 use lib.Seq.{drop-cons, drop-drop, drop-length, length-take-le}
-use Rattle.table.specs.Outcome.{Outcome, refused, accepted, ask, _then_}
+use Rattle.table.specs.Outcome.{Outcome, refused, accepted, ask}
 use Rattle.table.specs.Table.{Read, ended}
 use Rattle.table.proofs.Accepted.{IfAccepted, asked}
 use Rattle.job.proofs.RefusalNumbers.{IfRefused, ask-number}
-use Rattle.job.specs.declared.split.End.{End}
 use Rattle.job.specs.declared.split.End.the-variants.{Past, At}
 use Rattle.job.specs.declared.split.Ends.{Ends}
 use Rattle.job.specs.declared.split.Split.{Split}
-use Rattle.job.specs.declared.answer.Text.{Text}
+use Rattle.job.specs.declared.call.Text.{Text}
 use Rattle.job.specs.declared.split.Split.the-variants.{Refused, Parts as Split·Parts}
 use Rattle.job.specs.JobCall.{Parts, readPart, jobParts, judgeOutcome, refusalText, textOf, PartsAnswers, SplitAnswers, JobAnswer}
 use Rattle.job.specs.SplitCode.{endOf, between, EndsAt, Splits}
@@ -95,7 +93,8 @@ module _ (job : List ℕ) (at : ℕ) where
   unfolding endOf
   part-at h end e = go (readPart (drop at job)) refl (part-of (drop at job)) e
     where
-      go : (o : Read (List ℕ)) → readPart (drop at job) ≡ o → IfAccepted (λ x. PartOf (drop at job) (x .0) (x .1)) o → endOf at o ≡ At end → PartAt job at end
+      go : (o : Read (List ℕ)) → readPart (drop at job) ≡ o → IfAccepted (λ x. PartOf (drop at job) (x .0) (x .1)) o → endOf at o ≡ At end
+          → PartAt job at end
       go (refused number) is p e = let z : _≡_ {A = ℕ} 0 1 = cc in absurd (omega arith)
       go (accepted (part, rest)) is p e =
           let ends : at + 2 + length part ≡ end = cc in

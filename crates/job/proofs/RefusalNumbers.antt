@@ -6,7 +6,6 @@ use native.Mathlib.Omega.{arith}
 use lib.Dec.{eqb, leb, ltb}
 use lib.ListN.{length, getD, drop}
 use Rattle.table.specs.Outcome.{Outcome, refused, accepted, ask, _then_}
-use Rattle.table.specs.Rule.{Rule}
 use Rattle.table.specs.Table.{Read, inRange, startFits, askHeader, readByte, readTransition, readRow, readCell, readMany, readGrid, ended, readBody, readRule}
 use Rattle.word.specs.Walk.{lengthsFit, lettersBelow, askWalk}
 use Rattle.job.specs.JobCall.{judgeOutcome}

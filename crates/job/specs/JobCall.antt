@@ -1,7 +1,7 @@
 -- The call that judges one job (document 01, "Jobs and checked examples" and question 12): the text that it answers, for all
 -- inputs.
 use mathlib.Core.Path.{_≡_}
-use mathlib.Core.Bool.{Bool, _&&_, cond}
+use mathlib.Core.Bool.{_&&_, cond}
 use mathlib.Core.List.{List, [], _∷_, _++_, flatMap}
 use Prim.Native.Nat.{ℕ, zero, suc, _+_, _-_, _*_, _/_, _%_}
 use lib.Dec.{eqb, leb, ltb}
@@ -15,7 +15,7 @@ use Rattle.word.specs.Verdict.{Decides}
 use Rattle.history.specs.Rounds.{roundTree, FirstRepeat}
 use Rattle.history.specs.Finding.{Finding, yes-node, no-node, Found}
 use Rattle.job.specs.Ascii.{ascii}
-use Rattle.job.specs.declared.answer.Text.{Text}
+use Rattle.job.specs.declared.call.Text.{Text}
 
 -- THE PARTS OF A JOB
 
@@ -50,7 +50,8 @@ judgeOutcome table u v = readRule table then λ R. askWalk (R .letters) u v (acc
 
 -- THE LINES
 
--- a number's decimal digits in ASCII, highest first: for every number, since none has more digits than it counts
+-- a number's decimal digits in ASCII, highest first. The first argument bounds how many there are; n itself always suffices, so
+-- `digits` is right for every n.
 unfoldable pub digitsWithin : ℕ → ℕ → List ℕ
 digitsWithin zero n = (48 + n) ∷ []
 digitsWithin (suc more) n = cond (ltb n 10) ((48 + n) ∷ []) (digitsWithin more (n / 10) ++ ((48 + n % 10) ∷ []))

@@ -8,7 +8,7 @@ use lib.ListN.{length, take}
 use Rattle.table.specs.Storing.{stored}
 use Rattle.history.specs.Finding.{Finding, yes-node, no-node}
 use Rattle.treejudge.specs.declared.judge.TreeAnswer.{TreeAnswer}
-use Rattle.job.specs.declared.answer.Text.{Text}
+use Rattle.job.specs.declared.call.Text.{Text}
 
 -- a text with more bytes at its end
 unfoldable pub appended : Text → List ℕ → Text

@@ -1,5 +1,4 @@
 // One job: its parts, both judges, and the text of the answer.
-use crate::answer::Text;
 use crate::lines::five_lines;
 use crate::lines::refusal;
 use crate::split::Split;
@@ -7,6 +6,15 @@ use crate::split::split_job;
 use agree::both::judge_both;
 use tree::record::Tree;
 ghost use Rattle.job.specs.JobCall.{JobAnswer, PartsAnswers, judgeOutcome};
+
+// The length of a text's array: no answer to a job has more bytes.
+pub const ROOM: usize = 128;
+
+// A text: its bytes are the first `length` ones, zeros stand behind them.
+pub struct Text {
+    pub bytes: [u8; ROOM],
+    pub length: usize,
+}
 
 // The program's own scratch bytes: "It is lent 32,768 scratch bytes".
 const SCRATCH: usize = 32768;

@@ -1,5 +1,4 @@
 // Jobs: question 12, both judges, and the lines that are printed.
-pub mod answer;
 pub mod call;
 mod lines;
 mod split;

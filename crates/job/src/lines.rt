@@ -1,6 +1,6 @@
 // The lines that are printed.
-use crate::answer::ROOM;
-use crate::answer::Text;
+use crate::call::ROOM;
+use crate::call::Text;
 use crate::text::append;
 use crate::text::append_name;
 use crate::text::append_number;
@@ -9,6 +9,7 @@ use treejudge::judge::TreeAnswer;
 ghost use mathlib.Core.Path.{_≡_};
 ghost use Prim.Native.Nat.{_+_, _≤_};
 ghost use lib.ListN.{length};
+ghost use Rattle.treejudge.specs.JudgeCall.{nameRoom};
 ghost use Rattle.job.specs.Ascii.{ascii};
 ghost use Rattle.job.specs.JobCall.{digits, fiveLines, line, nodeText, refusalText, textOf, textRoom, yesNo};
 ghost use Rattle.job.specs.TextCode.{Appends, findingOf};
@@ -38,7 +39,7 @@ fn number_line(text: Text, label: &[u8], number: u64) -> Text
 
 // The line with the node: "numbers joined by dots, `-` for the root, the word `none` on no".
 fn node_line(text: Text, tree: TreeAnswer, names: [u8; Tree::NAME]) -> Text
-    requires { ⌜ (tree .verdict ≡ 1 → tree .length ≤ 7) × (text .length + 53 ≤ textRoom) ⌝ }
+    requires { ⌜ (tree .verdict ≡ 1 → tree .length ≤ nameRoom) × (text .length + 53 ≤ textRoom) ⌝ }
     ensures { λ r. ⌜ Appends text (line (ascii "node ") (nodeText (findingOf tree names))) 34 r ⌝ }
 {
     let labelled = append(text, b"node ");
@@ -51,7 +52,7 @@ fn node_line(text: Text, tree: TreeAnswer, names: [u8; Tree::NAME]) -> Text
 
 // "five lines: verdict, entry, period, node .., plain verdict"
 pub fn five_lines(tree: TreeAnswer, names: [u8; Tree::NAME], plain: u8) -> Text
-    requires { ⌜ (tree .verdict ≡ 1 → tree .length ≤ 7) ⌝ }
+    requires { ⌜ (tree .verdict ≡ 1 → tree .length ≤ nameRoom) ⌝ }
     ensures { λ r. ⌜ r ≡ textOf (fiveLines (tree .entry) (tree .period) (findingOf tree names) plain) ⌝ }
 {
     let empty = Text {

@@ -1,9 +1,10 @@
 // A text that grows at its end: bytes, numbers in decimal, names.
-use crate::answer::Text;
+use crate::call::Text;
 use tree::record::Tree;
 ghost use mathlib.Core.Path.{_≡_};
 ghost use Prim.Native.Nat.{_+_, _≤_};
 ghost use lib.ListN.{length, take};
+ghost use Rattle.treejudge.specs.JudgeCall.{nameRoom};
 ghost use Rattle.job.specs.JobCall.{digits, dotted, nameText, textRoom};
 ghost use Rattle.job.specs.TextCode.{Appends, appended};
 
@@ -54,9 +55,10 @@ fn append_dotted(text: Text, number: u64) -> Text
     append_number(append(text, b"."), number)
 }
 
-// A node's name: "numbers joined by dots, `-` for the root".
+// A node's name: "numbers joined by dots, `-` for the root". At most seven numbers, a dot and three digits for each, are 28 bytes; the
+// last number asks for 20 free ones.
 pub fn append_name(text: Text, names: [u8; Tree::NAME], long: usize) -> Text
-    requires { ⌜ (long ≤ 7) × (text .length + 48 ≤ textRoom) ⌝ }
+    requires { ⌜ (long ≤ nameRoom) × (text .length + 48 ≤ textRoom) ⌝ }
     ensures { λ r. ⌜ Appends text (nameText (take long names)) 28 r ⌝ }
 {
     if long == 0 {

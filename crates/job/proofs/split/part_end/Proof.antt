@@ -28,7 +28,9 @@ cast-high : tie.Need-cast-high
 cast-high c = omega (arith, c .shared-slice-known2 .given (c .before .before .before .args .at + 1))
 
 mul-size : tie.Need-mul-size
-mul-size c = omega (arith, c .shared-slice-known2 .given (c .before .before .before .args .at + 1))
+mul-size c =
+    let at = c .before .before .before .args .at in
+    omega (arith, c .before .shared-slice-known .given at, c .shared-slice-known2 .given (at + 1))
 
 add-size : tie.Need-add-size
 add-size c =

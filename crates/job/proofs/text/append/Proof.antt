@@ -1,11 +1,11 @@
 -- More bytes, one behind the other.
 use borrow.Author.Needs.{needs}
 use mathlib.Core.Path.{_≡_, refl}
-use Prim.Native.Nat.{_+_, _-_, _≤_}
+use Prim.Native.Nat.{_-_}
 use native.Mathlib.Omega.{arith}
 use lib.ListN.{length, take}
-use lib.Seq.{take-suc, take-length, length-take-le}
-use Rattle.table.proofs.Storing.{PiecesStored, pieces-start, pieces-byte, pieces-size, pieces-done}
+use lib.Seq.{take-suc, take-length}
+use Rattle.table.proofs.Storing.{PiecesStored, pieces-start, pieces-byte, pieces-done}
 use Rattle.job.specs.TextCode.{appended}
 use Rattle.job.proofs.Appending.{piece-place}
 use Rattle.job.proofs.text.append.Statement.{statement}

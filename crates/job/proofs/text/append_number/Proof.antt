@@ -1,11 +1,9 @@
 -- A number in decimal.
 use borrow.Author.Needs.{needs}
-use mathlib.Core.Path.{_≡_, refl, sym, _∙_, ap}
-use Prim.Native.Nat.{_+_, _-_, _≤_}
+use mathlib.Core.Path.{_≡_, refl, _∙_, ap}
+use Prim.Native.Nat.{_+_}
 use native.Mathlib.Omega.{arith}
-use lib.Dec.{lit≤}
 use lib.ListN.{length, length-set}
-use Rattle.job.specs.JobCall.{digits}
 use Rattle.job.specs.TextCode.{appended}
 use Rattle.job.proofs.DecimalDigits.{DigitsFrom, digits-short, places-start, places-left, places-turn, places-done}
 use Rattle.job.proofs.text.append_number.Statement.{statement}

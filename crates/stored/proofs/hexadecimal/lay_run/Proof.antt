@@ -1,0 +1,77 @@
+-- `lay_run` is safe and ends. Assumes nothing.
+use borrow.Author.Needs.{needs}
+use Prim.Native.Nat.{_≤_, _<_, _-_, _*_, _+_}
+use native.Mathlib.Omega.{arith}
+use lib.ListN.{length, length-set}
+use mathlib.Core.Path.{_≡_}
+use Rattle.stored.proofs.hexadecimal.lay_run.Statement.{statement}
+use Rattle.stored.proofs.hexadecimal.lay_run.Tie as tie
+
+abbrev Inv-loop : tie.InvT-loop
+Inv-loop byte times out₀ end₀ left₀ out end left = (end ≤ length out) × (length out ≡ length out₀)
+
+abbrev μ-loop : tie.MeasureT-loop
+μ-loop byte times out₀ end₀ left₀ out end left = left
+
+wrong-requires : tie.Need-wrong-requires Inv-loop μ-loop
+wrong-requires c κs = search needs
+
+returns : tie.Need-returns Inv-loop μ-loop
+returns c = search needs
+
+loop-holds : tie.Need-loop-holds Inv-loop μ-loop
+loop-holds c = search needs
+
+wrong-requires-2 : tie.Need-wrong-requires-2 Inv-loop μ-loop
+wrong-requires-2 c κs = search needs
+
+same-length : tie.Need-same-length Inv-loop μ-loop
+same-length c = search needs
+
+returns-2 : tie.Need-returns-2 Inv-loop μ-loop
+returns-2 c = search needs
+
+cast-out : tie.Need-cast-out Inv-loop μ-loop
+cast-out c = search needs
+
+slice-write-out : tie.Need-slice-write-out Inv-loop μ-loop
+slice-write-out c = search needs
+
+add-end : tie.Need-add-end Inv-loop μ-loop
+add-end c = search needs
+
+sub-left : tie.Need-sub-left Inv-loop μ-loop
+sub-left c = search needs
+
+loop-less : tie.Need-loop-less Inv-loop μ-loop
+loop-less c = search needs
+
+loop-again : tie.Need-loop-again Inv-loop μ-loop
+loop-again c = (simp length-set (omega arith), simp length-set (omega arith))
+
+same-length-2 : tie.Need-same-length-2 Inv-loop μ-loop
+same-length-2 c = search needs
+
+returns-3 : tie.Need-returns-3 Inv-loop μ-loop
+returns-3 c = search needs
+
+pub lay-run-spec : {M : Type 1} → statement M
+lay-run-spec =
+    tie.close
+    (tie.spec
+    Inv-loop
+    μ-loop
+    wrong-requires
+    returns
+    loop-holds
+    wrong-requires-2
+    same-length
+    returns-2
+    cast-out
+    slice-write-out
+    add-end
+    sub-left
+    loop-less
+    loop-again
+    same-length-2
+    returns-3)
