@@ -1,13 +1,10 @@
 // Stored calls. A line: the call, its arguments, the lent buffer, the answer's numbers, the buffer after the call. It is
 // right if the library gives these numbers and leaves these bytes.
-use crate::answers::Answer;
-use crate::answers::no_answer;
-use crate::answers::step_numbers;
-use crate::answers::table_numbers;
-use crate::answers::walk_numbers;
-use crate::answers::write_numbers;
+use crate::answers::step_right;
+use crate::answers::table_right;
+use crate::answers::walk_right;
+use crate::answers::write_right;
 use crate::decimal::number_of;
-use crate::decimal::numbers_are;
 use crate::hexadecimal::bytes_are;
 use crate::hexadecimal::bytes_of;
 use crate::lines::TAB;
@@ -15,38 +12,27 @@ use crate::lines::field;
 use crate::lines::separators;
 use crate::rules::rule_of;
 use check::same;
-ghost use Prim.Native.Nat.{_<_, _≤_};
-ghost use Rattle.stored.specs.Limits.{mostNumbers};
+ghost use Prim.Native.Nat.{_≤_};
 
-// read TABLE, or start TABLE
-fn table_answer(reads: bool, line: &[u8], buffer: &mut [u8]) -> Answer
-    ensures { λ r. ⌜ r .count ≤ mostNumbers ⌝ }
-{
+// read TABLE, or start TABLE: does the call give these numbers?
+fn table_call(line: &[u8], numbers: &[u8], buffer: &mut [u8]) -> bool {
     let t = bytes_of(field(line, 1));
     let table = t.room;
     let end = t.end;
-    let mut answer = table_numbers(reads, &table[..end], buffer);
-    answer.right = t.right;
-    answer
+    t.right & table_right(field(line, 0), numbers, &table[..end], buffer)
 }
 
 // write n m k start, in one field, GRID
-fn write_answer(line: &[u8], buffer: &mut [u8]) -> Answer
-    ensures { λ r. ⌜ r .count ≤ mostNumbers ⌝ }
-{
+fn write_call(line: &[u8], numbers: &[u8], buffer: &mut [u8]) -> bool {
     let rule = rule_of(field(line, 1));
     let g = bytes_of(field(line, 2));
     let grid = g.room;
     let end = g.end;
-    let mut answer = write_numbers(rule, &grid[..end], buffer);
-    answer.right = rule.right & g.right;
-    answer
+    rule.right & g.right & write_right(numbers, rule, &grid[..end], buffer)
 }
 
 // step TABLE LETTER RECORD
-fn step_answer(line: &[u8], buffer: &mut [u8]) -> Answer
-    ensures { λ r. ⌜ r .count ≤ mostNumbers ⌝ }
-{
+fn step_call(line: &[u8], numbers: &[u8], buffer: &mut [u8]) -> bool {
     let t = bytes_of(field(line, 1));
     let letter = number_of(field(line, 2), 255);
     let r = bytes_of(field(line, 3));
@@ -54,97 +40,64 @@ fn step_answer(line: &[u8], buffer: &mut [u8]) -> Answer
     let t_end = t.end;
     let record = r.room;
     let r_end = r.end;
-    let mut answer = step_numbers(
-        &table[..t_end],
-        letter.value as u8,
-        &record[..r_end],
-        buffer,
-    );
-    answer.right = t.right & letter.right & r.right;
-    answer
+    t.right
+        & letter.right
+        & r.right
+        & step_right(
+            numbers,
+            &table[..t_end],
+            letter.value as u8,
+            &record[..r_end],
+            buffer,
+        )
 }
 
 // tree TABLE U V, or plain TABLE U V
-fn walk_answer(by_trees: bool, line: &[u8], buffer: &mut [u8]) -> Answer
-    ensures { λ r. ⌜ r .count ≤ mostNumbers ⌝ }
-{
+fn walk_call(line: &[u8], numbers: &[u8], buffer: &mut [u8]) -> bool {
     let t = bytes_of(field(line, 1));
     let u = bytes_of(field(line, 2));
     let v = bytes_of(field(line, 3));
     let table = t.room;
     let t_end = t.end;
-    let lead_in = u.room;
+    let lead = u.room;
     let u_end = u.end;
     let tail = v.room;
     let v_end = v.end;
-    let mut answer = walk_numbers(
-        by_trees,
-        &table[..t_end],
-        &lead_in[..u_end],
-        &tail[..v_end],
-        buffer,
-    );
-    answer.right = t.right & u.right & v.right;
-    answer
-}
-
-// The answer to a call with three arguments.
-fn long_answer(call: &[u8], line: &[u8], buffer: &mut [u8]) -> Answer
-    ensures { λ r. ⌜ r .count ≤ mostNumbers ⌝ }
-{
-    if same(call, b"step") {
-        return step_answer(line, buffer);
-    }
-    if same(call, b"tree") {
-        return walk_answer(true, line, buffer);
-    }
-    if same(call, b"plain") {
-        return walk_answer(false, line, buffer);
-    }
-    no_answer()
-}
-
-// The answer to a call with one argument, or two for the writer.
-fn short_answer(call: &[u8], line: &[u8], arguments: usize, buffer: &mut [u8]) -> Answer
-    ensures { λ r. ⌜ r .count ≤ mostNumbers ⌝ }
-{
-    if arguments == 2 {
-        return if same(call, b"write") {
-            write_answer(line, buffer)
-        } else {
-            no_answer()
-        };
-    }
-    if same(call, b"read") {
-        return table_answer(true, line, buffer);
-    }
-    if same(call, b"start") {
-        return table_answer(false, line, buffer);
-    }
-    no_answer()
-}
-
-// The answer to a line's call.
-fn answer_of(line: &[u8], arguments: usize, buffer: &mut [u8]) -> Answer
-    ensures { λ r. ⌜ r .count ≤ mostNumbers ⌝ }
-{
     let call = field(line, 0);
-    if arguments == 3 {
-        long_answer(call, line, buffer)
-    } else {
-        short_answer(call, line, arguments, buffer)
-    }
+    t.right
+        & u.right
+        & v.right
+        & walk_right(
+            call,
+            numbers,
+            &table[..t_end],
+            &lead[..u_end],
+            &tail[..v_end],
+            buffer,
+        )
 }
 
-// Does the call give the numbers and leave the bytes that the line has in its last two fields?
-fn answer_right(line: &[u8], arguments: usize, buffer: &mut [u8]) -> bool
-    requires { ⌜ arguments < 8 ⌝ }
+// A call with one argument, two or three.
+fn numbers_right(arguments: usize, line: &[u8], numbers: &[u8], buffer: &mut [u8]) -> bool {
+    if arguments == 1 {
+        return table_call(line, numbers, buffer);
+    }
+    let call = field(line, 0);
+    if arguments == 2 {
+        return same(call, b"write") && write_call(line, numbers, buffer);
+    }
+    if same(call, b"step") {
+        return step_call(line, numbers, buffer);
+    }
+    walk_call(line, numbers, buffer)
+}
+
+// Is a line right, with its buffer lent?
+fn lent_right(arguments: usize, line: &[u8], buffer: &mut [u8]) -> bool
+    requires { ⌜ arguments ≤ 3 ⌝ }
 {
-    let answer = answer_of(line, arguments, buffer);
-    let numbers = answer.numbers;
-    answer.right
-        && numbers_are(field(line, arguments + 2), numbers, answer.count)
-        && bytes_are(field(line, arguments + 3), buffer)
+    let right = numbers_right(arguments, line, field(line, arguments + 2), buffer);
+    right & bytes_are(field(line, arguments + 3), buffer)
 }
 
 // Is a line right?
@@ -159,5 +112,5 @@ pub fn call_right(line: &[u8]) -> bool {
     let lent = bytes_of(field(line, tabs - 2));
     let mut buffer = lent.room;
     let end = lent.end;
-    lent.right && answer_right(line, tabs - 3, &mut buffer[..end])
+    lent.right & lent_right(tabs - 3, line, &mut buffer[..end])
 }

@@ -5,8 +5,8 @@ use crate::lines::NEWLINE;
 use crate::lines::end_of;
 use libc::STDOUT_FILENO;
 ghost use mathlib.Core.Path.{_≡_};
+ghost use Prim.Native.Nat.{_<_, _≤_};
 ghost use lib.ListN.{length};
-ghost use Prim.Native.Nat.{_≤_, _<_};
 
 // What the lines of a file have.
 pub enum Kind {
@@ -33,6 +33,7 @@ fn is_right(kind: Kind, line: &[u8]) -> bool {
     }
 }
 
+// A word and a number, on standard output.
 fn say_number(words: &[u8], number: u64) {
     io::write_all(STDOUT_FILENO, words);
     io::print_decimal(STDOUT_FILENO, number);
@@ -69,6 +70,7 @@ fn run_line(name: &[u8], kind: Kind, number: u64, line: &[u8], tally: Tally) -> 
     more
 }
 
+// Runs the cases of all lines.
 fn run_lines(name: &[u8], kind: Kind, text: &[u8]) -> Tally {
     let mut tally = Tally {
         cases: 0,
@@ -89,7 +91,7 @@ fn run_lines(name: &[u8], kind: Kind, text: &[u8]) -> Tally {
     tally
 }
 
-// Room for a file.
+// Room for a file. The rest of a longer one would be left out, and its count of cases would tell.
 fn room() -> [u8; 1200000]
     ensures { λ r. ⌜ 1200000 ≡ length r ⌝ }
 {

@@ -1,8 +1,8 @@
 // Byte strings: two hexadecimal digits for each byte, `-` for none; `00*4096` is one byte so many times.
 use crate::decimal::LARGEST;
+use crate::decimal::Number;
 use crate::decimal::digit;
 use crate::decimal::number_of;
-use crate::lines::end_of;
 use check::same;
 ghost use mathlib.Core.Path.{_≡_};
 ghost use Prim.Native.Nat.{_≤_};
@@ -75,14 +75,14 @@ fn lay_pairs(text: &[u8], out: &mut [u8]) -> Laid
 }
 
 // A byte so many times.
-fn lay_run(byte: u16, times: u64, out: &mut [u8]) -> Laid
+fn lay_run(byte: u16, times: Number, out: &mut [u8]) -> Laid
     ensures { λ r. ⌜ r .end ≤ length (now (out .exit)) ⌝ }
 {
     if 255 < byte {
         return wrong();
     }
     let mut end = 0usize;
-    let mut left = times;
+    let mut left = times.value;
     while 0 < left {
         if out.len() <= end {
             return wrong();
@@ -93,7 +93,7 @@ fn lay_run(byte: u16, times: u64, out: &mut [u8]) -> Laid
     }
     Laid {
         end: end,
-        right: true,
+        right: times.right,
     }
 }
 
@@ -101,22 +101,19 @@ fn lay_run(byte: u16, times: u64, out: &mut [u8]) -> Laid
 fn lay(text: &[u8], out: &mut [u8]) -> Laid
     ensures { λ r. ⌜ r .end ≤ length (now (out .exit)) ⌝ }
 {
-    if same(text, b"-") {
-        return lay_pairs(b"", out);
+    if text.len() == 1 {
+        return Laid {
+            end: 0,
+            right: text[0] == b'-',
+        };
     }
-    let star = end_of(text, b'*', 0);
-    if star == text.len() {
+    if text.len() < 4 {
         return lay_pairs(text, out);
     }
-    let number = star + 1;
-    let times = number_of(&text[number..], LARGEST);
-    if star != 2 {
-        return wrong();
+    if text[2] != b'*' {
+        return lay_pairs(text, out);
     }
-    if !times.right {
-        return wrong();
-    }
-    lay_run(byte_at(text, 0), times.value, out)
+    lay_run(byte_at(text, 0), number_of(&text[3..], LARGEST), out)
 }
 
 fn room() -> [u8; 33000]
@@ -143,5 +140,5 @@ pub fn bytes_are(text: &[u8], bytes: &[u8]) -> bool {
     let stored = bytes_of(text);
     let room = stored.room;
     let end = stored.end;
-    stored.right && same(&room[..end], bytes)
+    stored.right & same(&room[..end], bytes)
 }

@@ -9,7 +9,8 @@ use job::call::judge_job;
 ghost use Prim.Native.Nat.{_≤_};
 ghost use lib.ListN.{length};
 
-// How many letters at the front of a line stand for this one: two, `\n`, for a newline; 0 where another stands there.
+// How many letters at the front of a line stand for this one: two, `\n`, for a newline; 0 where others stand there. Every
+// text ends with a newline, so at least two letters are left.
 fn letters_for(letter: u8, line: &[u8]) -> usize
     ensures { λ r. ⌜ r ≤ length (now (line .entry)) ⌝ }
 {
@@ -57,5 +58,5 @@ pub fn job_right(line: &[u8]) -> bool {
     let stored = bytes_of(field(line, 0));
     let room = stored.room;
     let end = stored.end;
-    stored.right && separators(line, TAB) == 1 && !job_differs(&room[..end], field(line, 1))
+    stored.right & (separators(line, TAB) == 1) & !job_differs(&room[..end], field(line, 1))
 }

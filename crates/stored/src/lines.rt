@@ -1,6 +1,7 @@
 // Texts in parts: the lines of a file, the fields of a line, the numbers of a field.
-ghost use Prim.Native.Nat.{_≤_};
-ghost use lib.ListN.{length};
+ghost use mathlib.Core.Path.{_≡_};
+ghost use Prim.Native.Nat.{ℕ, _<_, _≤_};
+ghost use lib.ListN.{getD, length};
 
 // What stands between the fields of a line.
 pub const TAB: u8 = 9;
@@ -11,7 +12,8 @@ pub const NEWLINE: u8 = 10;
 // The first place of a separator from a place on; the text's end where there is none.
 pub fn end_of(text: &[u8], separator: u8, from: usize) -> usize
     requires { ⌜ from ≤ length (now text) ⌝ }
-    ensures { λ r. ⌜ (from ≤ r) × (r ≤ length (now (text .entry))) ⌝ }
+    ensures { λ r. ⌜ ((from ≤ r) × (r ≤ length (now (text .entry))))
+        × ((i : ℕ) → i < r → from ≤ i → getD (now (text .entry)) i 0 ≡ separator → ⊥) ⌝ }
 {
     let mut at = from;
     while at < text.len() {
@@ -24,7 +26,9 @@ pub fn end_of(text: &[u8], separator: u8, from: usize) -> usize
 }
 
 // The part with this number, from 0, between the separators; nothing where there are fewer parts.
-pub fn part(text: &[u8], separator: u8, number: usize) -> &[u8] {
+pub fn part(text: &[u8], separator: u8, number: usize) -> &[u8]
+    ensures { λ r. ⌜ length (now r) ≤ length (now (text .entry)) ⌝ }
+{
     let mut from = 0usize;
     let mut left = number;
     while 0 < left {
@@ -40,7 +44,9 @@ pub fn part(text: &[u8], separator: u8, number: usize) -> &[u8] {
 }
 
 // A field of a line.
-pub fn field(line: &[u8], number: usize) -> &[u8] {
+pub fn field(line: &[u8], number: usize) -> &[u8]
+    ensures { λ r. ⌜ length (now r) ≤ length (now (line .entry)) ⌝ }
+{
     part(line, TAB, number)
 }
 

@@ -1,6 +1,6 @@
--- `number_of` is safe and ends. Assumes nothing.
+-- `number_of` meets its contract. The value of the digits passed stays within the limit. Assumes nothing.
 use borrow.Author.Needs.{needs}
-use Prim.Native.Nat.{_≤_, _<_, _-_, _*_, _+_}
+use Prim.Native.Nat.{_≤_, _-_}
 use lib.ListN.{length}
 use Rattle.stored.proofs.decimal.number_of.Statement.{statement}
 use Rattle.stored.proofs.decimal.number_of.Tie as tie

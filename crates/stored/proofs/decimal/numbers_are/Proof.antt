@@ -1,7 +1,6 @@
 -- `numbers_are` is safe and ends. Assumes nothing.
 use borrow.Author.Needs.{needs}
-use Prim.Native.Nat.{_≤_, _<_, _-_, _*_, _+_}
-use lib.ListN.{length}
+use Prim.Native.Nat.{_≤_, _-_}
 use Rattle.stored.proofs.decimal.numbers_are.Statement.{statement}
 use Rattle.stored.proofs.decimal.numbers_are.Tie as tie
 

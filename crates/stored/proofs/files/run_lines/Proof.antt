@@ -1,6 +1,6 @@
--- `run_lines` is safe and ends. Assumes nothing.
+-- `run_lines` is safe and ends. There are no more differences than cases, cases than lines, lines than letters passed. Assumes nothing.
 use borrow.Author.Needs.{needs}
-use Prim.Native.Nat.{_≤_, _<_, _-_, _*_, _+_}
+use Prim.Native.Nat.{_≤_, _-_}
 use lib.ListN.{length}
 use Rattle.stored.proofs.files.run_lines.Statement.{statement}
 use Rattle.stored.proofs.files.run_lines.Tie as tie

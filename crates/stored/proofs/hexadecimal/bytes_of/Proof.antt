@@ -1,4 +1,4 @@
--- `bytes_of` is safe and ends. Assumes nothing.
+-- `bytes_of` meets its contract: its bytes end within their room. Assumes nothing.
 use borrow.Author.Needs.{needs}
 use native.Mathlib.Omega.{arith}
 use Rattle.io.proofs.Counting.{counts}

@@ -1,9 +1,9 @@
--- `lay_run` is safe and ends. Assumes nothing.
+-- `lay_run` meets its contract. The bytes laid stay within the buffer. Assumes nothing.
 use borrow.Author.Needs.{needs}
-use Prim.Native.Nat.{_≤_, _<_, _-_, _*_, _+_}
 use native.Mathlib.Omega.{arith}
-use lib.ListN.{length, length-set}
 use mathlib.Core.Path.{_≡_}
+use Prim.Native.Nat.{_≤_}
+use lib.ListN.{length, length-set}
 use Rattle.stored.proofs.hexadecimal.lay_run.Statement.{statement}
 use Rattle.stored.proofs.hexadecimal.lay_run.Tie as tie
 

@@ -1,6 +1,6 @@
 -- `room` has as many bytes as it says. Assumes nothing.
-use Prim.Native.Nat.{ℕ}
 use mathlib.Core.Path.{sym}
+use Prim.Native.Nat.{ℕ}
 use lib.ListN.{length-replicate}
 use Rattle.stored.proofs.hexadecimal.room.Statement.{statement}
 use Rattle.stored.proofs.hexadecimal.room.Tie as tie

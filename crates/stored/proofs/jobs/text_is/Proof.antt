@@ -1,6 +1,6 @@
--- `text_is` is safe and ends. Assumes nothing.
+-- `text_is` is safe and ends. Each turn passes a letter of the text. Assumes nothing.
 use borrow.Author.Needs.{needs}
-use Prim.Native.Nat.{_≤_, _<_, _-_, _*_, _+_}
+use Prim.Native.Nat.{_≤_, _-_}
 use lib.ListN.{length}
 use Rattle.stored.proofs.jobs.text_is.Statement.{statement}
 use Rattle.stored.proofs.jobs.text_is.Tie as tie

@@ -1,12 +1,15 @@
--- `end_of` is safe and ends. Assumes nothing.
+-- `end_of` meets its contract. No letter that the loop has passed is the separator. Assumes nothing.
+use borrow.Author.Count.{below-more}
 use borrow.Author.Needs.{needs}
-use Prim.Native.Nat.{_≤_, _<_, _-_, _*_, _+_}
-use lib.ListN.{length}
+use mathlib.Core.Path.{_≡_}
+use Prim.Native.Nat.{ℕ, _≤_, _<_, _-_}
+use lib.ListN.{getD, length}
 use Rattle.stored.proofs.lines.end_of.Statement.{statement}
 use Rattle.stored.proofs.lines.end_of.Tie as tie
 
 abbrev Inv-loop : tie.InvT-loop
-Inv-loop text separator from at₀ at = (from ≤ at) × (at ≤ length text)
+Inv-loop text separator from at₀ at =
+    ((from ≤ at) × (at ≤ length text)) × ((i : ℕ) → i < at → from ≤ i → getD text i 0 ≡ separator → ⊥)
 
 abbrev μ-loop : tie.MeasureT-loop
 μ-loop text separator from at₀ at = length text - at
@@ -27,7 +30,7 @@ loop-less : tie.Need-loop-less Inv-loop μ-loop
 loop-less c = search needs
 
 loop-again : tie.Need-loop-again Inv-loop μ-loop
-loop-again c = search needs
+loop-again c = (search needs, below-more _ _ (c .before .before .before .loop .inv .1) (λ h. c .if1 .left))
 
 returns-2 : tie.Need-returns-2 Inv-loop μ-loop
 returns-2 c = search needs

@@ -1,6 +1,6 @@
--- `part` is safe and ends. Assumes nothing.
+-- `part` meets its contract. Each turn passes a separator and stays within the text. Assumes nothing.
 use borrow.Author.Needs.{needs}
-use Prim.Native.Nat.{_≤_, _<_, _-_, _*_, _+_}
+use Prim.Native.Nat.{_≤_}
 use lib.ListN.{length}
 use Rattle.stored.proofs.lines.part.Statement.{statement}
 use Rattle.stored.proofs.lines.part.Tie as tie

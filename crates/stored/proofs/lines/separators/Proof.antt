@@ -1,9 +1,9 @@
--- `separators` is safe and ends. Assumes nothing.
+-- `separators` meets its contract. No more are counted than letters were passed. Assumes nothing.
 use borrow.Author.Needs.{needs}
-use Prim.Native.Nat.{_≤_, _<_, _-_, _*_, _+_}
-use lib.ListN.{length}
 use native.Mathlib.Omega.{arith}
 use mathlib.Core.Logic.{⊎-elim}
+use Prim.Native.Nat.{_≤_, _-_}
+use lib.ListN.{length}
 use Rattle.stored.proofs.lines.separators.Statement.{statement}
 use Rattle.stored.proofs.lines.separators.Tie as tie
 
