@@ -1,7 +1,8 @@
 pub mod PlainCall
-pub mod Prefix
-pub mod Combinations
-pub mod TailRows
-pub mod Scratch
+pub mod Ways
+pub mod Lead
+pub mod TailWays
+pub mod Moves
 pub mod Rounds
 pub mod Search
+pub mod Walkable

@@ -1,73 +1,44 @@
--- `widened_rows` meets its contract. The loop stores the widened row of each state in turn.
+-- `widened_rows` meets its contract. The ways may pass the states that the loop has passed.
 use borrow.Author.Needs.{needs}
 use native.Mathlib.Omega.{arith}
-use mathlib.Core.Path.{_≡_, refl, sym}
-use mathlib.Core.List.{[]}
-use Prim.Native.Nat.{ℕ, _-_, _^_, _≤_, _<_}
-use lib.ListN.{getD}
-use Rattle.table.specs.Limits.{maxStates}
-use Rattle.plain.specs.Prefix.{Prefix}
-use Rattle.plain.specs.Combinations.{joinedRow}
-use Rattle.plain.specs.Rounds.{Widened, RowHas}
-use Rattle.plain.proofs.Prefixes.{prefix-none, prefix-more}
-use Rattle.plain.proofs.TailSteps.{tables-blank}
-use Rattle.plain.proofs.Saturation.{widened-ext, row-has}
+use mathlib.Core.Path.{_≡_, _∙_, subst}
+use Prim.Native.Nat.{ℕ, _-_, _≤_}
+use Rattle.plain.specs.Ways.{rowsOf}
+use Rattle.plain.specs.Rounds.{widened}
+use Rattle.plain.proofs.RoundRows.{widened-more}
 use Rattle.plain.proofs.rounds.widened_rows.Statement.{statement}
 use Rattle.plain.proofs.rounds.widened_rows.Tie as tie
+use Rattle.plain.proofs.rounds.through_state.Reads as through-state-reads
 
 abbrev Inv-loop : tie.InvT-loop
-Inv-loop rows n k tables wide₀ state₀ wide state =
-    (state ≤ n)
-    × Prefix maxStates [] (λ s row. RowHas (Widened n (2 ^ k) (λ t c. getD (getD tables t []) c []) (getD rows s [])) row) state wide
+Inv-loop n rows₀ middle₀ rows middle = (middle ≤ n) × ((C : ℕ → ℕ → ℕ) → rows₀ ≡ rowsOf C → rows ≡ rowsOf (widened middle C))
 
 abbrev μ-loop : tie.MeasureT-loop
-μ-loop rows n k tables wide₀ state₀ wide state = n - state
-
-join-tables-requires : tie.Need-join-tables-requires Inv-loop μ-loop
-join-tables-requires c κs = (c .before .pre, tables-blank _ _ _ refl)
+μ-loop n rows₀ middle₀ rows middle = n - middle
 
 loop-holds : tie.Need-loop-holds Inv-loop μ-loop
-loop-holds c = (omega arith, prefix-none _ (search needs))
+unfolding widened
+loop-holds c = (omega arith, λ C e. e)
 
-mul-widened-row : tie.Need-mul-widened-row Inv-loop μ-loop
-mul-widened-row c = search needs
+through-state-requires : tie.Need-through-state-requires Inv-loop μ-loop
+through-state-requires c κs = search needs
 
-element-copy-out-widened-row : tie.Need-element-copy-out-widened-row Inv-loop μ-loop
-element-copy-out-widened-row c = search needs
-
-widened-row-requires : tie.Need-widened-row-requires Inv-loop μ-loop
-widened-row-requires c κs = search needs
-
-mul-wide : tie.Need-mul-wide Inv-loop μ-loop
-mul-wide c = search needs
-
-array-set-from-wide : tie.Need-array-set-from-wide Inv-loop μ-loop
-array-set-from-wide c = search needs
-
-add-state : tie.Need-add-state Inv-loop μ-loop
-add-state c = search needs
+add-middle : tie.Need-add-middle Inv-loop μ-loop
+add-middle c = search needs
 
 loop-less : tie.Need-loop-less Inv-loop μ-loop
 loop-less c = search needs
 
 loop-again : tie.Need-loop-again Inv-loop μ-loop
 loop-again c =
-    let at = c .before .before .before .before in
-    (omega arith, prefix-more _ (at .loop .inv .1) (omega arith) (c .widened-row .ensures))
+    let at = c .before .before .before in
+    (omega arith, λ C e. widened-more C (at .loop .middle) _ _ (omega arith) (at .loop .inv .1 C e) (c .through-state .ensures))
 
 returns : tie.Need-returns Inv-loop μ-loop
 returns c =
     let at = c .before in
-    let made = at .before .join-tables .ensures in
-    let args = at .before .before .before .args in
-    let same : (t c : ℕ) → t < args .n → c < 2 ^ args .k
-    → getD (getD (at .before .join-tables .last .0) t []) c [] ≡ joinedRow c (getD (args .rows .now) t []) =
-    λ t c t-lt c-lt. made .joins t t-lt .values c c-lt in
-    record {
-      places = at .loop .inv .1 .places;
-      values = λ s small. row-has (at .loop .inv .1 .values s (omega arith)) (λ t c w. widened-ext same w)
-          (λ t c w. widened-ext (λ t c t-lt c-lt. sym (same t c t-lt c-lt)) w);
-    }
+    let e : at .loop .middle ≡ at .before .args .n = omega arith in
+    λ C h. subst (λ n. at .loop .rows ≡ rowsOf (widened n C)) e (at .loop .inv .1 C h)
 
 pub widened-rows-spec : {M : Type 1} → statement M
 widened-rows-spec =
@@ -75,14 +46,9 @@ widened-rows-spec =
     (tie.spec
     Inv-loop
     μ-loop
-    join-tables-requires
     loop-holds
-    mul-widened-row
-    element-copy-out-widened-row
-    widened-row-requires
-    mul-wide
-    array-set-from-wide
-    add-state
+    through-state-requires
+    add-middle
     loop-less
     loop-again
     returns)

@@ -1,81 +1,131 @@
--- `tail_rows` meets its contract. The loop has the rows of the letters from `at` on.
+-- `tail_rows` meets its contract. The loop has the ways of the letters from `at` on.
 use borrow.Author.Needs.{needs}
 use native.Mathlib.Omega.{arith}
-use mathlib.Core.Path.{_≡_, refl}
-use Prim.Native.Nat.{_-_, _≤_}
+use mathlib.Core.Path.{_≡_, subst}
+use Prim.Native.Nat.{_-_, _<_}
 use lib.ListN.{length, drop}
-use lib.Pow.{pow-mono}
-use Rattle.plain.specs.TailRows.{unitRow, rowOf, RowsAre, Tables}
-use Rattle.plain.proofs.TailSteps.{tables-blank, tables-none, tail-none, tail-more}
+use Rattle.plain.specs.Ways.{rowsOf}
+use Rattle.plain.specs.TailWays.{tailWays}
+use Rattle.plain.specs.Moves.{ListsMade}
+use Rattle.plain.proofs.MoveLists.{lists-none}
+use Rattle.plain.proofs.TailSteps.{tail-last, tail-more}
 use Rattle.plain.proofs.tail.tail_rows.Statement.{statement}
 use Rattle.plain.proofs.tail.tail_rows.Tie as tie
+use Rattle.plain.proofs.moves.letter_rows.Reads as letter-rows-reads
+use Rattle.plain.proofs.moves.list_letter.Reads as list-letter-reads
+use Rattle.plain.proofs.tail.cell_rows.Reads as cell-rows-reads
 
 abbrev Inv-loop : tie.InvT-loop
-Inv-loop cells v n k rows₀ tables₀ at₀ rows tables at =
-    (at ≤ length v) × RowsAre (rowOf n cells (drop at v)) n rows × Tables k unitRow 0 tables
+Inv-loop cells v lists₀ counts₀ at₀ rows₀ lists counts at rows = (at < length v) × (rows ≡ rowsOf (tailWays cells (drop at v))) × ListsMade cells lists counts
 
 abbrev μ-loop : tie.MeasureT-loop
-μ-loop cells v n k rows₀ tables₀ at₀ rows tables at = at
+μ-loop cells v lists₀ counts₀ at₀ rows₀ lists counts at rows = at
 
-unit-rows-requires : tie.Need-unit-rows-requires Inv-loop μ-loop
-unit-rows-requires c κs = search needs
+sub-at : tie.Need-sub-at Inv-loop μ-loop
+sub-at c = omega (arith, c .before .pre .some)
+
+shared-slice-read-cell-rows : tie.Need-shared-slice-read-cell-rows Inv-loop μ-loop
+shared-slice-read-cell-rows c = omega (arith, c .before .before .pre .some)
+
+cast-cell-rows : tie.Need-cast-cell-rows Inv-loop μ-loop
+cast-cell-rows c =
+    let start = c .before .before in
+    omega (arith, start .pre .letters (length (start .args .v .now) - 1) (omega (arith, start .pre .some)))
+
+mul-cell-rows : tie.Need-mul-cell-rows Inv-loop μ-loop
+mul-cell-rows c =
+    let start = c .before .before in
+    omega (arith, start .pre .letters (length (start .args .v .now) - 1) (omega (arith, start .pre .some)))
+
+index-1-cell-rows : tie.Need-index-1-cell-rows Inv-loop μ-loop
+index-1-cell-rows c =
+    let start = c .before .before in
+    omega (arith, start .pre .letters (length (start .args .v .now) - 1) (omega (arith, start .pre .some)))
+
+cell-rows-requires : tie.Need-cell-rows-requires Inv-loop μ-loop
+cell-rows-requires c κs =
+    c .before .before .before .pre .bytes _
 
 loop-holds : tie.Need-loop-holds Inv-loop μ-loop
 loop-holds c =
-    let start = c .before .before in
-    (omega arith, tail-none _ _ (start .args .v .now) _ (start .pre .states) (c .unit-rows .ensures), tables-blank _ unitRow _ refl)
+    let start = c .before .before .before .before in
+    (omega (arith, start .pre .some), tail-last _ (start .args .v .now) _ (start .pre .some) (c .cell-rows .ensures), lists-none _)
 
-sub-at : tie.Need-sub-at Inv-loop μ-loop
-sub-at c = search needs
+sub-at-2 : tie.Need-sub-at-2 Inv-loop μ-loop
+sub-at-2 c = search needs
 
-join-tables-requires : tie.Need-join-tables-requires Inv-loop μ-loop
-join-tables-requires c κs =
-    let at = c .before .before .before in
-    let fits = at .before .before .before .pre in
-    ((fits .states, fits .sets), tables-none _ (at .loop .inv .2))
+shared-slice-read-letter : tie.Need-shared-slice-read-letter Inv-loop μ-loop
+shared-slice-read-letter c = omega (arith, c .before .before .loop .inv .0)
 
-shared-slice-read-letter-rows : tie.Need-shared-slice-read-letter-rows Inv-loop μ-loop
-shared-slice-read-letter-rows c = search needs
+cast-letter : tie.Need-cast-letter Inv-loop μ-loop
+cast-letter c =
+    let at = c .before .before in
+    omega (arith, at .before .before .before .before .before .pre .letters (at .loop .at - 1) (omega (arith, at .loop .inv .0)))
 
-cast-letter-rows : tie.Need-cast-letter-rows Inv-loop μ-loop
-cast-letter-rows c =
-    let at = c .before .before .before .before .before .before .before in
-    omega (arith, at .before .before .before .pre .letters (at .loop .at - 1) (omega arith))
+list-letter-requires : tie.Need-list-letter-requires Inv-loop μ-loop
+list-letter-requires c κs =
+    let at = c .before .before .before .before in
+    let start = at .before .before .before .before .before in
+    (start .pre .letters (at .loop .at - 1) (omega (arith, at .loop .inv .0)), at .loop .inv .2)
 
 mul-letter-rows : tie.Need-mul-letter-rows Inv-loop μ-loop
 mul-letter-rows c =
-    let at = c .before .before .before .before .before .before .before in
-    omega (arith, at .before .before .before .pre .letters (at .loop .at - 1) (omega arith))
+    let at = c .before .before .before .before .before .before in
+    omega (arith, at .before .before .before .before .before .pre .letters (at .loop .at - 1) (omega (arith, at .loop .inv .0)))
 
 index-1-letter-rows : tie.Need-index-1-letter-rows Inv-loop μ-loop
 index-1-letter-rows c =
+    let at = c .before .before .before .before .before .before in
+    omega (arith, at .before .before .before .before .before .pre .letters (at .loop .at - 1) (omega (arith, at .loop .inv .0)))
+
+mul-letter-rows-2 : tie.Need-mul-letter-rows-2 Inv-loop μ-loop
+mul-letter-rows-2 c =
     let at = c .before .before .before .before .before .before .before in
-    omega (arith, at .before .before .before .pre .letters (at .loop .at - 1) (omega arith))
+    omega (arith, at .before .before .before .before .before .pre .letters (at .loop .at - 1) (omega (arith, at .loop .inv .0)))
+
+index-1-letter-rows-2 : tie.Need-index-1-letter-rows-2 Inv-loop μ-loop
+index-1-letter-rows-2 c =
+    let at = c .before .before .before .before .before .before .before in
+    omega (arith, at .before .before .before .before .before .pre .letters (at .loop .at - 1) (omega (arith, at .loop .inv .0)))
+
+mul-letter-rows-3 : tie.Need-mul-letter-rows-3 Inv-loop μ-loop
+mul-letter-rows-3 c =
+    let at = c .before .before .before .before .before .before .before .before in
+    omega (arith, at .before .before .before .before .before .pre .letters (at .loop .at - 1) (omega (arith, at .loop .inv .0)))
+
+array-read-letter-rows : tie.Need-array-read-letter-rows Inv-loop μ-loop
+array-read-letter-rows c =
+    let at = c .before .before .before .before .before .before .before .before in
+    omega (arith, at .before .before .before .before .before .pre .letters (at .loop .at - 1) (omega (arith, at .loop .inv .0)))
 
 letter-rows-requires : tie.Need-letter-rows-requires Inv-loop μ-loop
 letter-rows-requires c κs =
-    let at = c .before .before .before .before .before .before .before .before in
-    let start = at .before .before .before in
-    ((start .pre .states, at .loop .inv .1 .places), λ s r there. omega (arith, start .pre .bytes _ s r there, pow-mono (start .pre .sets)))
+    let made = c .before .before .before in
+    let at = made .before .before .before .before .before in
+    let start = at .before .before .before .before .before in
+    let small = start .pre .letters (at .loop .at - 1) (omega (arith, at .loop .inv .0)) in
+    let (lists, few) = made .list-letter .ensures in
+    (start .pre .bytes _, lists .made _ small few)
 
 loop-less : tie.Need-loop-less Inv-loop μ-loop
 loop-less c = search needs
 
 loop-again : tie.Need-loop-again Inv-loop μ-loop
 loop-again c =
-    let at = c .before .before .before .before .before .before .before .before .before in
-    let start = at .before .before .before in
-    let made = c .before .before .before .before .before .join-tables .ensures in (
-      omega arith,
-      tail-more _ _ (at .loop .at) _ (start .args .v .now) _ _ _ (omega arith) (omega arith) (start .pre .bytes)
-          (at .loop .inv .1) made (c .letter-rows .ensures),
-      tables-none unitRow made,
+    let made = c .before .before .before .before in
+    let at = made .before .before .before .before .before in
+    let v = at .before .before .before .before .before .args .v .now in (
+      omega (arith, at .loop .inv .0),
+      tail-more _ v (at .loop .at) _ _ (omega arith) (omega (arith, at .loop .inv .0)) (at .loop .inv .1)
+          (c .letter-rows .ensures),
+      made .list-letter .ensures .0,
     )
 
 returns : tie.Need-returns Inv-loop μ-loop
 returns c =
-    let e : c .before .loop .at ≡ 0 = omega arith in
-    rw e at (c .before .loop .inv .1)
+    let at = c .before in
+    let e : at .loop .at ≡ 0 = omega arith in
+    rw e at (at .loop .inv .1)
 
 pub tail-rows-spec : {M : Type 1} → statement M
 tail-rows-spec =
@@ -83,14 +133,23 @@ tail-rows-spec =
     (tie.spec
     Inv-loop
     μ-loop
-    unit-rows-requires
-    loop-holds
     sub-at
-    join-tables-requires
-    shared-slice-read-letter-rows
-    cast-letter-rows
+    shared-slice-read-cell-rows
+    cast-cell-rows
+    mul-cell-rows
+    index-1-cell-rows
+    cell-rows-requires
+    loop-holds
+    sub-at-2
+    shared-slice-read-letter
+    cast-letter
+    list-letter-requires
     mul-letter-rows
     index-1-letter-rows
+    mul-letter-rows-2
+    index-1-letter-rows-2
+    mul-letter-rows-3
+    array-read-letter-rows
     letter-rows-requires
     loop-less
     loop-again
