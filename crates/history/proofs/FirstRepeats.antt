@@ -1,11 +1,11 @@
 -- The first repeat of a sequence of trees, each of which determines the next: it is there if there are finitely many
 -- trees; it is unique; from the entry on everything repeats with the period, and nothing else repeats. So whoever finds
--- a repeat in constant memory, by Brent's or by Floyd's search, finds this one.
+-- a repeat in constant memory, by Brent's search, finds this one.
 use mathlib.Core.Path.{_≡_, sym, _∙_, ap, subst}
 use mathlib.Core.Logic.{_⊎_, inl, inr, ⊎-elim}
 use Prim.Native.Nat.{ℕ, zero, suc, _+_, _*_, _-_, _/_, _%_, _≤_, _<_}
 use native.Mathlib.Omega.{arith}
-use native.Mathlib.Nat.{mod-lt, div-add-mod', mul-le-mul-right, add-suc, add-zero, div-mul-le-self, lt-div-mul-add}
+use native.Mathlib.Nat.{mod-lt, div-add-mod', mul-le-mul-right, add-suc, add-zero}
 use native.Mathlib.Decide.{decLe, decLt, ℕ-discrete, map-dec}
 use Rattle.word.proofs.Pigeonhole.{pigeonhole}
 use Rattle.history.specs.Tree.{Tree}
@@ -189,23 +189,3 @@ module _ (t : ℕ → Tree) (f : Tree → Tree) (next : (r : ℕ) → t (suc r) 
         go : Dec (period < l) → period ≡ l
         go (yes h) = let z : 1 * period ≡ period = omega arith in absurd (least period (F .positive) h (rw z at one))
         go (no h) = omega (arith, period-first i l p e)
-
-    -- Floyd: some place has the tree of twice that place, no later than the first repeat
-    pub meeting : (m : ℕ) × (1 ≤ m) × (m ≤ entry + period) × (t m ≡ t (m + m))
-    meeting =
-        let d : ℕ = suc (entry / period) in
-        let h = div-mul-le-self entry period in
-        let g = lt-div-mul-add {a = entry} (F .positive) in
-        (d * period, omega arith, omega arith, periodic d (d * period) (omega arith))
-
-    module _ (m : ℕ) (m-positive : 1 ≤ m) (meets : t m ≡ t (m + m)) where
-      -- such a place is a number of full periods
-      pub meeting-periods : (d : ℕ) × (1 ≤ d) × (m ≡ d * period)
-      meeting-periods = let (_, (d, p, e)) = repeat-only m (m + m) (omega arith) meets in (d, p, omega arith)
-
-      -- and the first place whose tree is that of m places further is the entry
-      pub entry-meets : t entry ≡ t (entry + m)
-      entry-meets = let (d, _, e) = meeting-periods in rw e (periodic d entry (omega arith))
-
-      pub entry-first : (i : ℕ) → t i ≡ t (i + m) → entry ≤ i
-      entry-first i e = repeat-only i (i + m) (omega arith) e .0

@@ -15,7 +15,7 @@ use Rattle.table.specs.BitSet.{member, collect}
 use Rattle.table.specs.Rule.{Rule}
 use Rattle.table.specs.Table.{WellFormed}
 use Rattle.table.proofs.Logic.{bool-ext, and-both, and-in}
-use Rattle.table.proofs.BitSet.{member-union, member-inter, set-ext, member-collect, collect-lt, collect-ext}
+use Rattle.table.proofs.BitSet.{member-union, member-inter, set-ext, member-collect, collect-ext}
 use Rattle.history.specs.Forest.{size, names}
 use Rattle.history.specs.Tree.{Tree, isTree}
 use Rattle.history.specs.Letter.{nextTree, accepting, stable, byNumber, acceptingMap, stableMap}
@@ -51,10 +51,6 @@ module _ (T : Tree) where
   unfolding byNumber
   member-by f i = member-collect (size T) (λ i. f (getD (names T) i [])) i
 
-  by-lt : (f : List ℕ → Bool) → byNumber f T < 2 ^ size T
-  unfolding byNumber
-  by-lt f = collect-lt (size T) _
-
   -- the nodes with two properties, and with one of two
   by-and : (f g : List ℕ → Bool) → bitAnd (byNumber f T) (byNumber g T) ≡ byNumber (λ p. f p && g p) T
   by-and f g = set-ext _ _ (λ i. simp (member-inter, member-by) (both (ltb i (size T)) (f (getD (names T) i [])) (g (getD (names T) i []))))
@@ -82,25 +78,6 @@ collect-none zero = refl
 collect-none (suc n) = omega (arith, collect-none n)
 
 -- THE MAPS THAT ARE FOLLOWED
-
--- they are maps of the nodes there are
-pub kept-lt : (R : Rule) (T : Tree) (w : List ℕ) → keptMap R T w < 2 ^ size (readLetters R w T)
-unfolding keptMap
-kept-lt R T w = by-lt (readLetters R w T) _
-
-pub accepted-lt : (R : Rule) (T : Tree) (w : List ℕ) → acceptedMap R T w < 2 ^ size (readLetters R w T)
-unfolding acceptedMap
-accepted-lt R T w = by-lt (readLetters R w T) _
-
--- the accepted ones are among those that are kept
-pub kept-accepted : (R : Rule) (T : Tree) (w : List ℕ) → bitAnd (keptMap R T w) (acceptedMap R T w) ≡ acceptedMap R T w
-unfolding keptMap acceptedMap
-kept-accepted R T w = by-and (readLetters R w T) _ _
-    ∙ ap (λ f. byNumber f (readLetters R w T)) (fun-ext (λ p. twice (stableThrough R T w p) (acceptingOnce R T w p)))
-  where
-    twice : (x y : Bool) → (x && (x && y)) ≡ (x && y)
-    twice true y = refl
-    twice false y = refl
 
 -- before the first letter all nodes have kept their names, and none was accepting
 pub follow-none : (R : Rule) (T : Tree) → (keptMap R T [] ≡ 2 ^ size T - 1) × (acceptedMap R T [] ≡ 0)

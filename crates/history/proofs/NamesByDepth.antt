@@ -227,10 +227,7 @@ module _ (n k : ℕ) (T : Tree) (tree : isTree n k T ≡ true) where
   name-depth j = sym (List·getD-map (λ w. length w) (names T) j [])
       ∙ ap (λ (l : List ℕ). getD l j 0) (tree-lengths T (tree-out n k T tree .one-root))
 
-  -- the root has depth 0; each later depth is from 1 to one more than the depth before it
-  pub depth-root : getD (depths T) 0 0 ≡ 0
-  depth-root = sym (name-depth 0) ∙ ap (λ (w : List ℕ). length w) (name-root T)
-
+  -- the depth of each node but the root is from 1 to one more than the depth before it
   pub depth-next : (j : ℕ) → suc j < size T
       → (1 ≤ getD (depths T) (suc j) 0) × (getD (depths T) (suc j) 0 ≤ suc (getD (depths T) j 0))
   depth-next j h =

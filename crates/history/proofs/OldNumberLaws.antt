@@ -42,13 +42,6 @@ number-of c w (p ∷ ps) = go (sameNumbers w p) refl (number-of (suc c) w ps)
     go false e (inr (i, small, is, at)) = inr (suc i, omega arith, rw e (omega arith), at)
 
 module _ (T : Tree) (one : OneRoot T) where
-  -- where a node comes from has the number of an old node, or of none
-  origin-range : (o : Origin) → (oldNumber T o < size T) ⊎ (oldNumber T o ≡ noNode)
-  unfolding oldNumber
-  origin-range (was w) =
-      ⊎-elim (λ none. inr (none .0)) (λ (i, small, is, at). inl (omega (arith, length-names T one))) (number-of 0 w (names T))
-  origin-range sprouted = inr refl
-
   -- the old node of that number is the one that it comes from, and the other way round
   number-origin : size T ≤ noNode → (o : Origin) → oldNumber T o < size T → isOld (getD (names T) (oldNumber T o) []) o ≡ true
   unfolding oldNumber isOld
@@ -162,10 +155,6 @@ module _ (R : Rule) (well : WellFormed R) (sets : 1 ≤ R .sets) (a : ℕ) (T : 
   here-at : (j : ℕ) → j < size (nextTree R a T) → getD (listing (survivors R a T)) j noSprout ≡ getD (nodes R a T) j nowhere .here
   here-at j h =
       ap (λ (l : List Grown). getD l j noSprout) (sym here-nodes) ∙ at-map _ (nodes R a T) j nowhere noSprout (omega (arith, count))
-
-  -- each is the number of an old node, or of none
-  pub old-range : (j : ℕ) → j < size (nextTree R a T) → (getD (oldNumbers R a T) j 0 < size T) ⊎ (getD (oldNumbers R a T) j 0 ≡ noNode)
-  old-range j h = rw (old-at j h) (origin-range T one _)
 
   -- a node whose old node is stable has the same name
   pub stable-keeps : R .states < noNode → (j : ℕ) → j < size (nextTree R a T) → getD (oldNumbers R a T) j 0 < size T

@@ -6,15 +6,15 @@ use Prim.Native.Nat.{ℕ, suc, _≤_}
 use lib.Bits.{bitOr}
 use lib.Dec.{eqb}
 use Rattle.table.specs.Rule.{Rule}
-use Rattle.table.proofs.Logic.{and-in, or-r}
+use Rattle.table.proofs.Logic.{or-r}
 use Rattle.history.specs.Forest.{Forest, nil, node, change, listing, namedFrom, named, names, sameNumbers}
 use Rattle.history.specs.Tree.{Node, Tree}
-use Rattle.history.specs.Letter.{sprouted, Grown, begun, child, kept, survivors, isOld, anyOf, accepting, stable}
+use Rattle.history.specs.Letter.{sprouted, Grown, begun, child, kept, survivors, isOld, anyOf, stable}
 use Rattle.history.proofs.LocalStep.{newLabel, accepts}
 use Rattle.history.proofs.SetFacts.{nothing-minus}
 use Rattle.history.proofs.StepsJoined.{heldNode, grown, advanced, grown-new, grown-node}
 use Rattle.history.proofs.StepsJoined.{oldNode, begunFrom, held-begunFrom, noSprout, survivors-grown}
-use Rattle.history.proofs.Names.{or-weaker, any-node, any-weaker, any-map, any-change, at-any, named-in, named-tree}
+use Rattle.history.proofs.Names.{or-weaker, any-node, any-map, any-change, at-any, named-in, named-tree}
 use Rattle.history.proofs.NamesDistinct.{IsName, name-number}
 
 -- does a node come from the old node of that name?
@@ -58,15 +58,10 @@ module _ (R : Rule) (a : ℕ) where
       (any-map (sameNumbers w) (λ x. x .name) (listing (named T)) ∙ sym (any-change (From w) _ (named T))
       ∙ grown-origins w 0 noSprout (begun T) refl (rw survivors-grown at h))
 
-  -- a stable name, and an accepting one, is the name of an old node
+  -- a stable name is the name of an old node
   pub stable-old : (T : Tree) (w : List ℕ) → stable R a T w ≡ true → IsName T w
   unfolding stable
   stable-old T w h = from-survivors w T (at-any (From w) (survivors R a T) 0 w (sym (named-tree (From w) w (survivors R a T)) ∙ h))
-
-  pub accepting-old : (T : Tree) (w : List ℕ) → accepting R a T w ≡ true → IsName T w
-  unfolding accepting
-  accepting-old T w h = from-survivors w T
-      (any-weaker _ (From w) (λ x t. and-in (From w x) (x .accepting) t .0) (listing (survivors R a T)) h)
 
   -- AN OLD NODE AFTER A LETTER
 

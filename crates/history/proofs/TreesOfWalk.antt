@@ -8,7 +8,7 @@ use native.Mathlib.Nat.{add-zero, mul-le-mul-left, mul-le-mul-right, div-add-mod
 use native.Mathlib.Decide.{decLe}
 use native.Mathlib.Numerals.{add-one}
 use lib.ListN.{length, getD, take, length-append}
-use lib.Seq.{length-take-le, take-length, take-suc, getD-take}
+use lib.Seq.{length-take-le, getD-take}
 use Rattle.table.specs.Rule.{Rule}
 use Rattle.word.specs.Walk.{letterAt, rounds}
 use Rattle.word.proofs.Paths.{rounds-add, rounds-one}
@@ -75,18 +75,10 @@ module _ (R : Rule) (u v : List ℕ) where
       ap (λ x. rounds x v) (sym (add-one r)) ∙ rounds-add r 1 v ∙ ap (rounds r v ++_) (rounds-one v) in
       rw (e, ← append-assoc u (rounds r v) v, read-append)
 
-  -- letter by letter: from t(r), one more letter each, to t(r+1)
+  -- before its first letter the tree in round r is t(r)
   pub in-round-zero : (r : ℕ) → treeInRound R u v r 0 ≡ roundTree R u v r
   unfolding treeInRound readLetters
   in-round-zero r = refl
-
-  pub in-round-next : (r i : ℕ) → i < length v → treeInRound R u v r (suc i) ≡ nextTree R (getD v i 0) (treeInRound R u v r i)
-  unfolding treeInRound readLetters
-  in-round-next r i h = rw (take-suc v i 0 h, read-append)
-
-  pub in-round-end : (r : ℕ) → treeInRound R u v r (length v) ≡ roundTree R u v (suc r)
-  unfolding treeInRound
-  in-round-end r = rw (take-length, round-next)
 
   module _ (entry period : ℕ) (F : FirstRepeat (roundTree R u v) entry period) where
     -- from the entry on the trees repeat, round by round

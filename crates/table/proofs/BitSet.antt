@@ -274,11 +274,3 @@ module _ (n : ℕ) (E : ℕ → ℕ → Bool) where
           image-in (bitOr a b) q r hq hr (member-union a b q ∙ or-l (member a q) (member b q) m) e
       joined r (inr h) = let (q, hq, hr, m, e) = image-out b r h in
           image-in (bitOr a b) q r hq hr (member-union a b q ∙ or-r (member a q) (member b q) m) e
-
--- relations that agree below n have the same images
-pub image-ext : (n : ℕ) (E F : ℕ → ℕ → Bool) → ((q r : ℕ) → q < n → r < n → E q r ≡ F q r) → (s : ℕ) → image n E s ≡ image n F s
-image-ext n E F h s = set-ext _ _ (λ r. bool-ext _ _ (into E F h r) (into F E (λ q r hq hr. sym (h q r hq hr)) r))
-  where
-    into : (E F : ℕ → ℕ → Bool) → ((q r : ℕ) → q < n → r < n → E q r ≡ F q r)
-        → (r : ℕ) → member (image n E s) r ≡ true → member (image n F s) r ≡ true
-    into E F h r i = let (q, hq, hr, m, e) = image-out n E s r i in image-in n F s q r hq hr m (sym (h q r hq hr) ∙ e)

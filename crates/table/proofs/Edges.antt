@@ -3,7 +3,7 @@ use mathlib.Core.Path.{_≡_, refl, ap}
 use mathlib.Core.Logic.{⊎-elim}
 use mathlib.Core.Bool.{true, _||_}
 use mathlib.Core.List.{List, [], _∷_}
-use Prim.Native.Nat.{ℕ, zero, suc, _^_, _<_, _≤_, suc-le-suc}
+use Prim.Native.Nat.{ℕ, zero, suc, _^_, _<_, suc-le-suc}
 use native.Mathlib.Nat.{le-of-suc-le-suc, not-suc-le-zero}
 use native.Mathlib.Omega.{arith}
 use borrow.Author.Tests.{eqb-true, eqb-false, ltb-true}
@@ -14,7 +14,6 @@ use Rattle.table.specs.BitSet.{member}
 use Rattle.table.specs.Rule.{Grid, Rule, cellAt, edge, edgeIn}
 use Rattle.table.specs.Table.{bytesFit, RowFits, SquareFits, WellFormed}
 use Rattle.table.proofs.Logic.{clash, and-both, and-in, or-in, not-in}
-use Rattle.table.proofs.BitSet.{member-lt}
 use Rattle.table.proofs.Every.{every-at}
 
 -- a place that holds anything but the default is a place of the list
@@ -63,14 +62,6 @@ pub edgeIn-edge : (grid : Grid) (i a q r : ℕ) → edgeIn grid i a q r ≡ true
 unfolding edgeIn
 edgeIn-edge grid zero a q r h = clash refl h
 edgeIn-edge grid (suc i) a q r h = and-in (edge grid a q r) _ h .0
-
--- and its set is one of the rule's
-pub edgeIn-set : (R : Rule) → WellFormed R → (i a q r : ℕ) → edgeIn (R .grid) i a q r ≡ true → (1 ≤ i) × (i ≤ R .sets)
-unfolding edgeIn
-edgeIn-set R well zero a q r h = clash refl h
-edgeIn-set R well (suc i) a q r h =
-    let (there, bit) = and-in (edge (R .grid) a q r) _ h in
-    (omega arith, member-lt (R .sets) (cellAt (R .grid) a q r) i (edge-byte-lt R well a q r there) bit)
 
 -- a transition belongs to set i + 1 just if bit i of its byte stands
 pub edgeIn-member : (grid : Grid) (i a q r : ℕ) → edgeIn grid (suc i) a q r ≡ true → member (cellAt grid a q r) i ≡ true

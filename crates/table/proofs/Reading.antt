@@ -14,7 +14,7 @@ use Rattle.table.specs.Rule.{Grid}
 use Rattle.table.specs.Table.{mapByte, setBytes, cellBytes, bytesFit, Every, RowFits, SquareFits}
 use Rattle.table.specs.Table.{Read, readByte, readTransition, readRow, readCell, readMany, readGrid}
 use Rattle.table.proofs.Logic.{and-in, and-both}
-use Rattle.table.proofs.Accepted.{IfAccepted, of-accepted, asked, weaker, followed}
+use Rattle.table.proofs.Accepted.{IfAccepted, asked, weaker, followed}
 use Rattle.table.proofs.Every.{every-weaker}
 use Rattle.table.proofs.Parts.{flatMap-flatten}
 
@@ -184,10 +184,3 @@ grid-read n m k small all =
     let squares = readMany (readCell n k n) n in
     weaker _ _ (readMany squares m all) (many-read (SquareFits n k) (flatMap cellBytes) squares (square-read n k small) m all) λ grid says.
     (says .0, rw (flatMap-flatten cellBytes (grid .0)) (says .1))
-
--- the same, of an equation
-pub read-grid-accepted : (n m k : ℕ) (bytes rest : List ℕ) (grid : Grid) → 2 ^ k ≤ noTransition
-    → readGrid n m k bytes ≡ accepted (grid, rest)
-    → (length grid ≡ m) × Every (SquareFits n k) grid × (bytes ≡ flatMap cellBytes (flatten grid) ++ rest)
-read-grid-accepted n m k bytes rest grid small e =
-    let says = of-accepted _ (readGrid n m k bytes) (grid, rest) e (grid-read n m k small bytes) in (says .0 .0, says .0 .1, says .1)

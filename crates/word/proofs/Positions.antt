@@ -4,7 +4,7 @@ use mathlib.Core.Path.{_≡_, refl, sym, ap, _∙_}
 use mathlib.Core.List.{List, [], _∷_, _++_}
 use Prim.Native.Nat.{ℕ, zero, suc, _+_, _-_, _*_, _%_, _≤_, _<_}
 use native.Mathlib.Omega.{arith}
-use native.Mathlib.Nat.{zero-add, zero-mul, mod-lt, mod-eq-of-lt, add-mod-left, add-mod-right, add-mul-mod-self-right}
+use native.Mathlib.Nat.{zero-add, zero-mul, mod-lt, mod-eq-of-lt, add-mod-left, add-mul-mod-self-right}
 use native.Mathlib.Nat.{mul-pos, mod-mod-of-dvd, dvd-mul-left}
 use native.Mathlib.Decide.{decLt}
 use lib.ListN.{length, getD, length-append, List·getD-append}
@@ -31,13 +31,6 @@ pub letter-round : (u v : List ℕ) (r p : ℕ) → p < length v → letterAt u 
 letter-round u v r p h =
     let q : length u + r * length v + p ≡ length u + (p + r * length v) = omega arith in
     rw (q, letter-cycle, add-mul-mod-self-right, mod-eq-of-lt h)
-
--- behind the prefix the letters repeat with the cycle's length
-pub letter-periodic : (u v : List ℕ) (p : ℕ) → length u ≤ p → letterAt u v (p + length v) ≡ letterAt u v p
-unfolding letterAt
-letter-periodic u v p h =
-    let q : p + length v - length u ≡ p - length u + length v = omega arith in
-    rw (le-ltb (p + length v) (length u) (omega arith), le-ltb p (length u) h, q, add-mod-right)
 
 -- ROUNDS
 
