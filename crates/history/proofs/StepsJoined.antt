@@ -2,13 +2,13 @@
 use mathlib.Core.Path.{_≡_, refl, sym, _∙_, ap, ap₂}
 use mathlib.Core.Bool.{Bool, true, false, not, _&&_, _||_}
 use mathlib.Core.List.{List, [], _∷_, _++_}
-use Prim.Native.Nat.{ℕ, zero, suc}
+use Prim.Native.Nat.{ℕ, suc}
 use borrow.Author.Tests.{eqb-true}
-use lib.Bits.{bitOr, or-zero-r}
+use lib.Bits.{bitOr}
 use lib.Dec.{eqb}
 use Rattle.table.specs.BitSet.{member, minus}
 use Rattle.table.specs.Rule.{Rule}
-use Rattle.table.proofs.BitSet.{member-union, member-minus, set-ext, union-assoc}
+use Rattle.table.proofs.BitSet.{member-union, member-minus, set-ext}
 use Rattle.history.specs.Forest.{Forest, nil, node, change, namedFrom, named}
 use Rattle.history.specs.Tree.{Node, Tree, labels}
 use Rattle.history.specs.Letter.{was, sprouted, Grown, begun, succeeded, youngest, child, sprouting, separated}
@@ -27,38 +27,6 @@ older-same older label = set-ext _ _ (λ q. simp (member-union, member-minus) (l
     lost true l = refl
     lost false true = refl
     lost false false = refl
-
--- the union of the labels of the first i siblings, and the siblings from place i on
-unfoldable pub firstLabels : ℕ → Forest Grown → ℕ
-firstLabels zero F = 0
-firstLabels (suc i) nil = 0
-firstLabels (suc i) (node x below younger) = bitOr (x .label) (firstLabels i younger)
-
-unfoldable pub siblingsFrom : ℕ → Forest Grown → Forest Grown
-siblingsFrom zero F = F
-siblingsFrom (suc i) nil = nil
-siblingsFrom (suc i) (node x below younger) = siblingsFrom i younger
-
--- When step 3 reaches a sibling, the running set `older` has grown by the union of its older siblings' labels, as they were
--- before these lost states to one another,
-pub separated-from : (i older : ℕ) (F : Forest Grown)
-    → siblingsFrom i (separated older F) ≡ separated (bitOr older (firstLabels i F)) (siblingsFrom i F)
-unfolding siblingsFrom firstLabels separated
-separated-from zero older F = rw or-zero-r
-separated-from (suc i) older nil = refl
-separated-from (suc i) older (node x below younger) = separated-from i (bitOr older (x .label)) younger ∙ rw union-assoc
-
--- and that is the same set as with their labels as they are after it.
-pub older-before-after : (i older : ℕ) (F : Forest Grown)
-    → bitOr older (firstLabels i F) ≡ bitOr older (firstLabels i (separated older F))
-unfolding firstLabels separated
-older-before-after zero older F = refl
-older-before-after (suc i) older nil = refl
-older-before-after (suc i) older (node x below younger) =
-    union-assoc older (x .label) (firstLabels i younger)
-    ∙ older-before-after i (bitOr older (x .label)) younger
-    ∙ ap (λ (s : ℕ). bitOr s (firstLabels i (separated (bitOr older (x .label)) younger))) (older-same older (x .label))
-    ∙ sym (union-assoc older (minus (x .label) older) (firstLabels i (separated (bitOr older (x .label)) younger)))
 
 -- NODES WITHOUT THEIR TAGS
 
