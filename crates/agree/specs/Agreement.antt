@@ -2,7 +2,7 @@
 use mathlib.Core.Path.{_≡_}
 use mathlib.Core.List.{List}
 use Prim.Native.Nat.{ℕ}
-use Rattle.table.specs.Outcome.{Outcome, accepted}
+use Rattle.table.specs.Outcome.{accepted}
 use Rattle.table.specs.Rule.{Rule}
 use Rattle.word.specs.Run.{AcceptingRun}
 use Rattle.word.specs.Verdict.{Decides}

@@ -1,15 +1,13 @@
 -- Question 9 is exact: it is answered yes for the records of the trees over n and k, and for nothing else, and the tree that is
 -- read is the one whose record it is. So two trees never have one record.
-use mathlib.Core.Path.{_≡_, refl, sym, _∙_, ap, ap₂}
+use mathlib.Core.Path.{_≡_, refl, sym, _∙_, ap}
 use mathlib.Core.Logic.{_↔_}
 use mathlib.Core.Bool.{Bool, true, false}
-use mathlib.Core.List.{List, [], _∷_}
+use mathlib.Core.List.{List}
 use Prim.Native.Nat.{ℕ, _<_}
 use native.Mathlib.Omega.{arith}
-use borrow.Author.Tests.{eqb-true, eq-eqb}
-use lib.Dec.{eqb}
 use Rattle.table.specs.Outcome.{accepted, ask}
-use Rattle.table.proofs.Logic.{clash, and-both, and-in}
+use Rattle.table.proofs.Logic.{and-both, and-in}
 use Rattle.history.specs.Forest.{sameNumbers}
 use Rattle.history.specs.Tree.{Tree, isTree}
 use Rattle.history.specs.Record.{recordOf, decoded, isRecord, readTree}

@@ -7,18 +7,18 @@ use Prim.Native.Nat.{ℕ, suc, _≤_, _<_, _^_}
 use native.Mathlib.Omega.{arith}
 use borrow.Author.Tests.{eqb-false, ltb-true}
 use lib.Bits.{bitOr, or-zero-r}
-use lib.Count.{ones, ones-le}
+use lib.Count.{ones-le}
 use lib.Dec.{eqb, ltb}
 use Rattle.table.specs.BitSet.{member, minus, Subset, collect}
 use Rattle.table.specs.Rule.{Rule, successors, successorsIn}
 use Rattle.table.specs.Table.{WellFormed, startFits}
 use Rattle.table.proofs.Logic.{clash, never, and-both, and-in, not-in, or-in, or-r}
-use Rattle.table.proofs.BitSet.{member-none, member-union, member-minus, member-lt, lt-member, size-proper}
+use Rattle.table.proofs.BitSet.{member-none, member-union, member-minus, member-lt, lt-member}
 use Rattle.history.specs.Forest.{nil, node, size}
 use Rattle.history.specs.Tree.{Node, Tree, labels, isTree, startTree}
 use Rattle.history.specs.Letter.{nextSet, nextTree, byNumber, acceptingMap, stableMap}
 use Rattle.history.proofs.LocalStep.{settled, settle, newLabel, sproutOf, step}
-use Rattle.history.proofs.SetFacts.{nothing-minus, subset-proper, none-proper, size-disjoint}
+use Rattle.history.proofs.SetFacts.{nothing-minus, subset-proper, none-proper}
 use Rattle.history.proofs.Hosts.{size-labels}
 use Rattle.history.proofs.Conditions.{Fits, OneRoot, tree-out, tree-in}
 use Rattle.history.proofs.LabelsOfStep.{successors-subset, successorsIn-subset, successors-lt, labels-step}

@@ -1,14 +1,12 @@
 -- Following names through letters, for the contracts of the tree judge's own functions.
 use mathlib.Core.Bool.{Bool, true, false, _&&_, _||_}
-use mathlib.Core.List.{List, [], _∷_, map}
+use mathlib.Core.List.{List, [], _∷_}
 use Prim.Native.Nat.{ℕ}
-use lib.Bits.{bitAnd, bitOr}
 use lib.ListN.{length, getD}
 use Rattle.table.specs.BitSet.{member, collect}
 use Rattle.table.specs.Rule.{Rule}
-use Rattle.history.specs.Forest.{listing, names, sameNumbers}
 use Rattle.history.specs.Tree.{Tree}
-use Rattle.history.specs.Letter.{Origin, was, sprouted, survivors, nextTree, stable, accepting, byNumber}
+use Rattle.history.specs.Letter.{nextTree, stable, accepting, byNumber}
 use Rattle.history.specs.Rounds.{readLetters}
 
 -- is the node of that name stable at every letter that is read from T on?

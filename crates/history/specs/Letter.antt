@@ -1,5 +1,5 @@
 -- One letter (document 01, "One letter"), step by step as the document numbers them.
-use mathlib.Core.Bool.{Bool, true, false, not, _&&_, _||_, cond}
+use mathlib.Core.Bool.{Bool, true, false, _&&_, _||_, cond}
 use mathlib.Core.List.{List, [], _∷_}
 use Prim.Native.Nat.{ℕ, suc}
 use lib.Bits.{bitOr}
@@ -7,8 +7,8 @@ use lib.Dec.{eqb, ltb}
 use lib.ListN.{getD}
 use Rattle.table.specs.BitSet.{minus, collect}
 use Rattle.table.specs.Rule.{Rule, successors, successorsIn}
-use Rattle.history.specs.Forest.{Forest, nil, node, size, change, listing, Named, named, names, sameNumbers}
-use Rattle.history.specs.Tree.{Node, Tree}
+use Rattle.history.specs.Forest.{Forest, nil, node, size, change, listing, named, names, sameNumbers}
+use Rattle.history.specs.Tree.{Tree}
 
 -- where a node comes from: it was there before the letter, under this name, or the letter has sprouted it
 pub data Origin : Type 0 where

@@ -1,5 +1,5 @@
 -- The record of a tree (document 01, "Trees"), and question 9.
-use mathlib.Core.Bool.{Bool, true, false, _&&_, cond}
+use mathlib.Core.Bool.{Bool, _&&_, cond}
 use mathlib.Core.List.{List, [], _∷_, _++_, map}
 use Prim.Native.Nat.{ℕ, zero, suc, _+_, _*_, _/_, _%_}
 use lib.Count.{ones}
@@ -7,8 +7,8 @@ use lib.Dec.{eqb, leb, ltb}
 use lib.ListN.{length, getD, take, drop}
 use Rattle.table.specs.Outcome.{Outcome, accepted, ask}
 use Rattle.table.specs.BitSet.{member, collect}
-use Rattle.history.specs.Forest.{Forest, nil, node, size, sameNumbers}
-use Rattle.history.specs.Tree.{Node, Tree, labels, isTree}
+use Rattle.history.specs.Forest.{nil, node, size, sameNumbers}
+use Rattle.history.specs.Tree.{Tree, labels, isTree}
 
 -- "A state's host is the deepest node holding it": its number, among siblings numbered from i on and all below them
 unfoldable pub hostFrom : ℕ → Tree → ℕ → ℕ

@@ -1,6 +1,6 @@
 -- The ways that may pass states between two of the ways C (specs/Rounds.antt): they are ways of C one behind the other, and
 -- two of them one behind the other are among them, if the state between them may be passed.
-use mathlib.Core.Path.{_≡_, sym, _∙_, subst}
+use mathlib.Core.Path.{_≡_, sym, _∙_}
 use mathlib.Core.Logic.{_⊎_, inl, inr, ⊎-elim}
 use mathlib.Core.Bool.{true}
 use Prim.Native.Nat.{ℕ, zero, suc, _≤_, _<_}

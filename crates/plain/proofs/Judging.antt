@@ -1,13 +1,11 @@
 -- The judge on a read table: what its calls need, and that its verdict is right for every rule that the table holds.
 use mathlib.Core.Path.{_≡_, refl}
 use mathlib.Core.Logic.{inr}
-use mathlib.Core.Bool.{true}
 use mathlib.Core.List.{List, [], _∷_}
 use Prim.Native.Nat.{ℕ, zero, suc, _≤_, _<_}
 use native.Mathlib.Omega.{arith}
-use lib.ListN.{length, getD}
-use Rattle.table.specs.Limits.{maxStates, maxLetters, maxSets}
-use Rattle.table.specs.BitSet.{member}
+use lib.ListN.{length}
+use Rattle.table.specs.Limits.{maxLetters}
 use Rattle.table.specs.Rule.{Grid, Rule}
 use Rattle.table.specs.Table.{Every}
 use Rattle.table.specs.HeldRule.{HoldsRule}
@@ -17,7 +15,7 @@ use Rattle.table.proofs.BitSet.{member-none}
 use Rattle.table.proofs.Every.{every-at}
 use Rattle.word.specs.Walk.{rounds}
 use Rattle.word.specs.Judging.{Judgeable}
-use Rattle.word.specs.Loop.{Leads, Loop}
+use Rattle.word.specs.Loop.{Loop}
 use Rattle.word.specs.Verdict.{Decides}
 use Rattle.plain.specs.Ways.{entry, rowsOf}
 use Rattle.plain.specs.Lead.{startRow, after, LettersFit}

@@ -1,19 +1,18 @@
 -- The row of states after the lead-in has those that paths over the lead-in lead to from the starting states.
-use mathlib.Core.Path.{_≡_, refl, sym, _∙_, ap}
+use mathlib.Core.Path.{_≡_, refl, sym, _∙_}
 use mathlib.Core.Logic.{_⊎_, inl, inr, ⊎-elim}
 use mathlib.Core.Bool.{true, cond}
 use mathlib.Core.List.{List, [], _∷_}
-use Prim.Native.Nat.{ℕ, zero, suc, _+_, _/_, _%_, _^_, _≤_, _<_}
+use Prim.Native.Nat.{ℕ, zero, suc, _/_, _%_, _^_, _≤_, _<_}
 use native.Mathlib.Decide.{ℕ-discrete}
 use native.Mathlib.Omega.{arith}
 use borrow.Author.Tests.{eqb-true, eq-eqb, ne-eqb}
-use lib.Bits.{bitAnd, bitOr, or-add-and, and-le-l, and-le-r}
+use lib.Bits.{bitOr, or-add-and, and-le-l, and-le-r}
 use lib.Dec.{eqb}
-use lib.ListN.{getD, replicate, getD-replicate}
+use lib.ListN.{getD, getD-replicate}
 use Rattle.table.specs.Limits.{maxStates, maxLetters, maxSets, noTransition}
 use Rattle.table.specs.BitSet.{member}
-use Rattle.table.specs.Lookup.{tabulate}
-use Rattle.table.specs.Rule.{Grid, Rule, cellAt, edge}
+use Rattle.table.specs.Rule.{Grid, Rule}
 use Rattle.table.specs.Table.{WellFormed}
 use Rattle.table.specs.Held.{held}
 use Rattle.table.proofs.Edges.{edge-inside}

@@ -3,21 +3,20 @@ use mathlib.Core.Path.{_≡_, refl, sym, _∙_, ap}
 use mathlib.Core.Logic.{⊎-elim}
 use mathlib.Core.Bool.{Bool, true, false, cond}
 use mathlib.Core.List.{List, []}
-use Prim.Native.Nat.{ℕ, zero, suc, _+_, _*_, _/_, _%_, _≤_, _<_}
+use Prim.Native.Nat.{ℕ, zero, suc, _+_, _*_, _/_, _%_, _<_}
 use native.Mathlib.Decide.{ℕ-discrete}
 use native.Mathlib.Numerals.{add-one}
 use native.Mathlib.Omega.{arith}
-use borrow.Author.Tests.{eqb-true, eqb-false, eq-eqb, ne-eqb}
+use borrow.Author.Tests.{eqb-false, eq-eqb, ne-eqb}
 use lib.Bits.{bitOr}
 use lib.Dec.{eqb}
 use lib.ListN.{getD, set}
-use Rattle.table.specs.Limits.{maxStates, noTransition}
+use Rattle.table.specs.Limits.{maxStates}
 use Rattle.table.specs.BitSet.{member}
-use Rattle.table.specs.Lookup.{tabulate}
 use Rattle.table.proofs.Logic.{clash, bool-ext, or-l, or-r, or-in}
 use Rattle.table.proofs.BitSet.{member-none, member-union, set-ext}
 use Rattle.table.proofs.Tabulate.{tabulate-ext}
-use Rattle.plain.specs.Ways.{entry, joined, joinedRow, rowsOf, anyOf}
+use Rattle.plain.specs.Ways.{entry, joined, joinedRow, rowsOf}
 use Rattle.plain.specs.TailWays.{cellWays, letterWays}
 use Rattle.plain.specs.Moves.{maxPlaces, Listed}
 use Rattle.plain.proofs.WayLaws.{joined-out, any-in, any-out, way-there}

@@ -8,10 +8,9 @@ use native.Mathlib.Decide.{ℕ-discrete}
 use native.Mathlib.Omega.{arith}
 use borrow.Author.Tests.{eqb-true, eqb-false, eq-eqb, ne-eqb}
 use lib.Bits.{bitAnd, bitOr, or-lt, and-mask, and-zero-r}
-use lib.Dec.{eqb}
 use Rattle.table.specs.Limits.{noTransition}
 use Rattle.table.specs.BitSet.{member}
-use Rattle.table.proofs.Logic.{clash, and-both, and-in, or-l, or-r, or-in}
+use Rattle.table.proofs.Logic.{clash, and-in, or-l, or-r, or-in}
 use Rattle.table.proofs.BitSet.{member-zero, member-suc, member-none, member-union, member-inter}
 use Rattle.plain.specs.Ways.{joined, anyOf, wayOf}
 

@@ -1,7 +1,7 @@
 -- What the cursor's answers say of the bytes behind it.
 use mathlib.Core.Path.{_≡_, refl, sym, _∙_, ap}
 use mathlib.Core.Bool.{Bool, true, false, cond}
-use mathlib.Core.List.{List, [], _∷_}
+use mathlib.Core.List.{List}
 use Prim.Native.Nat.{ℕ, _+_, _*_, _%_, _^_, _≤_, _<_}
 use native.Mathlib.Omega.{arith}
 use native.Mathlib.Nat.{one-mul}
@@ -11,11 +11,10 @@ use lib.Dec.{ltb}
 use lib.ListN.{length, getD, drop, drop-of-length-le}
 use lib.Pow.{shl-exact}
 use lib.Seq.{drop-cons}
-use Rattle.table.specs.Outcome.{Outcome, refused, accepted, ask}
+use Rattle.table.specs.Outcome.{refused, accepted, ask}
 use Rattle.table.specs.Table.{readByte}
 use Rattle.table.specs.Cursor.{nextAt}
 use Rattle.table.specs.declared.cursor.Cursor.{Cursor}
-use Rattle.table.specs.declared.cursor.Next.{Next}
 use Rattle.table.specs.declared.cursor.Next.the-variants.{Byte, End}
 
 -- the end is told only at the end

@@ -1,22 +1,21 @@
 -- The reader's answer and the grid in its buffer, from the rule that was read.
 use mathlib.Core.Path.{_≡_, refl, sym, _∙_, ap, ap₂}
-use mathlib.Core.List.{List, [], _∷_, _++_, map}
-use Prim.Native.Nat.{ℕ, _+_, _*_, _-_, _≤_, _<_}
+use mathlib.Core.List.{List, [], _∷_, map}
+use Prim.Native.Nat.{ℕ, _*_, _≤_, _<_}
 use native.Mathlib.Omega.{arith}
-use native.Mathlib.Nat.{mul-le-mul, mul-assoc}
+use native.Mathlib.Nat.{mul-le-mul}
 use borrow.Author.Tests.{le-leb, lt-leb}
 use lib.ListN.{length, take, length-map}
 use lib.Seq.{take-at}
-use Rattle.table.specs.Limits.{maxStates, maxLetters, noTransition}
-use Rattle.table.specs.Outcome.{Outcome, refused, accepted, ask, _then_}
+use Rattle.table.specs.Limits.{maxStates, maxLetters}
+use Rattle.table.specs.Outcome.{Outcome, refused, accepted}
 use Rattle.table.specs.Rule.{Grid, Rule}
-use Rattle.table.specs.Table.{Every, WellFormed, gridBytes, readRule, inRange}
+use Rattle.table.specs.Table.{Every, WellFormed, gridBytes, readRule}
 use Rattle.table.specs.Storing.{stored}
 use Rattle.table.specs.HeldRule.{HoldsRule}
 use Rattle.table.specs.Held.{pad, heldRow, heldSquare, held, narrow}
 use Rattle.table.specs.ReadCall.{readOutcome, readAnswer, gridAfter, readingOf, cellsAfter}
 use Rattle.table.specs.declared.header.Header.{Header}
-use Rattle.table.specs.declared.reader.Reading.{Reading}
 use Rattle.table.specs.declared.reader.Reading.the-variants.{Refused, Rule as Reading·Rule}
 use Rattle.table.specs.declared.reader.ReadAnswer.{ReadAnswer}
 use Rattle.table.proofs.Ranges.{InRange, in-range}

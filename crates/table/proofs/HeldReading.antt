@@ -1,8 +1,7 @@
 -- Reading into the arrays: cells read as rows of the arrays' width are the rows of the grid, padded, so what is read is the
 -- grid as the arrays hold it.
 use mathlib.Core.Path.{_≡_, refl, sym, _∙_, ap}
-use mathlib.Core.Bool.{Bool, true}
-use mathlib.Core.List.{List, [], _∷_, _++_, map}
+use mathlib.Core.List.{List, [], _∷_, map}
 use Prim.Native.Nat.{ℕ, zero, suc, _-_, _/_, _%_, _^_, _<_, _≤_}
 use native.Mathlib.Nat.{suc-sub-suc, sub-zero, le-of-suc-le-suc, not-suc-le-zero}
 use native.Mathlib.Omega.{arith}
@@ -11,9 +10,9 @@ use lib.ListN.{length, drop, replicate, length-map}
 use Rattle.table.specs.Limits.{maxStates, maxLetters, noTransition}
 use Rattle.table.specs.Outcome.{refused, accepted, _then_}
 use Rattle.table.specs.Table.{Read, readByte, readTransition, readRow, readCell, readMany, readGrid}
-use Rattle.table.specs.Held.{pad, blankRow, blankSquare, blankCells, heldRow, heldSquare, held}
+use Rattle.table.specs.Held.{pad, blankRow, blankSquare, heldRow, heldSquare, held}
 use Rattle.table.specs.Cursor.{replaced, readSquare, readHeld}
-use Rattle.table.proofs.Accepted.{IfAccepted, asked, followed, weaker, then-accepted, then-same, then-assoc}
+use Rattle.table.proofs.Accepted.{IfAccepted, followed, weaker, then-accepted, then-same, then-assoc}
 use Rattle.table.proofs.Reading.{byte-read}
 
 -- one thing, then more behind it

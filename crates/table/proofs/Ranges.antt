@@ -1,10 +1,10 @@
 -- What questions 2 and 3 say as facts about the numbers.
 use mathlib.Core.Path.{_≡_}
-use mathlib.Core.Bool.{Bool, true, not, _&&_}
+use mathlib.Core.Bool.{true, not, _&&_}
 use Prim.Native.Nat.{ℕ, _^_, _≤_, _<_}
 use native.Mathlib.Omega.{arith}
 use borrow.Author.Tests.{leb-true, ltb-true, eqb-false}
-use lib.Dec.{leb, ltb, eqb}
+use lib.Dec.{leb, eqb}
 use lib.Pow.{pow-mono}
 use Rattle.table.specs.Limits.{maxStates, maxLetters, maxSets, noTransition}
 use Rattle.table.specs.Table.{inRange, startFits}

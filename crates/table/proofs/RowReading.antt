@@ -1,21 +1,18 @@
 -- Reading the set bytes of a cell: the loop goes through the map's bits from the lowest, and ends when as many bytes
 -- as the map has standing bits are read.
 use mathlib.Core.Path.{_≡_, refl, sym, _∙_, ap}
-use mathlib.Core.Bool.{Bool, true, false, cond}
 use mathlib.Core.List.{List, [], _∷_, _++_, append-assoc}
-use Prim.Native.Nat.{ℕ, zero, suc, _+_, _-_, _*_, _/_, _%_, _^_, _≤_, _<_}
+use Prim.Native.Nat.{ℕ, suc, _+_, _-_, _/_, _%_, _^_, _≤_, _<_}
 use native.Mathlib.Decide.{decLt}
 use native.Mathlib.Omega.{arith}
 use native.Mathlib.Nat.{pow-suc}
 use native.Mathlib.Numerals.{add-one}
-use borrow.Author.Tests.{eq-eqb, ne-eqb}
 use lib.Arith.{bin-ind}
 use lib.Count.{ones, onesIn, ones-step}
-use lib.Dec.{eqb}
 use lib.ListN.{length, getD, take, drop, set, replicate, length-set, length-replicate, take-append-drop}
 use lib.Seq.{take-suc, drop-cons, take-suc-set, drop-set-lt}
 use Rattle.table.specs.Limits.{noTransition}
-use Rattle.table.specs.Outcome.{Outcome, refused, accepted, ask, _then_}
+use Rattle.table.specs.Outcome.{refused, accepted, _then_}
 use Rattle.table.specs.Table.{Read, readByte, readTransition, readRow}
 use Rattle.table.proofs.HeldReading.{row-blank}
 

@@ -1,21 +1,20 @@
 -- From the cells that were read to the rule that the table says, or to the number of the question that failed.
 use mathlib.Core.Path.{_≡_, refl, sym, _∙_, ap}
 use mathlib.Core.Bool.{Bool, true, false, cond}
-use mathlib.Core.List.{List, [], _∷_}
-use Prim.Native.Nat.{ℕ, suc, _≤_, _<_}
+use mathlib.Core.List.{List}
+use Prim.Native.Nat.{ℕ, _≤_, _<_}
 use native.Mathlib.Omega.{arith}
 use borrow.Author.Tests.{le-leb, lt-leb}
 use lib.ListN.{length, getD, drop, drop-of-length-le}
 use lib.Seq.{drop-cons}
 use Rattle.table.specs.Limits.{maxStates}
-use Rattle.table.specs.Outcome.{Outcome, refused, accepted, ask, _then_}
+use Rattle.table.specs.Outcome.{Outcome, refused, accepted, ask}
 use Rattle.table.specs.Rule.{Grid, Rule}
 use Rattle.table.specs.Table.{Read, inRange, startFits, askHeader, readGrid, ended, readBody, readRule}
 use Rattle.table.specs.Header.{headerNumber}
 use Rattle.table.specs.Held.{held}
 use Rattle.table.specs.Cursor.{readHeld}
 use Rattle.table.specs.ReadCall.{readingOf, cellsAfter}
-use Rattle.table.specs.declared.header.Header.{Header}
 use Rattle.table.specs.declared.reader.Reading.{Reading}
 use Rattle.table.specs.declared.reader.Reading.the-variants.{Refused, Rule as Reading·Rule}
 use Rattle.table.proofs.HeldReading.{grid-held}

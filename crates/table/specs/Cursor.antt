@@ -5,11 +5,10 @@ use Prim.Native.Nat.{ℕ, _+_}
 use lib.Dec.{ltb}
 use lib.ListN.{length, getD, drop}
 use Rattle.table.specs.Limits.{maxStates}
-use Rattle.table.specs.Outcome.{Outcome, refused, accepted, _then_}
+use Rattle.table.specs.Outcome.{refused, accepted, _then_}
 use Rattle.table.specs.Rule.{Grid}
 use Rattle.table.specs.Table.{Read, readCell, readMany}
 use Rattle.table.specs.Held.{blankSquare, blankCells}
-use Rattle.table.specs.declared.cursor.Cursor.{Cursor}
 use Rattle.table.specs.declared.cursor.Next.{Next}
 use Rattle.table.specs.declared.cursor.Next.the-variants.{Byte, End}
 use Rattle.table.specs.declared.cells.CellByte.{CellByte}

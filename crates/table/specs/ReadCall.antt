@@ -8,7 +8,6 @@ use Rattle.table.specs.Rule.{Grid, Rule}
 use Rattle.table.specs.Table.{readRule, gridBytes}
 use Rattle.table.specs.Storing.{stored}
 use Rattle.table.specs.Held.{held}
-use Rattle.table.specs.declared.header.Header.{Header}
 use Rattle.table.specs.declared.reader.Reading.{Reading}
 use Rattle.table.specs.declared.reader.Reading.the-variants.{Refused, Rule as Reading·Rule}
 use Rattle.table.specs.declared.reader.ReadAnswer.{ReadAnswer}

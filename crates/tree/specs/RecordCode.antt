@@ -5,7 +5,6 @@ use Rattle.table.specs.Outcome.{Outcome, refused, accepted}
 use Rattle.history.specs.Forest.{size}
 use Rattle.history.specs.Tree.{Tree}
 use Rattle.tree.specs.Rows.{AreRows}
-use Rattle.tree.specs.declared.record.Count.{Count}
 use Rattle.tree.specs.declared.record.Count.the-variants.{Nodes, Refused}
 use Rattle.tree.specs.declared.record.Checked.{Checked}
 

@@ -4,8 +4,8 @@ use mathlib.Core.List.{List, [], _∷_, _++_, map}
 use Prim.Native.Nat.{ℕ, suc}
 use lib.ListN.{take}
 use Rattle.table.specs.Rule.{Rule}
-use Rattle.history.specs.Forest.{Forest, nil, node}
-use Rattle.history.specs.Tree.{Node, Tree, labels}
+use Rattle.history.specs.Forest.{nil, node}
+use Rattle.history.specs.Tree.{Tree, labels}
 use Rattle.history.specs.Letter.{nextTree, acceptingMap, stableMap}
 use Rattle.history.specs.OldNumbers.{oldNumbers}
 use Rattle.tree.specs.declared.rows.Row.{Row}

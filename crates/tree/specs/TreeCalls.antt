@@ -4,10 +4,9 @@ use Prim.Native.Nat.{ℕ}
 use lib.Dec.{leb, ltb}
 use lib.ListN.{length}
 use Rattle.table.specs.Outcome.{Outcome, refused, accepted, ask, _then_}
-use Rattle.table.specs.Rule.{Rule}
 use Rattle.table.specs.Table.{readRule}
 use Rattle.table.specs.Storing.{stored}
-use Rattle.history.specs.Tree.{Tree, startTree}
+use Rattle.history.specs.Tree.{startTree}
 use Rattle.history.specs.Letter.{nextTree, acceptingMap, stableMap}
 use Rattle.history.specs.Record.{recordOf, readTree}
 use Rattle.tree.specs.declared.calls.StartAnswer.{StartAnswer}

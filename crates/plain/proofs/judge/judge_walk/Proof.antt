@@ -1,6 +1,5 @@
 -- `judge_walk` meets its contract, by the laws of Judging.
 use borrow.Author.Needs.{needs}
-use native.Mathlib.Omega.{arith}
 use Rattle.plain.proofs.Judging.{judgeable-walkable}
 use Rattle.plain.proofs.judge.judge_walk.Statement.{statement}
 use Rattle.plain.proofs.judge.judge_walk.Tie as tie

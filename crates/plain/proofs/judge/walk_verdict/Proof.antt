@@ -1,5 +1,4 @@
 -- `walk_verdict` meets its contract, by the laws of Judging.
-use borrow.Author.Needs.{needs}
 use native.Mathlib.Omega.{arith}
 use Rattle.plain.proofs.Judging.{walkable-tail, no-loop, verdict-right}
 use Rattle.plain.proofs.judge.walk_verdict.Statement.{statement}

@@ -1,6 +1,5 @@
 -- `start_row` meets its contract. The loop stores the bit of each state in turn.
 use borrow.Author.Needs.{needs}
-use native.Mathlib.Omega.{arith}
 use mathlib.Core.Path.{refl}
 use Prim.Native.Nat.{_-_, _/_, _%_, _^_}
 use Rattle.table.specs.Limits.{maxStates}

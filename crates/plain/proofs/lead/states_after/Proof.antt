@@ -1,8 +1,8 @@
 -- `states_after` meets its contract. What the letters from `at` on lead to from the states at hand is what all letters lead to.
 use borrow.Author.Needs.{needs}
 use native.Mathlib.Omega.{arith}
-use mathlib.Core.Path.{_≡_, refl, sym, _∙_, ap}
-use Prim.Native.Nat.{_+_, _-_, _≤_, _<_}
+use mathlib.Core.Path.{_≡_, sym, _∙_, ap}
+use Prim.Native.Nat.{_-_, _≤_}
 use lib.ListN.{length, drop}
 use Rattle.plain.specs.Lead.{after, startRow}
 use Rattle.plain.proofs.LeadRows.{after-done, after-more}

@@ -1,6 +1,5 @@
 -- `with_next` meets its contract. The loop stores the entry of each state in turn.
 use borrow.Author.Needs.{needs}
-use native.Mathlib.Omega.{arith}
 use mathlib.Core.Bool.{cond}
 use mathlib.Core.Logic.{⊎-elim}
 use mathlib.Core.Path.{_∙_, ap}

@@ -2,8 +2,7 @@
 use borrow.Author.Needs.{needs}
 use native.Mathlib.Omega.{arith}
 use mathlib.Core.Path.{_≡_, sym, _∙_, ap, subst}
-use mathlib.Core.List.{List}
-use Prim.Native.Nat.{ℕ, _-_, _/_, _%_, _≤_, _<_}
+use Prim.Native.Nat.{_-_, _/_, _%_, _≤_, _<_}
 use lib.ListN.{getD, set}
 use Rattle.table.specs.Limits.{maxStates}
 use Rattle.plain.specs.Ways.{rowsOf}

@@ -1,6 +1,5 @@
 -- `list_letter` meets its contract.
 use borrow.Author.Needs.{needs}
-use native.Mathlib.Omega.{arith}
 use Rattle.plain.proofs.MoveLists.{lists-more, count-more}
 use Rattle.plain.proofs.moves.list_letter.Statement.{statement}
 use Rattle.plain.proofs.moves.list_letter.Tie as tie

@@ -1,6 +1,5 @@
 -- `through_state` meets its contract. The loop stores the row of each state in turn.
 use borrow.Author.Needs.{needs}
-use native.Mathlib.Omega.{arith}
 use mathlib.Core.Path.{_∙_}
 use Prim.Native.Nat.{_-_}
 use Rattle.table.specs.Limits.{maxStates}

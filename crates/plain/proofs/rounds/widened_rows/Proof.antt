@@ -1,7 +1,7 @@
 -- `widened_rows` meets its contract. The ways may pass the states that the loop has passed.
 use borrow.Author.Needs.{needs}
 use native.Mathlib.Omega.{arith}
-use mathlib.Core.Path.{_≡_, _∙_, subst}
+use mathlib.Core.Path.{_≡_, subst}
 use Prim.Native.Nat.{ℕ, _-_, _≤_}
 use Rattle.plain.specs.Ways.{rowsOf}
 use Rattle.plain.specs.Rounds.{widened}

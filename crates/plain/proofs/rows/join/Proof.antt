@@ -1,8 +1,7 @@
 -- `join` meets its contract. The loop stores the ways of each state in turn.
 use borrow.Author.Needs.{needs}
-use native.Mathlib.Omega.{arith}
 use mathlib.Core.Path.{ap}
-use Prim.Native.Nat.{ℕ, _-_}
+use Prim.Native.Nat.{_-_}
 use lib.Bits.{bitOr}
 use lib.ListN.{getD}
 use mir.Syntax.{w16}

@@ -1,6 +1,5 @@
 -- `cell_rows` meets its contract. The loop stores the row of each state in turn.
 use borrow.Author.Needs.{needs}
-use native.Mathlib.Omega.{arith}
 use Prim.Native.Nat.{_-_}
 use Rattle.table.specs.Limits.{maxStates}
 use Rattle.table.proofs.Tabulate.{Holds, holds-none, holds-more, holds-all}

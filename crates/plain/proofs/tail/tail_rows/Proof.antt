@@ -1,7 +1,7 @@
 -- `tail_rows` meets its contract. The loop has the ways of the letters from `at` on.
 use borrow.Author.Needs.{needs}
 use native.Mathlib.Omega.{arith}
-use mathlib.Core.Path.{_≡_, subst}
+use mathlib.Core.Path.{_≡_}
 use Prim.Native.Nat.{_-_, _<_}
 use lib.ListN.{length, drop}
 use Rattle.plain.specs.Ways.{rowsOf}

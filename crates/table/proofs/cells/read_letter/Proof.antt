@@ -1,6 +1,5 @@
 -- The cells of a letter, by the laws of ManyReading.
 use Prim.Native.Nat.{_-_}
-use native.Mathlib.Omega.{arith}
 use borrow.Author.Needs.{needs}
 use lib.ListN.{drop}
 use Rattle.table.specs.Limits.{maxStates}

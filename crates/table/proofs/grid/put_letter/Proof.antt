@@ -1,10 +1,9 @@
 -- The rows of a square, one behind the other.
-use Prim.Native.Nat.{_+_, _*_, _-_, _≤_}
-use mathlib.Core.Path.{_≡_, refl, sym, _∙_}
+use Prim.Native.Nat.{_+_, _*_, _-_}
+use mathlib.Core.Path.{_≡_}
 use native.Mathlib.Omega.{arith}
 use native.Mathlib.Nat.{suc-mul, mul-le-mul-right}
 use borrow.Author.Needs.{needs}
-use lib.ListN.{length}
 use Rattle.table.specs.Held.{squareBytes}
 use Rattle.table.proofs.Storing.{PiecesStored, pieces-start, pieces-next, pieces-size, pieces-done}
 use Rattle.table.proofs.GridWriting.{rowsUpTo, rows-none, rows-more}

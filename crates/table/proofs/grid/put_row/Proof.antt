@@ -1,9 +1,9 @@
 -- The bytes of a row, one behind the other.
-use Prim.Native.Nat.{_+_, _-_, _≤_}
+use Prim.Native.Nat.{_+_, _-_}
 use mathlib.Core.Path.{_≡_, refl}
 use native.Mathlib.Omega.{arith}
 use borrow.Author.Needs.{needs}
-use lib.ListN.{length, take}
+use lib.ListN.{take}
 use lib.Seq.{take-suc, length-take-le}
 use Rattle.table.proofs.Storing.{PiecesStored, pieces-start, pieces-byte, pieces-size, pieces-done}
 use Rattle.table.proofs.grid.put_row.Statement.{statement}

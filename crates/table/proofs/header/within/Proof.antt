@@ -1,5 +1,4 @@
 -- From 1 to a limit.
-use borrow.Author.Needs.{needs}
 use borrow.Author.Tests.{lt-leb, le-leb}
 use Rattle.table.proofs.header.within.Statement.{statement}
 use Rattle.table.proofs.header.within.Tie as tie

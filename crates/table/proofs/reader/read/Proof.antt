@@ -4,7 +4,7 @@ use mathlib.Core.Path.{sym, _∙_}
 use native.Mathlib.Omega.{arith}
 use native.Mathlib.Nat.{mul-assoc}
 use borrow.Author.Needs.{needs}
-use Rattle.table.proofs.GridReading.{RuleRead, reading-refused, reading-rule, read-refused, numbers-small, grid-small, read-no-room, read-done}
+use Rattle.table.proofs.GridReading.{reading-refused, reading-rule, read-refused, numbers-small, grid-small, read-no-room, read-done}
 use Rattle.table.proofs.reader.read.Statement.{statement}
 use Rattle.table.proofs.reader.read.Tie as tie
 
