@@ -15,10 +15,9 @@ use lib.Pow.{pow-pos}
 use Rattle.table.specs.Limits.{maxStates, maxSets}
 use Rattle.table.specs.Rule.{Rule, successors, successorsIn}
 use Rattle.table.specs.Table.{WellFormed}
-use Rattle.table.specs.Lookup.{relation, letterTables}
+use Rattle.table.specs.Lookup.{letterTables}
 use Rattle.table.specs.Held.{held}
-use Rattle.table.proofs.LookupTable.{letter-table}
-use Rattle.table.proofs.Holding.{image-held, image-held-in}
+use Rattle.table.proofs.LookupTable.{look-up-successors, look-up-successors-in}
 use Rattle.history.specs.Forest.{nil, node, size}
 use Rattle.history.specs.Tree.{Tree, isTree}
 use Rattle.history.specs.Letter.{sprouted, survivors, nextTree}
@@ -75,13 +74,12 @@ pass-below E k i p (x ∷ rows) h = let e : i + suc (length rows) ≡ suc i + le
 
 module _ (R : Rule) (well : WellFormed R) (small : R .states ≤ maxStates) (a : ℕ) where
   table-all : (s : ℕ) → tableImage (letterTables (held (R .grid)) a) 0 s ≡ successors R a s
-  unfolding tableImage relation
-  table-all s = letter-table (held (R .grid)) a 0 s (omega arith) ∙ image-held R well small a s
+  unfolding tableImage
+  table-all = look-up-successors R well small a
 
   table-of : (i s : ℕ) → 1 ≤ i → i ≤ maxSets → tableImage (letterTables (held (R .grid)) a) i s ≡ successorsIn R i a s
-  unfolding tableImage relation
-  table-of zero s low high = absurd (omega arith)
-  table-of (suc i) s low high = letter-table (held (R .grid)) a (suc i) s high ∙ image-held-in R well small (suc i) a s
+  unfolding tableImage
+  table-of i = look-up-successors-in R well small i a
 
 -- THE ROWS OF A TREE
 
