@@ -6,15 +6,15 @@ use mathlib.Core.Bool.{true, false, _||_}
 use mathlib.Core.List.{List, [], _∷_}
 use Prim.Native.Nat.{ℕ, zero, suc, _≤_, _<_}
 use native.Mathlib.Omega.{arith}
-use lib.ListN.{length, getD}
+use lib.ListN.{getD}
 use Rattle.table.specs.BitSet.{member, minus, collect, some}
 use Rattle.table.specs.Rule.{Rule, cellAt, edge, edgeIn, image, successors, successorsIn}
 use Rattle.table.specs.Table.{WellFormed, startFits, bytesFit}
 use Rattle.table.proofs.Logic.{clash, or-r}
 use Rattle.word.specs.Walk.{rounds}
-use Rattle.word.specs.Run.{AcceptingRun, Takes}
+use Rattle.word.specs.Run.{AcceptingRun}
 use Rattle.word.specs.Loop.{Loop}
-use Rattle.word.proofs.LoopTheorem.{loop-run}
+use Rattle.word.proofs.Variants.{cycle, nonempty, small, no-loop, away, away-fits, once-no-loop}
 use Rattle.history.specs.Forest.{size, change, listing, namedFrom, named, sameNumbers}
 use Rattle.history.specs.Tree.{labels, startTree}
 use Rattle.history.specs.Letter.{
@@ -58,23 +58,6 @@ record RenamedToo (R : Rule) (u v : List ℕ) (entry period : ℕ) (w : List ℕ
 abbrev FirstRound : Rule → List ℕ → List ℕ → List ℕ → Type 0
 FirstRound R u v w = Witness R u v 0 1 w
 
--- THE WALK
-
--- the walk 0 0 0 …
-abbrev cycle : List ℕ
-cycle = 0 ∷ []
-
-nonempty : cycle ≡ [] → ⊥
-nonempty e = omega (arith, ap length e)
-
--- a rule with one letter, one set and the starting state 0
-abbrev small : ℕ → List (List ℕ) → Rule
-small n square = record { states = n; letters = 1; sets = 1; start = 1; grid = square ∷ [] }
-
--- without an accepting run there is no loop
-no-loop : (R : Rule) → WellFormed R → (AcceptingRun R [] cycle → ⊥) → Loop R [] cycle → ⊥
-no-loop R fits none L = none (loop-run R [] cycle fits nonempty L)
-
 -- A NODE THAT ACCEPTS AND IS RENAMED
 
 -- state 0 goes to itself by no set and to state 1 by set 1; state 1 goes to state 2 by set 1; state 2 goes nowhere
@@ -112,8 +95,8 @@ leaving-last zero (suc (suc (suc q))) r e h = clash refl e
 leaving-no-run : AcceptingRun leaving [] cycle → ⊥
 leaving-no-run A =
     let (p, _, t) = A .often 1 (omega arith) (omega arith) 0 in
-    let away = leaving-set _ _ _ t in
-    let (_, second) = leaving-last _ _ _ (A .run .moves (suc p)) away in
+    let first = leaving-set _ _ _ t in
+    let (_, second) = leaving-last _ _ _ (A .run .moves (suc p)) first in
     let (third, _) = leaving-last _ _ _ (A .run .moves (suc (suc p))) (omega arith) in
     omega arith
 
@@ -175,87 +158,49 @@ leaving-no-witness w W = leaving-no-loop (witness-loop leaving leaving-fits (ome
 
 -- THE FIRST ROUND ONLY
 
--- state 0 goes to state 1 by set 1; state 1 goes to itself by no set
-abbrev once : Rule
-once = small 2 ((255 ∷ 1 ∷ []) ∷ (255 ∷ 0 ∷ []) ∷ [])
-
-once-fits : WellFormed once
-unfolding startFits bytesFit
-once-fits = record { starts = refl; squares = refl; fits = ((refl, ((refl, refl), ((refl, refl), tt))), tt) }
-
--- set 1 is taken from state 0, and every transition leads to state 1
-once-set : (a q r : ℕ) → edgeIn (once .grid) 1 a q r ≡ true → q ≡ 0
-unfolding edgeIn edge cellAt member
-once-set (suc a) q r e = clash refl e
-once-set zero zero r e = refl
-once-set zero (suc zero) zero e = clash refl e
-once-set zero (suc zero) (suc zero) e = clash refl e
-once-set zero (suc zero) (suc (suc r)) e = clash refl e
-once-set zero (suc (suc q)) r e = clash refl e
-
-once-to : (a q r : ℕ) → edge (once .grid) a q r ≡ true → r ≡ 1
-unfolding edge cellAt
-once-to (suc a) q r e = clash refl e
-once-to zero (suc (suc q)) r e = clash refl e
-once-to zero zero zero e = clash refl e
-once-to zero zero (suc zero) e = refl
-once-to zero zero (suc (suc r)) e = clash refl e
-once-to zero (suc zero) zero e = clash refl e
-once-to zero (suc zero) (suc zero) e = refl
-once-to zero (suc zero) (suc (suc r)) e = clash refl e
-
-once-no-run : AcceptingRun once [] cycle → ⊥
-once-no-run A = go (A .often 1 (omega arith) (omega arith) 1)
-  where
-    go : (p : ℕ) × (1 ≤ p) × Takes (A .run) 1 p → ⊥
-    go (zero, h, t) = omega arith
-    go (suc p, h, t) = omega (arith, once-set _ _ _ t, once-to _ _ _ (A .run .moves p))
-
-once-no-loop : Loop once [] cycle → ⊥
-once-no-loop = no-loop once once-fits once-no-run
-
+-- the rule `away`: state 0 goes to state 1 by set 1; state 1 only to itself, by no set.
 -- t(0) and t(1) have different labels, and t(2) is t(1); in the first round the root is stable and accepting
-record Once : Type 0 where
-  first : labels (roundTree once [] cycle 0) ≡ 1
-  second : labels (roundTree once [] cycle 1) ≡ 2
-  back : roundTree once [] cycle 1 ≡ roundTree once [] cycle 2
-  stays : stable once 0 (treeInRound once [] cycle 0 0) [] ≡ true
-  accepts : accepting once 0 (treeInRound once [] cycle 0 0) [] ≡ true
+record Away : Type 0 where
+  first : labels (roundTree away [] cycle 0) ≡ 1
+  second : labels (roundTree away [] cycle 1) ≡ 2
+  back : roundTree away [] cycle 1 ≡ roundTree away [] cycle 2
+  stays : stable away 0 (treeInRound away [] cycle 0 0) [] ≡ true
+  accepts : accepting away 0 (treeInRound away [] cycle 0 0) [] ≡ true
 
-once-computed : Once
+away-computed : Away
 unfolding treeInRound roundTree readLetters rounds startTree size labels
     nextTree stable accepting survivors begun succeeded sprouting child youngest separated pruned kept grownLabels nextSet
     change named namedFrom listing anyOf isOld sameNumbers
     successors successorsIn image collect some member minus edge edgeIn cellAt
-once-computed = record { first = refl; second = refl; back = refl; stays = refl; accepts = refl }
+away-computed = record { first = refl; second = refl; back = refl; stays = refl; accepts = refl }
 
-once-repeat : FirstRepeat (roundTree once [] cycle) 1 1
-once-repeat = record {
+away-repeat : FirstRepeat (roundTree away [] cycle) 1 1
+away-repeat = record {
   positive = omega arith;
-  back = once-computed .back;
+  back = away-computed .back;
   first = λ i j l h e. absurd (omega (arith, held i (omega arith), held j h, ap labels e));
 }
   where
-    held : (i : ℕ) → i < 2 → labels (roundTree once [] cycle i) ≡ suc i
-    held zero h = once-computed .first
-    held (suc zero) h = once-computed .second
+    held : (i : ℕ) → i < 2 → labels (roundTree away [] cycle i) ≡ suc i
+    held zero h = away-computed .first
+    held (suc zero) h = away-computed .second
     held (suc (suc i)) h = absurd (omega arith)
 
 -- so the verdict over the first round says yes, and the tree judge's says no
-once-first-round : FirstRound once [] cycle []
-once-first-round = record {
+away-first-round : FirstRound away [] cycle []
+away-first-round = record {
   stays = stays;
   round = 0;
   place = 0;
   there = record { from = omega arith; upto = omega arith; within = omega arith };
-  accepts = once-computed .accepts;
+  accepts = away-computed .accepts;
 }
   where
-    stays : (r i : ℕ) → LetterPlace cycle 0 1 r i → stable once (getD cycle i 0) (treeInRound once [] cycle r i) [] ≡ true
+    stays : (r i : ℕ) → LetterPlace cycle 0 1 r i → stable away (getD cycle i 0) (treeInRound away [] cycle r i) [] ≡ true
     stays r i l =
         let e : r ≡ 0 = omega (arith, l .upto) in
         let f : i ≡ 0 = omega (arith, l .within) in
-        rw (e, f) (once-computed .stays)
+        rw (e, f) (away-computed .stays)
 
-once-no-witness : (w : List ℕ) → Witness once [] cycle 1 1 w → ⊥
-once-no-witness w W = once-no-loop (witness-loop once once-fits (omega arith) [] cycle nonempty 1 1 once-repeat w W)
+away-no-witness : (w : List ℕ) → Witness away [] cycle 1 1 w → ⊥
+away-no-witness w W = once-no-loop (witness-loop away away-fits (omega arith) [] cycle nonempty 1 1 away-repeat w W)

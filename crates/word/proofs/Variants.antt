@@ -23,10 +23,10 @@ use Rattle.word.proofs.LoopToRun.{loop-run}
 -- THE WALK AND THE RULES
 
 -- the walk 0 0 0 …
-abbrev cycle : List ℕ
+abbrev pub cycle : List ℕ
 cycle = 0 ∷ []
 
-nonempty : cycle ≡ [] → ⊥
+pub nonempty : cycle ≡ [] → ⊥
 nonempty e = omega (arith, ap length e)
 
 -- every letter is 0
@@ -34,11 +34,11 @@ letter : (p : ℕ) → letterAt [] cycle p ≡ 0
 letter p = (rw zero-add at (letter-cycle [] cycle p)) ∙ ap (λ x. getD cycle x 0) (mod-one p)
 
 -- a rule with one letter, one set and the starting state 0
-abbrev small : ℕ → List (List ℕ) → Rule
+abbrev pub small : ℕ → List (List ℕ) → Rule
 small n square = record { states = n; letters = 1; sets = 1; start = 1; grid = square ∷ [] }
 
 -- without an accepting run there is no loop
-no-loop : (R : Rule) → WellFormed R → (AcceptingRun R [] cycle → ⊥) → Loop R [] cycle → ⊥
+pub no-loop : (R : Rule) → WellFormed R → (AcceptingRun R [] cycle → ⊥) → Loop R [] cycle → ⊥
 no-loop R fits none L = none (loop-run R [] cycle fits nonempty L)
 
 -- EACH SET INFINITELY OFTEN, NOT ONLY ONCE
@@ -49,10 +49,10 @@ record OnceRun (R : Rule) (u v : List ℕ) : Type 0 where
   once : (i : ℕ) → 1 ≤ i → i ≤ R .sets → (p : ℕ) × Takes run i p
 
 -- state 0 goes to state 1 by set 1; state 1 only to itself, by no set
-abbrev away : Rule
+abbrev pub away : Rule
 away = small 2 ((255 ∷ 1 ∷ []) ∷ (255 ∷ 0 ∷ []) ∷ [])
 
-away-fits : WellFormed away
+pub away-fits : WellFormed away
 unfolding startFits bytesFit
 away-fits = record { starts = refl; squares = refl; fits = ((refl, ((refl, refl), ((refl, refl), tt))), tt) }
 
@@ -103,7 +103,7 @@ once-no-run A = go (A .often 1 (omega arith) (omega arith) 1)
     go (zero, h, t) = absurd (omega arith)
     go (suc p, h, t) = away-set _ _ (rw (away-to _ _ _ (A .run .moves p)) at t)
 
-once-no-loop : Loop away [] cycle → ⊥
+pub once-no-loop : Loop away [] cycle → ⊥
 once-no-loop = no-loop away away-fits once-no-run
 
 -- LOOPS WITH OTHER CLAUSES
