@@ -80,7 +80,7 @@ module _ {A : Type 0} where
   namesFrom p c nil = []
   namesFrom p c (node x below younger) = (p ++ (c ∷ [])) ∷ (namesFrom (p ++ (c ∷ [])) 0 below ++ namesFrom p (suc c) younger)
 
-  names-from : (p : List ℕ) (c : ℕ) (F : Forest A) → map (λ x. x .name) (listing (namedFrom p c F)) ≡ namesFrom p c F
+  pub names-from : (p : List ℕ) (c : ℕ) (F : Forest A) → map (λ x. x .name) (listing (namedFrom p c F)) ≡ namesFrom p c F
   unfolding namesFrom listing namedFrom
   names-from p c nil = refl
   names-from p c (node x below younger) =

@@ -1,7 +1,7 @@
 -- The names of a tree's nodes: as many as nodes, no two the same, and each with its number.
 use mathlib.Core.Path.{_≡_, refl, sym, _∙_, ap, ap₂, subst}
 use mathlib.Core.Bool.{true, false, _||_}
-use mathlib.Core.List.{List, [], _∷_, _++_, map, map-append, append-nil, nil≢cons}
+use mathlib.Core.List.{List, [], _∷_, _++_, nil≢cons}
 use Prim.Native.Nat.{ℕ, zero, suc, _+_, _≤_, _<_}
 use native.Mathlib.Omega.{arith}
 use lib.ListN.{length, getD, length-append, length-map}
@@ -11,6 +11,7 @@ use Rattle.history.specs.Tree.{Tree}
 use Rattle.history.specs.Letter.{anyOf}
 use Rattle.history.proofs.Conditions.{OneRoot}
 use Rattle.history.proofs.Names.{same-self, same-equal, parted, longer, any-append, any-in, any-number, any-map, named-in}
+use Rattle.history.proofs.NameOrder.{namesFrom, names-from, names-root}
 
 -- LISTS WITHOUT REPETITION
 
@@ -40,22 +41,11 @@ distinct-number (w ∷ l) (new, d) (suc i) (suc j) hi hj e = ap suc (distinct-nu
 -- THE NAMES OF A TREE
 
 module _ {A : Type 0} where
-  -- the names of siblings from child number c on below the node that is named p
-  namesFrom : List ℕ → ℕ → Forest A → List (List ℕ)
-  namesFrom p c F = map (λ x. x .name) (listing (namedFrom p c F))
-
-  -- they go on with a number from c up
+  -- the names of siblings from child number c on below the node that is named p go on with a number from c up
   from-in : (w p : List ℕ) (c : ℕ) (F : Forest A) → anyOf (sameNumbers w) (namesFrom p c F) ≡ true
       → (m : ℕ) × (v : List ℕ) × (c ≤ m) × (w ≡ p ++ (m ∷ v))
-  unfolding namesFrom
-  from-in w p c F h = named-in w p c F (sym (any-map (sameNumbers w) (λ x. x .name) (listing (namedFrom p c F))) ∙ h)
-
-  -- a node's own, those below it, those of its younger siblings
-  from-node : (p : List ℕ) (c : ℕ) (x : A) (below younger : Forest A)
-      → namesFrom p c (node x below younger) ≡ (p ++ (c ∷ [])) ∷ (namesFrom (p ++ (c ∷ [])) 0 below ++ namesFrom p (suc c) younger)
-  unfolding namesFrom listing namedFrom
-  from-node p c x below younger = ap (λ (l : List (List ℕ)). (p ++ (c ∷ [])) ∷ l)
-      (map-append (λ x. x .name) (listing (namedFrom (p ++ (c ∷ [])) 0 below)) (listing (namedFrom p (suc c) younger)))
+  from-in w p c F h = named-in w p c F
+      (sym (any-map (sameNumbers w) (λ x. x .name) (listing (namedFrom p c F))) ∙ ap (anyOf (sameNumbers w)) (names-from p c F) ∙ h)
 
   -- a node's name is neither below it nor among its younger siblings, and those two have no name in common
   own-below : (p : List ℕ) (c : ℕ) (F : Forest A) → anyOf (sameNumbers (p ++ (c ∷ []))) (namesFrom (p ++ (c ∷ [])) 0 F) ≡ false
@@ -75,20 +65,19 @@ module _ {A : Type 0} where
 
   -- so no name stands twice
   from-distinct : (p : List ℕ) (c : ℕ) (F : Forest A) → Distinct (namesFrom p c F)
-  unfolding namesFrom listing namedFrom
+  unfolding namesFrom
   from-distinct p c nil = tt
   from-distinct p c (node x below younger) =
       let L = namesFrom (p ++ (c ∷ [])) 0 below in
-      let Y = namesFrom p (suc c) younger in
-      subst Distinct (sym (from-node p c x below younger)) (
+      let Y = namesFrom p (suc c) younger in (
         any-append (sameNumbers (p ++ (c ∷ []))) L Y ∙ ap₂ _||_ (own-below p c below) (own-younger p c younger),
         distinct-append L Y (from-distinct (p ++ (c ∷ [])) 0 below) (from-distinct p (suc c) younger) (below-younger p c below younger),
       )
 
   tree-distinct : (T : Forest A) → Distinct (names T)
-  unfolding names named listing namesFrom
+  unfolding names named listing
   tree-distinct nil = tt
-  tree-distinct (node x below younger) = rw (append-nil (listing (namedFrom [] 0 below)))
+  tree-distinct (node x below younger) = subst Distinct (sym (names-root x below younger))
       (never _ (λ h. let (m, v, low, is) = from-in [] [] 0 below h in nil≢cons is), from-distinct [] 0 below)
 
   -- no two nodes have the same name

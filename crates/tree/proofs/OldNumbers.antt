@@ -2,7 +2,7 @@
 -- the number of its node.
 use mathlib.Core.Path.{_≡_, refl, sym, _∙_, ap, subst}
 use mathlib.Core.Bool.{Bool, true, false, cond}
-use mathlib.Core.List.{List, [], _∷_, _++_, map, map-append, append-assoc, append-nil}
+use mathlib.Core.List.{List, [], _∷_, _++_, append-assoc, append-nil}
 use Prim.Native.Nat.{ℕ, zero, suc, _+_, _≤_, _<_}
 use native.Mathlib.Omega.{arith}
 use borrow.Author.Tests.{eq-eqb, ne-eqb, eqb-true}
@@ -10,13 +10,14 @@ use lib.Dec.{eqb}
 use lib.ListN.{length, getD, length-append}
 use lib.Seq.{getD-append-add}
 use Rattle.table.proofs.Logic.{never, bool-ext}
-use Rattle.history.specs.Forest.{nil, node, size, listing, namedFrom, named, names, sameNumbers}
+use Rattle.history.specs.Forest.{nil, node, size, names, sameNumbers}
 use Rattle.history.specs.Tree.{Node, Tree}
 use Rattle.history.specs.Letter.{Origin, was, sprouted, isOld}
 use Rattle.history.specs.OldNumbers.{noNode, numberFrom, oldNumber}
 use Rattle.history.proofs.Conditions.{OneRoot}
 use Rattle.history.proofs.Names.{same-self, same-equal}
 use Rattle.history.proofs.NamesDistinct.{names-distinct, length-names}
+use Rattle.history.proofs.NameOrder.{namesFrom, names-root}
 use Rattle.tree.proofs.PassTree.{Numbered}
 
 -- the test of equality is symmetric
@@ -61,20 +62,11 @@ number-at b w (p ∷ ps) (suc i) h room apart = go (sameNumbers w p) refl (numbe
 
 -- THE NUMBERS OF A TREE'S NODES
 
--- the names of siblings from child number c on below the node that is named p, as many as nodes
-abbrev namesFrom : List ℕ → ℕ → Tree → List (List ℕ)
-namesFrom p c F = map (λ x. x .name) (listing (namedFrom p c F))
-
-names-node : (p : List ℕ) (c : ℕ) (x : Node) (below younger : Tree)
-    → namesFrom p c (node x below younger) ≡ (p ++ (c ∷ [])) ∷ (namesFrom (p ++ (c ∷ [])) 0 below ++ namesFrom p (suc c) younger)
-unfolding listing namedFrom
-names-node p c x below younger = ap (λ (l : List (List ℕ)). (p ++ (c ∷ [])) ∷ l)
-    (map-append (λ x. x .name) (listing (namedFrom (p ++ (c ∷ [])) 0 below)) (listing (namedFrom p (suc c) younger)))
-
+-- there are as many names as nodes
 names-size : (p : List ℕ) (c : ℕ) (F : Tree) → length (namesFrom p c F) ≡ size F
-unfolding listing namedFrom size
+unfolding namesFrom size
 names-size p c nil = refl
-names-size p c (node x below younger) = ap length (names-node p c x below younger) ∙ omega (
+names-size p c (node x below younger) = omega (
   arith,
   length-append (namesFrom (p ++ (c ∷ [])) 0 below) (namesFrom p (suc c) younger),
   names-size (p ++ (c ∷ [])) 0 below,
@@ -101,14 +93,14 @@ module _ (T : Tree) (one : OneRoot T) (few : size T < noNode) where
 
   numbered-from : (F : Tree) (p : List ℕ) (c : ℕ) (front behind : List (List ℕ)) → names T ≡ front ++ (namesFrom p c F ++ behind)
       → Numbered (oldNumber T) p c (length front) F
-  unfolding listing namedFrom
+  unfolding namesFrom
   numbered-from nil p c front behind split = tt
   numbered-from (node x below younger) p c front behind split =
       let v : List ℕ = p ++ (c ∷ []) in
       let B : List (List ℕ) = namesFrom v 0 below in
       let Y : List (List ℕ) = namesFrom p (suc c) younger in
       let parts : names T ≡ front ++ (v ∷ (B ++ (Y ++ behind))) =
-      split ∙ ap (λ (l : List (List ℕ)). front ++ (l ++ behind)) (names-node p c x below younger) ∙ rw (append-assoc B Y behind) in (
+      split ∙ rw (append-assoc B Y behind) in (
         name-at front v (B ++ (Y ++ behind)) parts,
         subst (λ (i : ℕ). Numbered (oldNumber T) v 0 i below) (length-append front (v ∷ []) ∙ omega arith)
             (numbered-from below v 0 (front ++ (v ∷ [])) (Y ++ behind) (parts ∙ sym (append-assoc front (v ∷ []) (B ++ (Y ++ behind))))),
@@ -119,9 +111,8 @@ module _ (T : Tree) (one : OneRoot T) (few : size T < noNode) where
 -- the root has the number 0, and the nodes below it are numbered from 1 on
 pub tree-numbered : (x : Node) (below : Tree) → size (node x below nil) < noNode
     → (oldNumber (node x below nil) (was []) ≡ 0) × Numbered (oldNumber (node x below nil)) [] 0 1 below
-unfolding names named listing
 tree-numbered x below few =
     let T : Tree = node x below nil in
     let split : names T ≡ [] ∷ (namesFrom [] 0 below ++ []) =
-    rw (append-nil (listing (namedFrom [] 0 below)), append-nil (namesFrom [] 0 below)) in
+    names-root x below nil ∙ rw (append-nil (namesFrom [] 0 below)) in
     (name-at T tt few [] [] (namesFrom [] 0 below ++ []) split, numbered-from T tt few below [] 0 ([] ∷ []) [] split)
