@@ -2,14 +2,18 @@
 -- inverse to each other, for squares of any width n and any number m of letters.
 use mathlib.Core.Path.{_≡_, refl, sym, ap, ap₂, subst, _∙_}
 use mathlib.Core.List.{List, [], _∷_, _++_, flatten, flatMap, append-assoc}
-use Prim.Native.Nat.{ℕ, zero, suc, _+_, _*_, _≤_}
+use Prim.Native.Nat.{ℕ, zero, suc, _+_, _-_, _*_, _≤_}
 use native.Mathlib.Nat.{suc-mul, zero-mul, zero-add, suc-add, add-comm}
 use native.Mathlib.Omega.{arith}
 use lib.ListN.{length, take, drop, length-append, length-drop, length-map, take-append-drop}
-use lib.Seq.{take-at, drop-at, take-take, drop-drop, length-take-le, take-nil}
+use lib.Seq.{take-all, take-at, drop-at, take-take, drop-drop, length-take-le, take-nil}
 use Rattle.table.specs.Rule.{Grid}
 use Rattle.table.specs.Table.{Every, SquareFits, parts, gridOf, gridBytes}
 use Rattle.table.proofs.Every.{every-flatten, flatten-every, every-weaker, every-both, every-value}
+
+-- a part of a list up to its end
+pub to-end : (from : ℕ) (l : List ℕ) → take (length l - from) (drop from l) ≡ drop from l
+to-end from l = take-all (length l - from) (drop from l) (omega (arith, length-drop from l))
 
 -- LISTS OF LISTS
 

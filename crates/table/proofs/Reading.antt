@@ -45,7 +45,7 @@ read-row-bytes k (x ∷ row) rest h = go (eqb x noTransition) refl (head .0) (re
     go false e f ih = row-by-lowest k (length row) false (mapByte row) (x ∷ setBytes row ++ rest) ∙ rw (f, ih)
 
 -- a row's map has no bit from the row's length up
-map-byte-lt : (row : List ℕ) → mapByte row < 2 ^ length row
+pub map-byte-lt : (row : List ℕ) → mapByte row < 2 ^ length row
 unfolding mapByte
 map-byte-lt [] = omega arith
 map-byte-lt (x ∷ row) = go (eqb x noTransition) (map-byte-lt row)

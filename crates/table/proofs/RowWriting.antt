@@ -5,7 +5,6 @@ use mathlib.Core.Bool.{Bool, true, false, cond}
 use mathlib.Core.List.{List, [], _∷_, _++_, flatMap}
 use Prim.Native.Nat.{ℕ, suc, _+_, _-_, _*_, _^_, _≤_, _<_}
 use native.Mathlib.Omega.{arith}
-use native.Mathlib.Nat.{pow-suc}
 use native.Mathlib.Numerals.{add-one}
 use borrow.Author.Tests.{eq-eqb, ne-eqb, lt-ltb, le-ltb}
 use lib.Dec.{eqb}
@@ -16,6 +15,7 @@ use Rattle.table.specs.Limits.{maxStates, noTransition}
 use Rattle.table.specs.Table.{bytesFit, mapByte, setBytes}
 use Rattle.table.specs.Writing.{counted}
 use Rattle.table.specs.declared.writer.Counted.the-variants.{Transitions, Misfit}
+use Rattle.table.proofs.Reading.{map-byte-lt}
 
 -- COUNTING
 
@@ -78,16 +78,6 @@ module _ {k : ℕ} {bytes : List ℕ} {count i : ℕ} (v : CountedSoFar k bytes 
 
 -- THE MAP BYTE
 
--- the map of a row has no bit from the row's length up
-map-lt : (row : List ℕ) → mapByte row < 2 ^ length row
-unfolding mapByte
-map-lt [] = omega arith
-map-lt (x ∷ row) = go (eqb x noTransition) (map-lt row)
-  where
-    go : (t : Bool) → mapByte row < 2 ^ length row → cond t 0 1 + 2 * mapByte row < 2 ^ suc (length row)
-    go true h = omega (arith, pow-suc 2 (length row))
-    go false h = omega (arith, pow-suc 2 (length row))
-
 -- `map` is the map of a row from state r on
 pub record MapSoFar (row : List ℕ) (map r : ℕ) : Type 0 where
   pub inside : r ≤ length row
@@ -106,7 +96,7 @@ module _ {row : List ℕ} {map r : ℕ} (v : MapSoFar row map r) (h : 0 < r) whe
   pub map-room : map < 128
   map-room =
       let few : length (drop r row) ≤ 7 = omega (arith, length-drop r row, v .short) in
-      omega (arith, v .same, map-lt (drop r row), pow-mono few)
+      omega (arith, v .same, map-byte-lt (drop r row), pow-mono few)
 
   -- the state below: the map is doubled
   below : drop (r - 1) row ≡ getD row (r - 1) 0 ∷ drop r row

@@ -9,9 +9,9 @@ use native.Mathlib.Numerals.{add-one}
 use borrow.Author.Tests.{eq-eqb, ne-eqb, le-leb, lt-leb, lt-ltb, le-ltb}
 use lib.Count.{ones}
 use lib.Dec.{eqb, leb, ltb}
-use lib.ListN.{length, getD, take, drop, length-drop, drop-of-length-le}
+use lib.ListN.{length, getD, drop, drop-of-length-le}
 use lib.Pow.{shl-exact}
-use lib.Seq.{drop-cons, take-all}
+use lib.Seq.{drop-cons}
 use Rattle.history.specs.RecordChecks.{hostsBelow, isHost, allHost, activeFits, marksFollow, marksFit, bodyFits, recordChecks}
 
 -- HOSTS
@@ -124,12 +124,6 @@ module _ (n k : ℕ) (bytes left : List ℕ) (some : 1 ≤ length bytes) (is : l
     pub checks-body : ones map < length left → bodyFits k map left ≡ recordChecks n k bytes
     checks-body g = rw (checks-parts, ne-eqb map 0 e, lt-ltb map (2 ^ n) f, lt-ltb (ones map) (length left) g)
 
--- NUMBERS AND PARTS OF LISTS
-
 -- 1 shifted by n places
 pub shifted : (n : ℕ) → n < 16 → 1 * 2 ^ n % 2 ^ 16 ≡ 2 ^ n
 shifted n h = shl-exact {a = 1} 1 n 16 (omega arith) (omega arith) ∙ one-mul (2 ^ n)
-
--- a part of a list up to its end
-pub to-end : (from : ℕ) (l : List ℕ) → take (length l - from) (drop from l) ≡ drop from l
-to-end from l = take-all (length l - from) (drop from l) (omega (arith, length-drop from l))

@@ -4,7 +4,7 @@ use mathlib.Core.Path.{sym}
 use lib.Seq.{length-take-le}
 use Rattle.table.proofs.Tests.{told-no, told-yes}
 use Rattle.history.specs.RecordChecks.{bodyFits}
-use Rattle.tree.proofs.ChecksInTurn.{to-end}
+use Rattle.table.proofs.Parts.{to-end}
 use Rattle.tree.proofs.checks.body_fits.Statement.{statement}
 use Rattle.tree.proofs.checks.body_fits.Tie as tie
 

@@ -2,7 +2,8 @@
 use borrow.Author.Needs.{needs}
 use borrow.Author.Tests.{eq-eqb, ne-eqb}
 use Rattle.table.proofs.Tests.{told-no, told-yes}
-use Rattle.tree.proofs.ChecksInTurn.{fit-none, fit-parts, to-end}
+use Rattle.table.proofs.Parts.{to-end}
+use Rattle.tree.proofs.ChecksInTurn.{fit-none, fit-parts}
 use Rattle.tree.proofs.checks.marks_fit.Statement.{statement}
 use Rattle.tree.proofs.checks.marks_fit.Tie as tie
 

@@ -5,7 +5,7 @@ use mathlib.Core.Path.{refl}
 use native.Mathlib.Omega.{arith}
 use lib.ListN.{length}
 use Rattle.history.specs.Record.{hostedIn}
-use Rattle.tree.proofs.ChecksInTurn.{to-end}
+use Rattle.table.proofs.Parts.{to-end}
 use Rattle.tree.proofs.ReadingInTurn.{deeper-few, RowsSoFar, rows-start, rows-next, rows-done}
 use Rattle.tree.proofs.reading.record_rows.Statement.{statement}
 use Rattle.tree.proofs.reading.record_rows.Tie as tie

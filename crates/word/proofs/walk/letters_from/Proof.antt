@@ -1,17 +1,12 @@
 -- The part of a slice from a place on; the empty part at its end from a place past the end.
 use borrow.Author.Needs.{needs}
-use mathlib.Core.Path.{_≡_, sym, _∙_}
-use mathlib.Core.List.{List}
-use Prim.Native.Nat.{ℕ, _-_}
+use mathlib.Core.Path.{sym, _∙_}
 use native.Mathlib.Omega.{arith}
-use lib.ListN.{length, take, drop, length-drop, drop-of-length-le}
-use lib.Seq.{take-all, drop-length}
+use lib.ListN.{length, drop-of-length-le}
+use lib.Seq.{drop-length}
+use Rattle.table.proofs.Parts.{to-end}
 use Rattle.word.proofs.walk.letters_from.Statement.{statement}
 use Rattle.word.proofs.walk.letters_from.Tie as tie
-
--- up to the end is all that there is
-to-the-end : (at : ℕ) (w : List ℕ) → take (length w - at) (drop at w) ≡ drop at w
-to-the-end at w = take-all (length w - at) (drop at w) (omega (arith, length-drop at w))
 
 sub-result : tie.Need-sub-result
 sub-result c = search needs
@@ -32,12 +27,12 @@ part-result-end-2 : tie.Need-part-result-end-2
 part-result-end-2 c = search needs
 
 returns : tie.Need-returns
-returns c = to-the-end (c .before .before .args .at) (c .before .before .args .w .now)
+returns c = to-end (c .before .before .args .at) (c .before .before .args .w .now)
 
 returns-2 : tie.Need-returns-2
 returns-2 c =
     let w = c .before .before .args .w .now in
-    to-the-end (length w) w ∙ drop-length w ∙ sym (drop-of-length-le w {i = c .before .before .args .at} (omega arith))
+    to-end (length w) w ∙ drop-length w ∙ sym (drop-of-length-le w {i = c .before .before .args .at} (omega arith))
 
 pub letters-from-spec : {M : Type 1} → statement M
 letters-from-spec =

@@ -5,7 +5,7 @@ use native.Mathlib.Omega.{arith}
 use lib.Count.{ones}
 use lib.ListN.{length, getD}
 use Rattle.table.proofs.Tests.{told-no, told-yes}
-use Rattle.tree.proofs.ChecksInTurn.{to-end}
+use Rattle.table.proofs.Parts.{to-end}
 use Rattle.tree.proofs.RowsOfRecord.{passed-long, passed-parts, checked-yes, checked-no, behind-first}
 use Rattle.tree.proofs.record.Tree.checked.Statement.{statement}
 use Rattle.tree.proofs.record.Tree.checked.Tie as tie
