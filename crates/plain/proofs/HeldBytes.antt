@@ -5,7 +5,7 @@ use mathlib.Core.List.{List, [], _∷_, _++_, map}
 use Prim.Native.Nat.{ℕ, zero, suc, _+_, _-_, _≤_, _<_}
 use native.Mathlib.Omega.{arith}
 use borrow.Author.Tests.{eqb-true, not-false}
-use lib.ListN.{length, getD, replicate, length-append, length-replicate, getD-replicate}
+use lib.ListN.{length, getD, replicate, length-map, length-append, length-replicate, getD-replicate}
 use lib.Pow.{pow-mono}
 use Rattle.table.specs.Limits.{maxStates, maxLetters, maxSets, noTransition}
 use Rattle.table.specs.Rule.{Grid, Rule, cellAt, edge}
@@ -25,15 +25,11 @@ module _ {A : Type 0} (P : A → Type 0) (f : A → A) (z d : A) (blank : P z) (
   all-behind (x ∷ l) c zero h = kept x
   all-behind (x ∷ l) c (suc i) h = all-behind l c i (omega arith)
 
-length-map : {A : Type 0} (f : A → A) (l : List A) → length (map f l) ≡ length l
-length-map f [] = refl
-length-map f (x ∷ l) = ap suc (length-map f l)
-
 -- what holds of the padding and of every changed element holds at every place of a padded list
 padded : {A : Type 0} (P : A → Type 0) (f : A → A) (z d : A) → P z → ((x : A) → P (f x)) → (w : ℕ) (l : List A) (i : ℕ) → i < w
     → P (getD (pad w z (map f l)) i d)
 unfolding pad
-padded P f z d blank kept w l i h = all-behind P f z d blank kept l (w - length (map f l)) i (omega (arith, length-map f l))
+padded P f z d blank kept w l i h = all-behind P f z d blank kept l (w - length (map f l)) i (omega (arith, length-map l f))
 
 row-long : (row : List ℕ) → maxStates ≤ length (heldRow row)
 unfolding heldRow pad

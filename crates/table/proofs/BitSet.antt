@@ -5,7 +5,7 @@ use mathlib.Core.Logic.{_⊎_, inl, inr, ⊎-elim}
 use mathlib.Core.Bool.{Bool, true, false, not, _&&_, _||_, cond, or-assoc}
 use Prim.Native.Nat.{ℕ, zero, suc, _+_, _*_, _-_, _/_, _%_, _^_, _≤_, _<_, min, max}
 use native.Mathlib.Omega.{arith}
-use native.Mathlib.Nat.{pow-suc}
+use native.Mathlib.Nat.{pow-suc, one-mul}
 use native.Mathlib.Numerals.{one-add}
 use native.Mathlib.Decide.{decLt}
 use borrow.Author.Tests.{eqb-true, eqb-false, ltb-true, lt-ltb, le-ltb}
@@ -13,7 +13,7 @@ use lib.Arith.{bin-ind}
 use lib.Bits.{bitAnd, bitOr, bitXor, differ, and-step, or-step, xor-step, and-shr, or-shr, xor-shr}
 use lib.Count.{ones, onesIn, ones-step}
 use lib.Dec.{eqb, ltb, eqb·zero-suc, eqb·suc-zero, eqb·suc-suc, leb·suc-suc}
-use lib.Pow.{shr-shr, field, mod-mod-pow}
+use lib.Pow.{shl-exact, shr-shr, field, mod-mod-pow}
 use Rattle.table.specs.BitSet.{member, minus, Subset, ProperSubset, collect, some}
 use Rattle.table.specs.Rule.{image}
 use Rattle.table.proofs.Logic.{look, clash, never, bool-ext, and-both, and-in, or-l, or-r, or-in}
@@ -50,6 +50,10 @@ lowest-in s h = eqb-true (s % 2) 1 (sym (member-zero s) ∙ h)
 
 lowest-out : (s : ℕ) → member s 0 ≡ false → s % 2 ≡ 0
 lowest-out s h = omega (arith, eqb-false (s % 2) 1 (sym (member-zero s) ∙ h))
+
+-- 1 shifted to place j of a word
+pub one-shifted : (width j : ℕ) → j < width → 1 * 2 ^ j % 2 ^ width ≡ 2 ^ j
+one-shifted width j h = shl-exact 1 j width (omega arith) (omega arith) ∙ one-mul (2 ^ j)
 
 -- THE OPERATIONS
 

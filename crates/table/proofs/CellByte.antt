@@ -4,18 +4,17 @@ use mathlib.Core.Bool.{Bool, true, false, cond}
 use mathlib.Core.List.{List}
 use Prim.Native.Nat.{ℕ, _+_, _*_, _%_, _^_, _≤_, _<_}
 use native.Mathlib.Omega.{arith}
-use native.Mathlib.Nat.{one-mul}
 use native.Mathlib.Numerals.{add-one}
 use borrow.Author.Tests.{ltb-true, ltb-false, lt-ltb, le-ltb}
 use lib.Dec.{ltb}
 use lib.ListN.{length, getD, drop, drop-of-length-le}
-use lib.Pow.{shl-exact}
 use lib.Seq.{drop-cons}
 use Rattle.table.specs.Outcome.{refused, accepted, ask}
 use Rattle.table.specs.Table.{readByte}
 use Rattle.table.specs.Cursor.{nextAt}
 use Rattle.table.specs.declared.cursor.Cursor.{Cursor}
 use Rattle.table.specs.declared.cursor.Next.the-variants.{Byte, End}
+use Rattle.table.proofs.BitSet.{one-shifted}
 
 -- the end is told only at the end
 pub next-end : (s : List ℕ) (at : ℕ) → nextAt s at ≡ End → length s ≤ at
@@ -36,10 +35,6 @@ next-byte s at x c e = go (ltb at (length s)) refl e
     go true h e = (ltb-true _ _ h, cc, let z : record { at = at + 1 } ≡ c = cc in sym (ap (λ (y : Cursor). y .at) z))
     go false h e = let z : _≡_ {A = ℕ} 0 1 = cc in absurd (omega arith)
 
--- one bit of a word of 16
-bound : (w : ℕ) → w < 16 → 1 * 2 ^ w % 65536 ≡ 2 ^ w
-bound w h = shl-exact {a = 1} 1 w 16 (omega arith) (omega arith) ∙ one-mul (2 ^ w)
-
 -- question 4: no byte is there
 pub byte-missing : (s : List ℕ) (at w : ℕ) → nextAt s at ≡ End → refused 4 ≡ readByte w (drop at s)
 unfolding readByte
@@ -53,8 +48,8 @@ module _ (s : List ℕ) (at w x y : ℕ) (c : Cursor) (e : nextAt s at ≡ Byte 
 
   -- question 5 answered yes
   pub byte-accepted : y < 1 * 2 ^ w % 65536 → accepted (x, drop (c .at) s) ≡ readByte w (drop at s)
-  byte-accepted h = sym (there ∙ rw (lt-ltb x (2 ^ w) (omega (arith, bound w short))))
+  byte-accepted h = sym (there ∙ rw (lt-ltb x (2 ^ w) (omega (arith, one-shifted 16 w short))))
 
   -- question 5 answered no
   pub byte-refused : 1 * 2 ^ w % 65536 ≤ y → refused 5 ≡ readByte w (drop at s)
-  byte-refused h = sym (there ∙ rw (le-ltb x (2 ^ w) (omega (arith, bound w short))))
+  byte-refused h = sym (there ∙ rw (le-ltb x (2 ^ w) (omega (arith, one-shifted 16 w short))))

@@ -1,6 +1,6 @@
 -- The pieces of a grid's bytes: bytes of a row, rows of a square, squares of the grid.
 use mathlib.Core.Path.{_≡_, refl, sym, _∙_, ap}
-use mathlib.Core.List.{List, [], _∷_, _++_, map, flatten, append-nil}
+use mathlib.Core.List.{List, [], _∷_, _++_, map, map-append, flatten, append-nil}
 use Prim.Native.Nat.{ℕ, suc, _<_}
 use native.Mathlib.Decide.{decLt}
 use native.Mathlib.Omega.{arith}
@@ -11,11 +11,7 @@ use Rattle.table.specs.Table.{gridBytes}
 use Rattle.table.specs.Held.{squareBytes, narrow}
 use Rattle.table.proofs.Parts.{flatten-append}
 
--- a map over one more element
-map-more : {A B : Type 0} (f : A → B) (l : List A) (x : A) → map f (l ++ (x ∷ [])) ≡ map f l ++ (f x ∷ [])
-map-more f [] x = refl
-map-more f (y ∷ l) x = ap (λ (m : List _). f y ∷ m) (map-more f l x)
-
+-- lists one behind the other, and one more
 flatten-more : {A : Type 0} (ls : List (List A)) (l : List A) → flatten (ls ++ (l ∷ [])) ≡ flatten ls ++ l
 unfolding flatten
 flatten-more ls l = flatten-append ls (l ∷ []) ∙ ap (λ (r : List _). flatten ls ++ r) (append-nil l)
@@ -40,7 +36,7 @@ pub rows-more : (n : ℕ) (square : List (List ℕ)) (q : ℕ)
     → rowsUpTo n square (suc q) ≡ rowsUpTo n square q ++ take n (getD square q [])
 unfolding rowsUpTo
 rows-more n square q = by-place square q
-    (λ h. ap (λ (l : List (List ℕ)). flatten (map (take n) l)) (take-suc square q [] h) ∙ ap flatten (map-more (take n) (take q square) (getD square q []))
+    (λ h. ap (λ (l : List (List ℕ)). flatten (map (take n) l)) (take-suc square q [] h) ∙ ap flatten (map-append (take n) (take q square) (getD square q [] ∷ []))
     ∙ flatten-more (map (take n) (take q square)) (take n (getD square q [])))
     (λ full none. ap (λ (l : List (List ℕ)). flatten (map (take n) l)) full
     ∙ sym (ap (λ (l : List ℕ). flatten (map (take n) (take q square)) ++ take n l) none ∙ ap (λ (l : List ℕ). flatten (map (take n) (take q square)) ++ l) (take-nil n) ∙ append-nil (flatten (map (take n) (take q square)))))
@@ -60,7 +56,7 @@ squares-more n cells a =
     let f : List (List ℕ) → List (List ℕ) = λ square. map (take n) (take n square) in
     let g : Grid → List ℕ = λ l. flatten (flatten (map f l)) in
     by-place cells a
-    (λ h. ap g (take-suc cells a [] h) ∙ ap (λ (l : Grid). flatten (flatten l)) (map-more f (take a cells) (getD cells a []))
+    (λ h. ap g (take-suc cells a [] h) ∙ ap (λ (l : Grid). flatten (flatten l)) (map-append f (take a cells) (getD cells a [] ∷ []))
     ∙ ap flatten (flatten-more (map f (take a cells)) (f (getD cells a []))) ∙ flatten-append (flatten (map f (take a cells))) (f (getD cells a [])))
     (λ full none. ap g full ∙ sym (ap (λ (l : List (List ℕ)). g (take a cells) ++ flatten (f l)) none
     ∙ ap (λ (l : List (List ℕ)). g (take a cells) ++ flatten (map (take n) l)) (take-nil n) ∙ append-nil (g (take a cells))))

@@ -2,15 +2,13 @@
 use mathlib.Core.Path.{_≡_, refl, sym, _∙_, ap}
 use mathlib.Core.Bool.{true, false, _&&_, _||_, cond}
 use mathlib.Core.List.{List, [], _∷_}
-use Prim.Native.Nat.{ℕ, suc, _+_, _-_, _*_, _/_, _%_, _^_, _≤_, _<_}
+use Prim.Native.Nat.{ℕ, suc, _+_, _-_, _/_, _^_, _≤_, _<_}
 use native.Mathlib.Omega.{arith}
-use native.Mathlib.Nat.{one-mul}
 use native.Mathlib.Numerals.{add-one}
 use borrow.Author.Tests.{eq-eqb, ne-eqb, le-leb, lt-leb, lt-ltb, le-ltb}
 use lib.Count.{ones}
 use lib.Dec.{eqb, leb, ltb}
 use lib.ListN.{length, getD, drop, drop-of-length-le}
-use lib.Pow.{shl-exact}
 use lib.Seq.{drop-cons}
 use Rattle.history.specs.RecordChecks.{hostsBelow, isHost, allHost, activeFits, marksFollow, marksFit, bodyFits, recordChecks}
 
@@ -123,7 +121,3 @@ module _ (n k : ℕ) (bytes left : List ℕ) (some : 1 ≤ length bytes) (is : l
 
     pub checks-body : ones map < length left → bodyFits k map left ≡ recordChecks n k bytes
     checks-body g = rw (checks-parts, ne-eqb map 0 e, lt-ltb map (2 ^ n) f, lt-ltb (ones map) (length left) g)
-
--- 1 shifted by n places
-pub shifted : (n : ℕ) → n < 16 → 1 * 2 ^ n % 2 ^ 16 ≡ 2 ^ n
-shifted n h = shl-exact {a = 1} 1 n 16 (omega arith) (omega arith) ∙ one-mul (2 ^ n)

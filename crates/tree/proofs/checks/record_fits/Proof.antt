@@ -4,8 +4,9 @@ use mathlib.Core.Path.{_∙_}
 use native.Mathlib.Omega.{arith}
 use lib.Count.{ones-le}
 use lib.ListN.{getD}
+use Rattle.table.proofs.BitSet.{one-shifted}
 use Rattle.table.proofs.Parts.{to-end}
-use Rattle.tree.proofs.ChecksInTurn.{checks-none, checks-dead, checks-large, checks-short, checks-body, shifted}
+use Rattle.tree.proofs.ChecksInTurn.{checks-none, checks-dead, checks-large, checks-short, checks-body}
 use Rattle.tree.proofs.checks.record_fits.Statement.{statement}
 use Rattle.tree.proofs.checks.record_fits.Tie as tie
 
@@ -43,7 +44,7 @@ returns-3 c =
     let first = c .before .before .before .before in
     let start = first .before .before in
     checks-large _ _ _ _ (first .if1 .left) (to-end 1 (start .args .bytes .now)) (c .before .if2 .left)
-    (rw (shifted _ (start .pre)) at (c .if3 .taken))
+    (rw (one-shifted 16 _ (start .pre)) at (c .if3 .taken))
 
 cast-if4 : tie.Need-cast-if4
 cast-if4 c =
@@ -56,7 +57,7 @@ returns-4 c =
     let first = c .before .before .before .before .before in
     let start = first .before .before in
     checks-short _ _ _ _ (first .if1 .left) (to-end 1 (start .args .bytes .now)) (c .before .before .if2 .left)
-    (rw (shifted _ (start .pre)) at (c .before .if3 .left)) (c .if4 .taken)
+    (rw (one-shifted 16 _ (start .pre)) at (c .before .if3 .left)) (c .if4 .taken)
 
 body-fits-requires : tie.Need-body-fits-requires
 body-fits-requires c κs = search needs
@@ -66,7 +67,7 @@ returns-5 c =
     let first = c .before .before .before .before .before .before in
     let start = first .before .before in
     c .body-fits .ensures ∙ checks-body _ _ _ _ (first .if1 .left) (to-end 1 (start .args .bytes .now)) (c .before .before .before .if2 .left)
-    (rw (shifted _ (start .pre)) at (c .before .before .if3 .left)) (c .before .if4 .left)
+    (rw (one-shifted 16 _ (start .pre)) at (c .before .before .if3 .left)) (c .before .if4 .left)
 
 pub record-fits-spec : {M : Type 1} → statement M
 record-fits-spec =

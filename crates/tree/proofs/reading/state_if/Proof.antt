@@ -1,7 +1,7 @@
 -- The set of a state, by the number of its host.
 use borrow.Author.Needs.{needs}
 use borrow.Author.Tests.{lt-leb, le-leb, lt-ltb, le-ltb}
-use Rattle.tree.proofs.ChecksInTurn.{shifted}
+use Rattle.table.proofs.BitSet.{one-shifted}
 use Rattle.tree.proofs.reading.state_if.Statement.{statement}
 use Rattle.tree.proofs.reading.state_if.Tie as tie
 
@@ -15,7 +15,7 @@ shl-result : tie.Need-shl-result
 shl-result c = search needs
 
 returns-2 : tie.Need-returns-2
-returns-2 c = rw (le-leb _ _ (c .before .if1 .left), lt-ltb _ _ (c .if2 .taken)) (shifted _ (c .before .before .pre))
+returns-2 c = rw (le-leb _ _ (c .before .if1 .left), lt-ltb _ _ (c .if2 .taken)) (one-shifted 16 _ (c .before .before .pre))
 
 returns-3 : tie.Need-returns-3
 returns-3 c = rw (le-leb _ _ (c .before .if1 .left), le-ltb _ _ (c .if2 .left))
