@@ -20,7 +20,7 @@ label-inside (node x below younger) zero q h = member-union (x .label) (labels y
 label-inside (node x below younger) (suc i) q h =
     member-union (x .label) (labels younger) q ∙ or-r (member (x .label) q) _ (label-inside younger i q h)
 
--- a branch that fits
+-- a node with what is below it: its active set is one of the k where its label holds a state, and the labels below lie in its label
 pub record BranchFits (k : ℕ) (b : Branch) : Type 0 where
   pub active : (q : ℕ) → member (b .top .label) q ≡ true → (1 ≤ b .top .active) × (b .top .active ≤ k)
   pub inside : Subset (labels (b .below)) (b .top .label)

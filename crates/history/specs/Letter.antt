@@ -88,7 +88,7 @@ pruned k (node x below younger) =
 unfoldable pub survivors : Rule → ℕ → Tree → Forest Grown
 survivors R a T = pruned (R .sets) (separated 0 (sprouting R a (succeeded R a (begun T))))
 
--- the next tree
+-- the next tree: what survives, with labels and active sets alone
 unfoldable pub nextTree : Rule → ℕ → Tree → Tree
 nextTree R a T = change (λ x. record { label = x .label; active = x .active }) (survivors R a T)
 
