@@ -37,22 +37,23 @@ SuthreldoWrite suthreldo_write(size_t n, size_t m, size_t k, uint16_t start, con
                                uint8_t *table, size_t table_length);
 
 /* The record of a table's starting tree. Questions 1 to 6, then 10. Accepted: the record's length; exactly the record is
- * written to the front of `buffer`. */
+ * written to the front of `buffer`, the rest unchanged. */
 SuthreldoStart suthreldo_start(const uint8_t *table, size_t table_length, uint8_t *buffer, size_t buffer_length);
 
 /* One letter on the tree of a record. Questions 1 to 6, 8, 9, then 10. Accepted: the length of the next tree's record, which is
- * written to the front of `buffer`, and the maps of accepting and of stable nodes by old node number. */
+ * written to the front of `buffer`, the rest unchanged, and the maps of accepting and of stable nodes by old node number (bit i for
+ * node i; only the low eight bits can stand). */
 SuthreldoStep suthreldo_step(const uint8_t *table, size_t table_length, uint8_t letter, const uint8_t *record, size_t record_length,
                              uint8_t *buffer, size_t buffer_length);
 
-/* The tree judge. Questions 1 to 6, 7, 8, then 10. Accepted: entry and period of the first repeated tree at a round end.
+/* The tree judge. Questions 1 to 8, then 10. Accepted: entry and period of the first repeated tree at a round end.
  * verdict 1 (yes): some endless run of the rule over u and then v for ever goes through every accepting set infinitely often;
  * `length` numbers of the first witnessing node's name stand at the front of `names`, the rest is unchanged.
  * verdict 0 (no): there is no such run; `length` is 255 and `names` is unchanged. */
 SuthreldoTree suthreldo_tree_judge(const uint8_t *table, size_t table_length, const uint8_t *u, size_t u_length,
                                    const uint8_t *v, size_t v_length, uint8_t *names, size_t names_length);
 
-/* The plain judge, which builds no tree. Questions 1 to 6, 7, 8, then 10. Accepted: verdict 1 exactly when there is such a run,
+/* The plain judge, which builds no tree. Questions 1 to 8, then 10. Accepted: verdict 1 exactly when there is such a run,
  * 0 exactly when there is none; the first 32,768 bytes of `scratch` are left zero, those past them unchanged. */
 SuthreldoPlain suthreldo_plain_judge(const uint8_t *table, size_t table_length, const uint8_t *u, size_t u_length,
                                      const uint8_t *v, size_t v_length, uint8_t *scratch, size_t scratch_length);

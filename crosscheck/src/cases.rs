@@ -11,6 +11,7 @@ use crate::reference::{NAME_LENGTH, RECORD_LENGTH, SCRATCH_LENGTH};
 use std::ops::Range;
 
 /// A walk under a table.
+#[derive(Clone)]
 pub struct Walk {
     pub table: Vec<u8>,
     pub u: Vec<u8>,
@@ -18,6 +19,7 @@ pub struct Walk {
 }
 
 /// A call and its inputs, the lent buffer left out.
+#[derive(Clone)]
 pub enum Case {
     Read(Vec<u8>),
     Write(Numbers, Vec<u8>),
