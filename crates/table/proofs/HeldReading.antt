@@ -46,7 +46,7 @@ read-many-map f one one′ e (suc c) bytes =
     (readMany one c) (readMany one′ c) (read-many-map f one one′ e c)
 
 -- a row without standing bits
-pub row-blank : (k w : ℕ) (bytes : List ℕ) → readRow k w 0 bytes ≡ accepted (replicate w noTransition, bytes)
+row-blank : (k w : ℕ) (bytes : List ℕ) → readRow k w 0 bytes ≡ accepted (replicate w noTransition, bytes)
 unfolding readRow readTransition
 row-blank k zero bytes = refl
 row-blank k (suc w) bytes = rw (row-blank k w bytes)

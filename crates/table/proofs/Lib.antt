@@ -13,6 +13,7 @@ pub mod Tests
 pub mod Ranges
 -- The reader.
 pub mod CellByte
+pub mod LowestBit
 pub mod RowReading
 pub mod ManyReading
 pub mod HeldReading

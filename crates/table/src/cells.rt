@@ -2,9 +2,7 @@
 use crate::cursor::Cursor;
 use crate::cursor::Next;
 use crate::limits::Cells;
-use crate::limits::NO_TRANSITION;
 use crate::limits::Row;
-use crate::limits::STATES;
 use crate::limits::Square;
 use crate::source::byte_at;
 ghost use mathlib.Core.Path.{_≡_};
@@ -12,7 +10,7 @@ ghost use Prim.Native.Nat.{_^_, _<_, _≤_};
 ghost use lib.ListN.{drop};
 ghost use Rattle.table.specs.Limits.{maxLetters, maxStates};
 ghost use Rattle.table.specs.Table.{readByte, readCell, readRow};
-ghost use Rattle.table.specs.Held.{blankCells, blankSquare};
+ghost use Rattle.table.specs.Held.{blankCells, blankRow, blankSquare};
 ghost use Rattle.table.specs.Cursor.{byteRead, progress, readHeld, readSquare};
 
 // A cell byte with the cursor behind it, or the number of the question that it fails.
@@ -25,12 +23,6 @@ pub enum CellByte {
 pub enum Progress {
     At(Cursor),
     Refused(u8),
-}
-
-// One cell as a row by next state.
-pub struct RowRead {
-    pub cells: Row,
-    pub next: Progress,
 }
 
 fn widen(x: u8) -> u16
@@ -56,55 +48,39 @@ fn read_byte(s: &[u8], c: Cursor, width: usize) -> CellByte
     }
 }
 
-// The set bytes of a cell, "as many as the map has standing bits, lowest bit first".
-fn read_row(s: &[u8], from: Cursor, standing: u16, k: usize) -> RowRead
-    requires { ⌜ (standing < 2 ^ maxStates) × (k < 16) ⌝ }
-    ensures { λ r. ⌜ progress (now (s .entry)) (r .next) (r .cells) ≡ readRow k maxStates standing (drop (from .at) (now (s .entry))) ⌝ }
+// The set bytes of a cell, "as many as the map has standing bits, lowest bit first", into a blank row.
+fn read_row(s: &[u8], from: Cursor, standing: u16, k: usize, row: &mut Row) -> Progress
+    requires { ⌜ ((standing < 2 ^ maxStates) × (k < 16)) × (now row ≡ blankRow) ⌝ }
+    ensures { λ r. ⌜ progress (now (s .entry)) r (now (row .exit)) ≡ readRow k maxStates standing (drop (from .at) (now (s .entry))) ⌝ }
 {
-    let mut cells = [NO_TRANSITION; STATES];
     let mut at = from;
     let mut rest = standing;
     let mut left = u16::count_ones(standing);
-    let mut state = 0usize;
     while 0 < left {
-        let low = rest % 2;
-        let r = state;
-        rest = rest / 2;
-        state += 1;
-        if low == 0 {
-            continue;
-        }
+        let r = u16::trailing_zeros(rest) as usize;
         match read_byte(s, at, k) {
             CellByte::Refused(number) => {
-                return RowRead {
-                    cells: cells,
-                    next: Progress::Refused(number),
-                };
+                return Progress::Refused(number);
             }
             CellByte::Byte(sets, next) => {
-                cells[r] = sets;
+                row[r] = sets;
                 at = next;
+                rest = rest & (rest - 1);
                 left -= 1;
             }
         }
     }
-    RowRead {
-        cells: cells,
-        next: Progress::At(at),
-    }
+    Progress::At(at)
 }
 
-// A cell: its map byte, in which bits below n may stand, then its set bytes.
-fn read_cell(s: &[u8], from: Cursor, n: usize, k: usize) -> RowRead
-    requires { ⌜ (n < 16) × (k < 16) ⌝ }
-    ensures { λ r. ⌜ progress (now (s .entry)) (r .next) (r .cells) ≡ readCell n k maxStates (drop (from .at) (now (s .entry))) ⌝ }
+// A cell: its map byte, in which bits below n may stand, then its set bytes, into a blank row.
+fn read_cell(s: &[u8], from: Cursor, n: usize, k: usize, row: &mut Row) -> Progress
+    requires { ⌜ ((n < 16) × (k < 16)) × (now row ≡ blankRow) ⌝ }
+    ensures { λ r. ⌜ progress (now (s .entry)) r (now (row .exit)) ≡ readCell n k maxStates (drop (from .at) (now (s .entry))) ⌝ }
 {
     match read_byte(s, from, n) {
-        CellByte::Refused(number) => RowRead {
-            cells: [NO_TRANSITION; STATES],
-            next: Progress::Refused(number),
-        },
-        CellByte::Byte(map, next) => read_row(s, next, map as u16, k),
+        CellByte::Refused(number) => Progress::Refused(number),
+        CellByte::Byte(map, next) => read_row(s, next, map as u16, k, row),
     }
 }
 
@@ -116,15 +92,11 @@ fn read_letter(s: &[u8], from: Cursor, n: usize, k: usize, square: &mut Square) 
     let mut at = from;
     let mut state = 0usize;
     while state < n {
-        let cell = read_cell(s, at, n, k);
-        let row = cell.cells;
-        let behind = cell.next;
-        match behind {
+        match read_cell(s, at, n, k, &mut square[state]) {
             Progress::Refused(number) => {
                 return Progress::Refused(number);
             }
             Progress::At(next) => {
-                square[state] = row;
                 at = next;
                 state += 1;
             }

@@ -1,126 +1,111 @@
 // The look-up of successors: the image of a set of states under a letter by two entries of a table.
-// A letter's tables are made once; `look_up` is the inner step of every run of a rule.
-use crate::limits::Cells;
+// A letter's table is made once; `look_up` is the inner step of every run of a rule.
 use crate::limits::NO_TRANSITION;
 use crate::limits::Row;
 use crate::limits::SETS;
 use crate::limits::STATES;
 use crate::limits::Square;
 ghost use mathlib.Core.Path.{_≡_};
-ghost use Prim.Native.Nat.{suc, _*_, _^_, _+_, _<_, _≤_};
+ghost use Prim.Native.Nat.{suc, _^_, _<_, _≤_};
 ghost use Rattle.table.specs.Limits.{maxStates, maxSets};
-ghost use Rattle.table.specs.Lookup.{lookUp, letterTables};
-ghost use Rattle.table.specs.LookupSteps.{withNext, rowMaps, squareMaps, mapsOf, unionTable, Filled};
+ghost use Rattle.table.specs.Lookup.{letterTable, lookUp};
+ghost use Rattle.table.specs.LookupSteps.{relationsOf, nextStates, rowMaps, joined, Filled};
 
-// The images of the sets within the lowest four states, then of those within the next four.
-pub type ImageTable = [u16; 32];
+// The images of one set of states: under all transitions of a letter, then by those of each set.
+pub type Images = [u16; SETS + 1];
 
-// The tables of a letter: of all its transitions, then of those of each set.
-pub type LetterTables = [ImageTable; SETS + 1];
+// The table of a letter: the images of the sets within the lowest four states, then of those within the next four.
+pub type LetterTable = [Images; 32];
 
-// Maps of next states, one for each relation: all transitions, then those of each set.
-type NextMaps = [u16; SETS + 1];
-
-// The image of a set of states.
-pub fn look_up(table: &ImageTable, set: u16) -> u16
-    ensures { λ r. ⌜ r ≡ lookUp (now (table .entry)) set ⌝ }
+// The image of a set of states: under all transitions for relation 0, by those of set i for relation i.
+pub fn look_up(table: &LetterTable, relation: usize, set: u16) -> u16
+    requires { ⌜ relation ≤ maxSets ⌝ }
+    ensures { λ r. ⌜ r ≡ lookUp (now (table .entry)) relation set ⌝ }
 {
     let s = set as usize;
-    table[s % 16] | table[16 + s / 16 % 16]
+    table[s % 16][relation] | table[16 + s / 16 % 16][relation]
 }
 
-// A next state joined to the maps of its transition's relations: bit 0 of `relations` for all transitions, bit i for set i.
-fn with_next(maps: NextMaps, sets: u8, next: usize) -> NextMaps
-    requires { ⌜ next < maxStates ⌝ }
-    ensures { λ r. ⌜ r ≡ withNext maps (1 + 2 * sets) next ⌝ }
+// The relations of a grid's byte: bit 0 for all transitions, bit i for set i.
+fn relations_of(sets: u8) -> u16
+    ensures { λ r. ⌜ r ≡ relationsOf sets ⌝ }
 {
-    let relations = 1 + 2 * (sets as u16);
-    let mut joined = maps;
-    let mut i = 0usize;
-    while i < SETS + 1 {
-        joined[i] = maps[i] | (((relations >> i) % 2) << next);
-        i += 1;
+    if sets == NO_TRANSITION {
+        0
+    } else {
+        1 + 2 * (sets as u16)
     }
-    joined
 }
 
-// The maps of next states of a row.
-fn row_maps(row: Row) -> NextMaps
-    ensures { λ r. ⌜ r ≡ rowMaps maxStates row ⌝ }
+// The map of a row's next states by one relation. No branch on a transition: this is what makes it fast. A lent array made a
+// slice has a length that the proof is told.
+fn next_states(row: &Row, relation: usize) -> u16
+    requires { ⌜ relation ≤ maxSets ⌝ }
+    ensures { λ r. ⌜ r ≡ nextStates maxStates (now (row .entry)) relation ⌝ }
 {
-    let mut maps = [0u16; SETS + 1];
+    let sets: &[u8] = row;
+    let mut map = 0u16;
     let mut next = 0usize;
     while next < STATES {
-        let sets = row[next];
-        if sets != NO_TRANSITION {
-            let joined = with_next(maps, sets, next);
-            maps = joined;
-        }
+        map = map | (((relations_of(sets[next]) >> relation) % 2) << next);
         next += 1;
     }
-    maps
+    map
 }
 
-// The maps of next states of a letter, by state.
-fn square_maps(square: &Square) -> [NextMaps; STATES]
-    ensures { λ r. ⌜ r ≡ squareMaps (now (square .entry)) ⌝ }
+// The maps of a row's next states: the images of the set of its state alone.
+fn row_maps(row: &Row) -> Images
+    ensures { λ r. ⌜ r ≡ rowMaps (now (row .entry)) ⌝ }
 {
-    let mut maps = [[0u16; SETS + 1]; STATES];
-    let mut q = 0usize;
-    while q < STATES {
-        maps[q] = row_maps(square[q]);
-        q += 1;
+    let mut maps = [0u16; SETS + 1];
+    let mut i = 0usize;
+    while i < SETS + 1 {
+        maps[i] = next_states(row, i);
+        i += 1;
     }
     maps
 }
 
-// The entries of the sets with highest state q in each half: q's map joined to the entry of the set without q.
-fn add_state(table: &mut ImageTable, maps: &[NextMaps; STATES], relation: usize, q: usize)
-    requires { ⌜ (relation ≤ maxSets) × ((q < 4) × Filled (mapsOf (now maps) relation) (2 ^ q) (now table)) ⌝ }
-    ensures { λ _. ⌜ Filled (mapsOf (now (maps .entry)) relation) (2 ^ suc q) (now (table .exit)) ⌝ }
+// The images of the union of two sets from theirs.
+fn joined(a: Images, b: Images) -> Images
+    ensures { λ r. ⌜ r ≡ joined a b ⌝ }
 {
-    let low = maps[q][relation];
-    let high = maps[4 + q][relation];
+    let mut both = a;
+    let mut i = 0usize;
+    while i < SETS + 1 {
+        both[i] = a[i] | b[i];
+        i += 1;
+    }
+    both
+}
+
+// The entries of the sets with highest state q in each half: q's images joined to the entry of the set without q.
+fn add_state(table: &mut LetterTable, square: &Square, q: usize)
+    requires { ⌜ (q < 4) × Filled (now square) (2 ^ q) (now table) ⌝ }
+    ensures { λ _. ⌜ Filled (now (square .entry)) (2 ^ suc q) (now (table .exit)) ⌝ }
+{
+    let low = row_maps(&square[q]);
+    let high = row_maps(&square[4 + q]);
     let made = 1usize << q;
     let mut j = 0usize;
     while j < made {
-        let low_image = table[j] | low;
-        let high_image = table[16 + j] | high;
         let set = made + j;
-        table[set] = low_image;
-        table[16 + set] = high_image;
+        table[set] = joined(table[j], low);
+        table[16 + set] = joined(table[16 + j], high);
         j += 1;
     }
 }
 
-// The table of one relation: each state doubles the entries of both halves.
-fn image_table(maps: &[NextMaps; STATES], relation: usize) -> ImageTable
-    requires { ⌜ relation ≤ maxSets ⌝ }
-    ensures { λ r. ⌜ r ≡ unionTable (mapsOf (now (maps .entry)) relation) ⌝ }
+// The table of a letter, made in place: each state doubles the entries of both halves.
+pub fn fill_table(square: &Square, table: &mut LetterTable)
+    ensures { λ _. ⌜ now (table .exit) ≡ letterTable (now (square .entry)) ⌝ }
 {
-    let mut table = [0u16; 32];
+    let entries: &mut [Images] = table;
+    entries[0] = [0u16; SETS + 1];
+    entries[16] = [0u16; SETS + 1];
     let mut q = 0usize;
     while q < 4 {
-        add_state(&mut table, maps, relation, q);
+        add_state(table, square, q);
         q += 1;
     }
-    table
-}
-
-// The tables of a letter; a letter that the cells do not have leads nowhere.
-pub fn letter_tables(cells: &Cells, letter: usize) -> LetterTables
-    ensures { λ r. ⌜ r ≡ letterTables (now (cells .entry)) letter ⌝ }
-{
-    let squares: &[Square] = cells;
-    let mut tables = [[0u16; 32]; SETS + 1];
-    if letter >= squares.len() {
-        return tables;
-    }
-    let maps = square_maps(&squares[letter]);
-    let mut i = 0usize;
-    while i < SETS + 1 {
-        tables[i] = image_table(&maps, i);
-        i += 1;
-    }
-    tables
 }

@@ -3,6 +3,8 @@ pub mod StartCall
 pub mod StepCall
 -- One letter in one pass over the rows.
 pub mod StepOfRows
+-- The rows as words.
+pub mod PackedWords
 pub mod Levels
 pub mod PassSteps
 pub mod PassLoop

@@ -4,40 +4,30 @@ use mathlib.Core.Path.{_≡_, refl, sym, _∙_, ap}
 use mathlib.Core.Logic.{_⊎_, ⊎-elim}
 use mathlib.Core.Bool.{Bool, false, cond}
 use mathlib.Core.List.{List, [], _∷_, _++_, append-nil}
-use Prim.Native.Nat.{ℕ, suc, _+_, _*_, _-_, _≤_, _<_}
+use Prim.Native.Nat.{ℕ, zero, suc, _+_, _*_, _-_, _≤_, _<_}
 use native.Mathlib.Omega.{arith}
-use native.Mathlib.Decide.{decLt}
+use native.Mathlib.Decide.{decLt, ℕ-discrete}
 use native.Mathlib.Numerals.{add-one}
 use borrow.Author.Tests.{lt-ltb, le-ltb, eq-eqb, ne-eqb}
 use lib.Dec.{eqb, ltb}
-use lib.ListN.{length, getD, set, take, drop, replicate, length-set, length-take, take-append-drop, drop-of-length-le}
-use lib.Seq.{drop-cons, getD-take, take-suc-set, drop-set-lt, length-take-le}
+use lib.ListN.{length, getD, set, take, drop, length-set, length-take, drop-of-length-le}
+use lib.Seq.{drop-cons, getD-take, getD-set-same, getD-set-other, take-suc-set, drop-drop, drop-set-lt, length-take-le}
 use Rattle.table.specs.Limits.{maxStates, maxSets}
-use Rattle.tree.specs.Pass.{blankRow, SetsFit, tableImage, metBy, sproutRow, settledRow, written, joinedIf, Level, deepest}
-use Rattle.tree.specs.Pass.{Pass, metRow, passOver, atStart, steppedOf, levelsOf, ByDepth, Entered}
+use Rattle.tree.specs.Pass.{blankRow, SetsFit, tableImage, metBy, sproutRow, settledRow, written, joinedIf, Level, outermost, deepest}
+use Rattle.tree.specs.Pass.{Pass, metRow, passOver, atStart, steppedRows, levelsOf, ByDepth, Entered}
+use Rattle.tree.specs.PackedRows.{unpacked, rowsIn}
+use Rattle.tree.specs.Sides.{rowsOn, TwoSides, Steppable, Stepping}
 use Rattle.tree.specs.declared.rows.Row.{Row}
 use Rattle.tree.specs.declared.step.Met.{Met}
 use Rattle.tree.proofs.Levels.{levels-length}
+use Rattle.tree.proofs.PackedWords.{row-in, rows-set, rows-length}
 use Rattle.tree.proofs.PassSteps.{Closes, sproutOfLevel, none-closed, pass-closes, pass-skips, pass-meets}
 
 -- ROWS IN AN ARRAY
 
--- one more row behind the first j; the others are still blank
-record Grew (out : List Row) (j : ℕ) (x : Row) : Type 0 where
-  size : length (set out j x) ≡ 2 * maxStates
-  clean : drop (j + 1) (set out j x) ≡ replicate (2 * maxStates - (j + 1)) blankRow
-  front : take (j + 1) (set out j x) ≡ take j out ++ (x ∷ [])
-
-grew : (out : List Row) (j : ℕ) (x : Row) → j < 2 * maxStates → length out ≡ 2 * maxStates
-    → drop j out ≡ replicate (2 * maxStates - j) blankRow → Grew out j x
-grew out j x room size clean = record {
-  size = length-set out j x ∙ size;
-  clean = (let e : 2 * maxStates - j ≡ suc (2 * maxStates - suc j) = omega arith in
-      let tail : getD out j blankRow ∷ drop (suc j) out ≡ blankRow ∷ replicate (2 * maxStates - suc j) blankRow =
-      sym (drop-cons out j blankRow (omega arith)) ∙ clean ∙ ap (λ (n : ℕ). replicate n blankRow) e in
-      rw (add-one, drop-set-lt (suc j) out j x (omega arith)) (cc));
-  front = rw (add-one, take-suc-set out j x (omega arith));
-}
+-- one more row behind the first j
+row-written : (out : List Row) (j : ℕ) (x : Row) → j < length out → take (j + 1) (set out j x) ≡ take j out ++ (x ∷ [])
+row-written out j x room = rw (add-one, take-suc-set out j x room)
 
 -- the rows from i on, of the first `count`: one, with those behind it, or none
 left-some : (rows : List Row) (count i : ℕ) → i < count → count ≤ length rows
@@ -67,6 +57,10 @@ deepest-is : (top : ℕ) (taken sprout : List ℕ) (named : List Bool) → deepe
 unfolding levelsOf deepest
 deepest-is top taken sprout named = refl
 
+-- lists that are the same from a place on are the same from the next on
+drop-more : (a b : List ℕ) (j : ℕ) → drop j a ≡ drop j b → drop (suc j) a ≡ drop (suc j) b
+drop-more a b j e = rw (← add-one j) (sym (drop-drop 1 j a) ∙ ap (drop 1) e ∙ drop-drop 1 j b)
+
 -- THE LOOP
 
 -- what the code's variables hold
@@ -79,8 +73,8 @@ module _ (tables : List (List ℕ)) (k count : ℕ) (rows : List Row) where
   abbrev whole : Pass
   whole = passOver (tableImage tables) k 0 atStart (take count rows)
 
-  -- the loop's variables: rows read, levels open and rows written keep within bounds; places not written are blank; and the
-  -- pass from here over the rows left is the pass over all rows
+  -- the loop's variables: rows read, levels open and rows written keep within bounds; and the pass from here over the rows left
+  -- is the pass over all rows
   pub record Reading (out : List Row) (taken sprout : List ℕ) (named : List Bool) (accepting stable top i j : ℕ) : Type 0 where
     pub few : count ≤ maxStates
     pub long : length rows ≡ 2 * maxStates
@@ -89,7 +83,6 @@ module _ (tables : List (List ℕ)) (k count : ℕ) (rows : List Row) where
     pub fewer : j + top ≤ 2 * i
     pub by-depth : ByDepth taken sprout named
     pub size : length out ≡ 2 * maxStates
-    pub clean : drop j out ≡ replicate (2 * maxStates - j) blankRow
     pub rest : passOver (tableImage tables) k i (passAt out taken sprout named accepting stable top j) (drop i (take count rows))
         ≡ passOver (tableImage tables) k 0 atStart (take count rows)
 
@@ -133,23 +126,21 @@ module _ (tables : List (List ℕ)) (k count : ℕ) (rows : List Row) where
         fewer = omega (arith, v .fewer);
         by-depth = v .by-depth;
         size = v .size;
-        clean = v .clean;
         rest = rw open-levels (rw (← made, eq-eqb (s .label) 0 gone, append-nil (take j out)) at (closed h));
       }
 
       -- the sprouted child is written
       pub close-some : (s .label ≡ 0 → ⊥) → Reading (set out j s) taken sprout named accepting stable (top - 1) i (j + 1)
       unfolding written
-      close-some stays = let g = grew out j s (omega (arith, v .fewer, v .within, v .few)) (v .size) (v .clean) in record {
+      close-some stays = let room : j < length out = omega (arith, v .fewer, v .within, v .few, v .size) in record {
         few = v .few;
         long = v .long;
         within = v .within;
         shallow = omega (arith, v .shallow);
         fewer = omega (arith, v .fewer);
         by-depth = v .by-depth;
-        size = g .size;
-        clean = g .clean;
-        rest = rw (open-levels, g .front) (rw (← made, ne-eqb (s .label) 0 stays) at (closed h));
+        size = length-set out j s ∙ v .size;
+        rest = rw (open-levels, row-written out j s room) (rw (← made, ne-eqb (s .label) 0 stays) at (closed h));
       }
 
     -- else the next row is read: the row x, with some behind it
@@ -179,7 +170,6 @@ module _ (tables : List (List ℕ)) (k count : ℕ) (rows : List Row) where
         fewer = omega (arith, v .fewer);
         by-depth = v .by-depth;
         size = v .size;
-        clean = v .clean;
         rest = rw (add-one i) (sym (pass-skips (tableImage tables) k i now x behind
             (rw (levels-length (suc top) taken sprout named) (omega arith))) ∙ opened);
       }
@@ -204,7 +194,6 @@ module _ (tables : List (List ℕ)) (k count : ℕ) (rows : List Row) where
           fewer = omega (arith, v .fewer, in-arrays .deeper);
           by-depth = in-arrays .sizes;
           size = v .size;
-          clean = v .clean;
           rest = rw (add-one i, in-arrays .levels) (rw (eq-eqb (m .label) 0 gone) at met-pass);
         }
 
@@ -214,29 +203,130 @@ module _ (tables : List (List ℕ)) (k count : ℕ) (rows : List Row) where
             → Reading (set out j y) taken′ sprout′ named′ accepting′ stable′ next (i + 1) (j + 1)
         unfolding metRow
         row-kept stays y settled accepting′ stable′ accepts keeps =
-            let g = grew out j y (omega (arith, v .fewer, v .few)) (v .size) (v .clean) in record {
+            let room : j < length out = omega (arith, v .fewer, v .few, v .size) in record {
               few = v .few;
               long = v .long;
               within = omega arith;
               shallow = omega (arith, v .shallow, in-arrays .deeper);
               fewer = omega (arith, v .fewer, in-arrays .deeper);
               by-depth = in-arrays .sizes;
-              size = g .size;
-              clean = g .clean;
-              rest = rw (add-one i, in-arrays .levels, g .front, settled, accepts, keeps)
+              size = length-set out j y ∙ v .size;
+              rest = rw (add-one i, in-arrays .levels, row-written out j y room, settled, accepts, keeps)
                   (rw (ne-eqb (m .label) 0 stays, deepest-is top taken sprout named) at met-pass);
             }
 
   -- where the loop ends the pass is over
   pub pass-over : {out : List Row} {taken sprout : List ℕ} {named : List Bool} {accepting stable top i j : ℕ}
       → Reading out taken sprout named accepting stable top i j → count ≤ i → top ≤ 0
-      → record { rows = out; count = j; accepting = accepting; stable = stable }
-      ≡ steppedOf (passOver (tableImage tables) k 0 atStart (take count rows))
-  unfolding steppedOf passOver
+      → passAt out taken sprout named accepting stable top j ≡ whole
+  unfolding passOver
   pass-over {out} {taken} {sprout} {named} {accepting} {stable} {top} {i} {j} v end bottom =
-      let n : length (take j out) ≡ j = length-take-le j out (omega (arith, v .size, v .fewer, v .within, v .few)) in
-      let last : passAt out taken sprout named accepting stable top j ≡ whole =
       sym (none-closed 0 _ (rw (levels-length (suc top) taken sprout named) (omega arith)))
-      ∙ (rw (left-none rows count i end) at (v .rest)) in
-      let split : take j out ++ replicate (2 * maxStates - j) blankRow ≡ out = rw (← v .clean) (take-append-drop j out) in
-      rw (← last, n, split)
+      ∙ (rw (left-none rows count i end) at (v .rest))
+
+-- ON TWO SIDES
+
+-- two arrays side by side
+pub two-sides : (words other : List ℕ) → length words ≡ 2 * maxStates → length other ≡ 2 * maxStates → TwoSides (words ∷ other ∷ [])
+two-sides words other long-words long-other = record { two = refl; long = both }
+  where
+    both : (side : ℕ) → side < 2 → length (getD (words ∷ other ∷ []) side []) ≡ 2 * maxStates
+    both zero h = long-words
+    both (suc zero) h = long-other
+    both (suc (suc side)) h = absurd (omega arith)
+
+module _ (tables : List (List ℕ)) (k count from : ℕ) (before : List (List ℕ)) where
+  -- the loop reads the rows of one side and writes those of the other; words not written are as they were
+  pub record OnSides (sides : List (List ℕ)) (taken sprout : List ℕ) (named : List Bool) (accepting stable top i j : ℕ) : Type 0 where
+    pub side : from < 2
+    pub arrays : TwoSides sides
+    pub kept : getD sides from [] ≡ getD before from []
+    pub behind : drop j (getD sides (1 - from) []) ≡ drop j (getD before (1 - from) [])
+    pub reading : Reading tables k count (rowsIn (getD before from [])) (rowsIn (getD sides (1 - from) [])) taken sprout named
+        accepting stable top i j
+
+  -- before the first row
+  pub sides-start : Steppable before from count → (taken sprout : List ℕ) (named : List Bool) → ByDepth taken sprout named
+      → levelsOf 1 taken sprout named ≡ outermost ∷ [] → OnSides before taken sprout named 0 0 0 0 0
+  sides-start ready taken sprout named sizes top-level =
+      let one = ready .side in
+      record {
+        side = ready .side;
+        arrays = ready .arrays;
+        kept = refl;
+        behind = refl;
+        reading = record {
+          few = ready .few;
+          long = rows-length (getD before from []) ∙ ready .arrays .long from one;
+          within = omega arith;
+          shallow = omega arith;
+          fewer = omega arith;
+          by-depth = sizes;
+          size = rows-length (getD before (1 - from) []) ∙ ready .arrays .long (1 - from) (omega arith);
+          rest = rw top-level;
+        };
+      }
+
+  module _ {sides : List (List ℕ)} {taken sprout : List ℕ} {named : List Bool} {accepting stable top i j : ℕ}
+      (v : OnSides sides taken sprout named accepting stable top i j) where
+    -- the row that is read
+    pub row-read : (x : Row) → x ≡ unpacked (getD (getD sides from []) i 0) → x ≡ getD (rowsIn (getD before from [])) i blankRow
+    row-read x is = is ∙ ap (λ (words : List ℕ). unpacked (getD words i 0)) (v .kept) ∙ sym (row-in (getD before from []) i)
+
+    -- no row is written, whatever else has changed
+    pub sides-kept : {taken′ sprout′ : List ℕ} {named′ : List Bool} {top′ i′ : ℕ}
+        → Reading tables k count (rowsIn (getD before from [])) (rowsIn (getD sides (1 - from) [])) taken′ sprout′ named′
+        accepting stable top′ i′ j → OnSides sides taken′ sprout′ named′ accepting stable top′ i′ j
+    sides-kept r = record { side = v .side; arrays = v .arrays; kept = v .kept; behind = v .behind; reading = r }
+
+    -- a word written leaves the sides as long as they were
+    still-long : (word side : ℕ) → side < 2 → length (getD (set sides (1 - from) (set (getD sides (1 - from) []) j word)) side []) ≡ 2 * maxStates
+    still-long word side h = go (ℕ-discrete side (1 - from))
+      where
+        go : Dec (side ≡ 1 - from)
+            → length (getD (set sides (1 - from) (set (getD sides (1 - from) []) j word)) side []) ≡ 2 * maxStates
+        go (yes e) = rw (
+          e,
+          getD-set-same sides (1 - from) (set (getD sides (1 - from) []) j word) [] (omega (arith, v .arrays .two)),
+          length-set (getD sides (1 - from) []) j word,
+        ) (v .arrays .long (1 - from) (omega arith))
+        go (no e) = rw (getD-set-other sides (1 - from) side (set (getD sides (1 - from) []) j word) [] e) (v .arrays .long side h)
+
+    -- a row is written
+    pub sides-written : {taken′ sprout′ : List ℕ} {named′ : List Bool} {accepting′ stable′ top′ i′ : ℕ} (x : Row) (word : ℕ)
+        → unpacked word ≡ x
+        → Reading tables k count (rowsIn (getD before from [])) (set (rowsIn (getD sides (1 - from) [])) j x) taken′ sprout′ named′
+        accepting′ stable′ top′ i′ (j + 1)
+        → OnSides (set sides (1 - from) (set (getD sides (1 - from) []) j word)) taken′ sprout′ named′ accepting′ stable′ top′ i′ (j + 1)
+    sides-written x word is r =
+        let one = v .side in
+        let two = v .arrays .two in
+        let other : getD (set sides (1 - from) (set (getD sides (1 - from) []) j word)) (1 - from) [] ≡ set (getD sides (1 - from) []) j word =
+        getD-set-same sides (1 - from) _ [] (omega arith) in
+        record {
+          side = v .side;
+          arrays = record { two = length-set sides (1 - from) _ ∙ two; long = still-long word };
+          kept = getD-set-other sides (1 - from) from _ [] (λ e. omega arith) ∙ v .kept;
+          behind = rw (other, add-one) (drop-set-lt (suc j) (getD sides (1 - from) []) j word (omega arith)
+              ∙ drop-more (getD sides (1 - from) []) (getD before (1 - from) []) j (v .behind));
+          reading = rw (other, rows-set (getD sides (1 - from) []) j word, is) r;
+        }
+
+    -- at the end
+    pub sides-done : count ≤ i → top ≤ 0
+        → Stepping (steppedRows tables k (rowsOn before from count)) from before (record { count = j; accepting = accepting; stable = stable }) sides
+    unfolding steppedRows
+    sides-done end bottom =
+        let p = pass-over tables k count (rowsIn (getD before from [])) (v .reading) end bottom in
+        let out : List Row = rowsIn (getD sides (1 - from) []) in
+        let r = v .reading in
+        let front : take j out ≡ passOver (tableImage tables) k 0 atStart (rowsOn before from count) .rows = ap (λ (q : Pass). q .rows) p in
+        record {
+          arrays = v .arrays;
+          rows = front;
+          count = sym (length-take-le j out (omega (arith, r .size, r .fewer, r .within, r .few))) ∙ ap length front;
+          accepting = ap (λ (q : Pass). q .accepting) p;
+          stable = ap (λ (q : Pass). q .stable) p;
+          kept = v .kept;
+          behind = v .behind;
+        }

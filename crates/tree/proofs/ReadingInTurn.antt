@@ -129,10 +129,11 @@ rows-start label marks rows held few = record { upto = omega arith; held = held;
 module _ {label : ℕ → ℕ → ℕ} {marks : List ℕ} {rows : List Row} {node : ℕ} (v : RowsSoFar label marks rows node) where
   pub rows-next : node < length marks → (own kids count : ℕ) (behind : List ℕ) → behind ≡ drop (node + 1) marks
       → count ≡ deeper (getD marks node 0 / 16) behind → own ≡ label node (node + 1 + count) → kids ≡ label (node + 1) (node + 1 + count)
-      → RowsSoFar label marks
-      (set rows node (record { depth = getD marks node 0 / 16; label = own; kids = kids; active = getD marks node 0 % 16; old = 0 })) (node + 1)
+      → (after : List Row) → after ≡ set rows node
+      (record { depth = getD marks node 0 / 16; label = own; kids = kids; active = getD marks node 0 % 16; old = 0 })
+      → RowsSoFar label marks after (node + 1)
   unfolding rowsOfMarks
-  rows-next h own kids count behind b e f g = rw (add-one node) (record {
+  rows-next h own kids count behind b e f g after made = rw (made, add-one node) (record {
     upto = h;
     held = rw length-set (v .held);
     few = v .few;

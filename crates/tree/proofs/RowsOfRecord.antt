@@ -16,7 +16,8 @@ use Rattle.history.specs.Tree.{Node, Tree, isTree}
 use Rattle.history.specs.Record.{host, members, marks, recordOf, hostedIn, decoded, readTree}
 use Rattle.history.specs.RecordChecks.{recordChecks}
 use Rattle.tree.specs.Rows.{rowsFrom, rowsOf, withoutOld}
-use Rattle.tree.specs.RecordRows.{deeper, rowsOfMarks}
+use Rattle.tree.specs.PackedRows.{rowsIn}
+use Rattle.tree.specs.RecordRows.{places, deeper, rowsOfMarks}
 use Rattle.tree.specs.RecordCode.{Checks}
 use Rattle.tree.specs.declared.rows.Row.{Row}
 use Rattle.tree.specs.declared.record.Count.the-variants.{Nodes, Refused}
@@ -185,19 +186,19 @@ module _ (n k : ℕ) (bytes : List ℕ) (h : k < 16) where
         rw (is, is′) (P .small, (omega (arith, P .many), omega (arith, P .nodes, few-nodes n k (decoded n bytes) (is-record .0))))
 
   -- what is answered for them, and for bytes that do not pass
-  pub checked-yes : recordChecks n k bytes ≡ true → (hosts left : List ℕ) (rows : List Row)
+  pub checked-yes : recordChecks n k bytes ≡ true → (hosts left words : List ℕ)
       → hosts ≡ take (ones states) (drop 1 bytes) → left ≡ drop (1 + ones states) bytes
-      → take (length left) rows ≡ rowsOfMarks (hostedIn n states hosts) 0 left
-      → Checks (readTree n k bytes) (record { count = Nodes (length bytes - (1 + ones states)); tree = record { rows = rows } })
+      → take (length left) (rowsIn words) ≡ rowsOfMarks (hostedIn n states hosts) 0 left → length words ≡ places
+      → Checks (readTree n k bytes) (record { count = Nodes (length bytes - (1 + ones states)); tree = record { rows = words } })
   unfolding rowsOf
-  checked-yes passed hosts left rows is is′ made =
+  checked-yes passed hosts left words is is′ made long =
       let P = parts passed .1 in
       let nodes : length left ≡ size (decoded n bytes) = ap length is′ ∙ P .nodes in
-      let built : take (length left) rows ≡ rowsOf (decoded n bytes) =
+      let built : take (length left) (rowsIn words) ≡ rowsOf (decoded n bytes) =
       made ∙ ap₂ (λ (u v : List ℕ). rowsOfMarks (hostedIn n states u) 0 v) is is′ ∙ P .rows in
       rw (read-by-checks n k bytes h, passed) (
         ap Nodes (sym (length-drop (1 + ones states) bytes) ∙ P .nodes),
-        ap (λ (c : ℕ). map withoutOld (take c rows)) (sym nodes) ∙ ap (map withoutOld) built ∙ without-old 0 (decoded n bytes),
+        (ap (λ (c : ℕ). map withoutOld (take c (rowsIn words))) (sym nodes) ∙ ap (map withoutOld) built ∙ without-old 0 (decoded n bytes), long),
       )
 
   pub checked-no : recordChecks n k bytes ≡ false → (tree : Code) → Checks (readTree n k bytes) (record { count = Refused; tree = tree })

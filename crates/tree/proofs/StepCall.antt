@@ -2,14 +2,14 @@
 -- from what the letter has made of the tree's rows.
 use mathlib.Core.Path.{_≡_, refl, sym, _∙_, ap}
 use mathlib.Core.Bool.{Bool, true, false}
-use mathlib.Core.List.{List}
-use Prim.Native.Nat.{ℕ, _≤_, _<_}
+use mathlib.Core.List.{List, [], _∷_}
+use Prim.Native.Nat.{ℕ, _*_, _≤_, _<_}
 use native.Mathlib.Omega.{arith}
 use borrow.Author.Tests.{le-leb, lt-leb, le-ltb, lt-ltb}
-use lib.ListN.{length, take}
+use lib.ListN.{length, getD, take}
 use Rattle.table.specs.Held.{held}
-use Rattle.table.specs.Limits.{maxStates, maxSets}
-use Rattle.table.specs.Lookup.{letterTables}
+use Rattle.table.specs.Limits.{maxStates, maxLetters, maxSets}
+use Rattle.table.specs.Lookup.{letterTable}
 use Rattle.table.specs.Outcome.{Outcome, refused, accepted, ask}
 use Rattle.table.specs.Rule.{Grid}
 use Rattle.table.specs.Storing.{stored}
@@ -20,10 +20,12 @@ use Rattle.history.specs.Forest.{size}
 use Rattle.history.specs.Tree.{Tree, isTree}
 use Rattle.history.specs.Letter.{nextTree}
 use Rattle.history.specs.Record.{recordOf, decoded, isRecord, readTree}
+use Rattle.tree.specs.PackedRows.{rowsIn}
 use Rattle.tree.specs.RecordCode.{Checks}
 use Rattle.tree.specs.Rows.{AreRows, StepsTo}
-use Rattle.tree.specs.Pass.{SetsFit, steppedRows}
-use Rattle.tree.specs.RecordRows.{rowsRecord, Recordable}
+use Rattle.tree.specs.Pass.{steppedRows}
+use Rattle.tree.specs.Sides.{rowsOn, Steppable, Stepping}
+use Rattle.tree.specs.RecordRows.{places, rowsRecord, Recordable}
 use Rattle.tree.specs.TreeCalls.{recordRoom, stepOutcome, stepAnswer, stepAfter}
 use Rattle.tree.specs.declared.calls.StepAnswer.{StepAnswer}
 use Rattle.tree.specs.declared.record.Count.the-variants.{Nodes, Refused}
@@ -32,6 +34,7 @@ use Rattle.tree.specs.declared.rows.Row.{Row}
 use Rattle.tree.specs.declared.rows.Stepped.{Stepped}
 use Rattle.history.proofs.QuestionNine.{record-accepted}
 use Rattle.history.proofs.TreesKept.{next-is-tree, few-nodes}
+use Rattle.tree.proofs.PassLoop.{two-sides}
 use Rattle.tree.proofs.StepOfRows.{sets-fit, steps-to, step-again}
 use Rattle.tree.proofs.RecordOfRows.{record-of-rows, rows-recordable}
 
@@ -48,11 +51,12 @@ step-refused table a bytes before number is answer e = rw is (e, refl)
 -- QUESTION 9
 
 -- the tree behind a check's answer yes: its number of nodes, and its rows
-pub record TreeRead (n k : ℕ) (bytes : List ℕ) (count : ℕ) (rows : List Row) : Type 0 where
+pub record TreeRead (n k : ℕ) (bytes : List ℕ) (count : ℕ) (words : List ℕ) : Type 0 where
   pub tree : Tree
   pub reads : readTree n k bytes ≡ accepted tree
   pub nodes : count ≡ size tree
-  pub are : AreRows (take count rows) tree
+  pub are : AreRows (take count (rowsIn words)) tree
+  pub long : length words ≡ places
   pub fits : isTree n k tree ≡ true
 
 module _ (n k : ℕ) (bytes : List ℕ) (checked : Checked) (c : Checks (readTree n k bytes) checked) where
@@ -71,8 +75,8 @@ module _ (n k : ℕ) (bytes : List ℕ) (checked : Checked) (c : Checks (readTre
     where
       go : (o : Outcome Tree) → readTree n k bytes ≡ o → Checks o checked → TreeRead n k bytes count (checked .tree .rows)
       go (refused number) is h = let z : _≡_ {A = ℕ} 0 1 = cc in absurd (omega arith)
-      go (accepted T) is (many, rows) = let nodes : count ≡ size T = cc in
-          record { tree = T; reads = is; nodes = nodes; are = rw nodes rows; fits = record-accepted n k bytes T is .0 }
+      go (accepted T) is (many, (rows, long)) = let nodes : count ≡ size T = cc in
+          record { tree = T; reads = is; nodes = nodes; are = rw nodes rows; long = long; fits = record-accepted n k bytes T is .0 }
 
 -- THE CALL
 
@@ -88,6 +92,10 @@ module _ (table : List ℕ) (a : ℕ) (bytes before : List ℕ) (header : Header
   step-no-letter h answer e = let h′ = rw (v .numbers) at h in rw (v .reads, le-ltb _ _ h′) (e, refl)
 
   module _ (letter : a < header .letters) where
+    -- a letter of the rule has its square in the arrays
+    pub letter-fits : a < maxLetters
+    letter-fits = omega (arith, v .range .letters, ap (λ (x : Header). x .letters) (v .numbers))
+
     below : a < v .rule .letters
     below = rw (v .numbers) at letter
 
@@ -97,7 +105,7 @@ module _ (table : List ℕ) (a : ℕ) (bytes before : List ℕ) (header : Header
     unfolding stepOutcome stepAfter
     step-no-tree is answer e = let none = rw (v .numbers) at is in rw (v .reads, lt-ltb _ _ below, none) (e, refl)
 
-    module _ (count : ℕ) (rows : List Row) (w : TreeRead (header .states) (header .sets) bytes count rows) where
+    module _ (count : ℕ) (words : List ℕ) (w : TreeRead (header .states) (header .sets) bytes count words) where
       -- question 10
       pub step-no-room : length before < recordRoom → (answer : StepAnswer) → answer ≡ stepAnswer (refused 10)
           → Done table a bytes before answer before
@@ -108,45 +116,53 @@ module _ (table : List ℕ) (a : ℕ) (bytes before : List ℕ) (header : Header
       tree-fits : isTree (v .rule .states) (v .rule .sets) (w .tree) ≡ true
       tree-fits = rw (v .numbers) at (w .fits)
 
-      -- the letter can be read from the tree's rows, and its tables are those of the rule
-      pub step-ready : (count ≤ maxStates) × SetsFit (take count rows)
-      step-ready = (
-        omega (arith, w .nodes, few-nodes (v .rule .states) (v .rule .sets) (w .tree) tree-fits, v .range .states),
-        sets-fit (v .rule .states) (v .rule .sets) (take count rows) (w .tree) (v .range .sets) tree-fits (w .are),
-      )
+      -- the letter can be read from the tree's rows on the first side,
+      pub step-ready : (other : List ℕ) → length other ≡ 2 * maxStates → Steppable (words ∷ other ∷ []) 0 count
+      step-ready other long-other = record {
+        arrays = two-sides words other (w .long) long-other;
+        side = omega arith;
+        few = omega (arith, w .nodes, few-nodes (v .rule .states) (v .rule .sets) (w .tree) tree-fits, v .range .states);
+        fits = sets-fit (v .rule .states) (v .rule .sets) (take count (rowsIn words)) (w .tree) (v .range .sets) tree-fits (w .are);
+      }
 
-      pub step-taken : (tables : List (List ℕ)) (stepped : Stepped) → tables ≡ letterTables cells a
-          → stepped ≡ steppedRows tables (header .sets) (take count rows)
-          → StepsTo (v .rule) a (w .tree) stepped × (stepped .count ≤ maxStates)
-      step-taken tables stepped by is =
-          let sets : v .rule .sets ≡ header .sets = ap (λ (x : Header). x .sets) (sym (v .numbers)) in
-          let of-rule : tables ≡ letterTables (held (v .rule .grid)) a = by ∙ ap (λ (g : Grid). letterTables g a) (v .holds) in (
-            steps-to tables (header .sets) (take count rows) stepped is (v .rule) a (w .tree) (v .well)
-                (v .range .states) (v .range .sets) sets tree-fits of-rule (w .are),
-            step-again tables (header .sets) (take count rows) stepped is (v .rule) a (w .tree) (v .well)
-                (v .range .states) (v .range .sets) sets tree-fits of-rule (w .are) (v .range .some-set) .0,
-          )
+      -- and its table is the rule's: so the next tree is on the second
+      module _ (table′ : List (List ℕ)) (sides after : List (List ℕ)) (r : Stepped) (by : table′ ≡ letterTable (getD cells a []))
+          (step : Stepping (steppedRows table′ (header .sets) (take count (rowsIn words))) 0 sides r after) where
+        sets : v .rule .sets ≡ header .sets
+        sets = ap (λ (x : Header). x .sets) (sym (v .numbers))
 
-      next-fits : isTree (v .rule .states) (v .rule .sets) (nextTree (v .rule) a (w .tree)) ≡ true
-      next-fits = next-is-tree (v .rule) (v .well) (v .range .some-set) a (w .tree) tree-fits
+        of-rule : table′ ≡ letterTable (getD (held (v .rule .grid)) a [])
+        of-rule = by ∙ ap (λ (g : Grid). letterTable (getD g a [])) (v .holds)
 
-      module _ (stepped : Stepped) (steps : StepsTo (v .rule) a (w .tree) stepped) where
-        -- the next tree's rows can be recorded
-        pub step-recordable : stepped .count ≤ maxStates → Recordable (header .states) (stepped .count) (stepped .rows)
-        step-recordable few = rw (v .numbers) (rows-recordable (v .rule .states) (v .rule .sets) (nextTree (v .rule) a (w .tree)) next-fits
-            (stepped .count) (stepped .rows) (steps .rows) (v .range .states) few (omega (arith, v .range .sets)))
+        pub step-taken : StepsTo (v .rule) a (w .tree) (rowsOn after 1 (r .count)) r
+        step-taken = steps-to table′ (header .sets) 0 (take count (rowsIn words)) sides after r step (v .rule) a (w .tree) (v .well)
+            (v .range .states) (v .range .sets) sets tree-fits of-rule (w .are)
+
+        next-again : Steppable after 1 (r .count)
+        next-again = step-again table′ (header .sets) 0 (take count (rowsIn words)) sides after r step (v .rule) a (w .tree) (v .well)
+            (v .range .states) (v .range .sets) sets tree-fits of-rule (w .are) (v .range .some-set) (omega arith)
+
+        next-fits : isTree (v .rule .states) (v .rule .sets) (nextTree (v .rule) a (w .tree)) ≡ true
+        next-fits = next-is-tree (v .rule) (v .well) (v .range .some-set) a (w .tree) tree-fits
+
+        -- its rows can be recorded
+        pub step-recordable : Recordable (header .states) (r .count) (rowsIn (getD after 1 [])) × (length (getD after 1 []) ≡ 2 * maxStates)
+        step-recordable = (
+          rw (v .numbers) (rows-recordable (v .rule .states) (v .rule .sets) (nextTree (v .rule) a (w .tree)) next-fits
+              (r .count) (rowsIn (getD after 1 [])) (step-taken .are) (v .range .states) (next-again .few) (omega (arith, v .range .sets))),
+          next-again .arrays .long 1 (omega arith),
+        )
 
         -- all questions are answered yes
-        pub step-done : recordRoom ≤ length before → (written : ℕ) (after : List ℕ)
-            → written ≡ length (rowsRecord (header .states) (take (stepped .count) (stepped .rows)))
-            → after ≡ stored 0 (rowsRecord (header .states) (take (stepped .count) (stepped .rows))) before
-            → Done table a bytes before
-            (record { number = 0; written = written; accepting = stepped .accepting; stable = stepped .stable }) after
+        pub step-done : recordRoom ≤ length before → (written : ℕ) (buffer : List ℕ)
+            → written ≡ length (rowsRecord (header .states) (rowsOn after 1 (r .count)))
+            → buffer ≡ stored 0 (rowsRecord (header .states) (rowsOn after 1 (r .count))) before
+            → Done table a bytes before (record { number = 0; written = written; accepting = r .accepting; stable = r .stable }) buffer
         unfolding stepOutcome stepAnswer stepAfter
-        step-done h written after e f =
-            let l : List Row = take (stepped .count) (stepped .rows) in
+        step-done h written buffer e f =
+            let l : List Row = rowsOn after 1 (r .count) in
             let same : rowsRecord (header .states) l ≡ recordOf (v .rule .states) (nextTree (v .rule) a (w .tree)) =
             ap (λ (x : Header). rowsRecord (x .states) l) (v .numbers)
-            ∙ record-of-rows (v .rule .states) (v .rule .sets) (nextTree (v .rule) a (w .tree)) next-fits l (steps .rows) in
+            ∙ record-of-rows (v .rule .states) (v .rule .sets) (nextTree (v .rule) a (w .tree)) next-fits l (step-taken .are) in
             let reads = rw (v .numbers) at (w .reads) in
-            rw (v .reads, lt-ltb _ _ below, reads, le-leb _ _ h, e, f, same, steps .accepting, steps .stable) (refl, refl)
+            rw (v .reads, lt-ltb _ _ below, reads, le-leb _ _ h, e, f, same, step-taken .accepting, step-taken .stable) (refl, refl)

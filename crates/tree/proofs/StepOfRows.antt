@@ -9,13 +9,12 @@ use native.Mathlib.Decide.{decLt}
 use native.Mathlib.Nat.{pow-suc}
 use lib.Bits.{or-lt}
 use lib.Dec.{eqb, ltb}
-use lib.ListN.{List·getD-eq-default, length, getD, take, replicate, length-map, length-append}
-use lib.Seq.{take-append-seam}
+use lib.ListN.{List·getD-eq-default, length, getD, length-map, length-append}
 use lib.Pow.{pow-pos}
 use Rattle.table.specs.Limits.{maxStates, maxSets}
-use Rattle.table.specs.Rule.{Rule, successors, successorsIn}
+use Rattle.table.specs.Rule.{Rule}
 use Rattle.table.specs.Table.{WellFormed}
-use Rattle.table.specs.Lookup.{letterTables}
+use Rattle.table.specs.Lookup.{letterTable}
 use Rattle.table.specs.Held.{held}
 use Rattle.table.proofs.LookupTable.{look-up-successors, look-up-successors-in}
 use Rattle.history.specs.Forest.{nil, node, size}
@@ -24,7 +23,8 @@ use Rattle.history.specs.Letter.{sprouted, survivors, nextTree}
 use Rattle.history.specs.OldNumbers.{noNode, oldNumber, oldNumbers}
 use Rattle.tree.specs.Rows.{rowsFrom, rowsOf, withoutOld, AreRows, StepsTo}
 use Rattle.tree.specs.Pass.{tableImage, metBy, joinedIf, settledRow, deepest, Pass, closedTo, metRow, readRow, passOver, atStart}
-use Rattle.tree.specs.Pass.{blankRow, SetsFit, steppedOf, steppedRows}
+use Rattle.tree.specs.Pass.{blankRow, SetsFit, steppedRows}
+use Rattle.tree.specs.Sides.{rowsOn, Steppable, Stepping}
 use Rattle.tree.specs.declared.rows.Row.{Row}
 use Rattle.tree.specs.declared.rows.Stepped.{Stepped}
 use Rattle.history.proofs.Conditions.{Fits, OneRoot, tree-out}
@@ -70,17 +70,6 @@ pass-below E k i p [] h = let e : i + 0 ≡ i = omega arith in rw e h
 pass-below E k i p (x ∷ rows) h = let e : i + suc (length rows) ≡ suc i + length rows = omega arith in
     rw e (pass-below E k (suc i) (readRow E k i x (closedTo (x .depth) p)) rows (read-below E k i x (closedTo (x .depth) p) h))
 
--- THE LETTER'S TABLES
-
-module _ (R : Rule) (well : WellFormed R) (small : R .states ≤ maxStates) (a : ℕ) where
-  table-all : (s : ℕ) → tableImage (letterTables (held (R .grid)) a) 0 s ≡ successors R a s
-  unfolding tableImage
-  table-all = look-up-successors R well small a
-
-  table-of : (i s : ℕ) → 1 ≤ i → i ≤ maxSets → tableImage (letterTables (held (R .grid)) a) i s ≡ successorsIn R i a s
-  unfolding tableImage
-  table-of i = look-up-successors-in R well small i a
-
 -- THE ROWS OF A TREE
 
 -- as many rows as nodes
@@ -120,7 +109,7 @@ pub active-sets : (n k : ℕ) (rows : List Row) (T : Tree) → isTree n k T ≡ 
 unfolding rowsOf
 active-sets n k rows T tree are = with-old k rows (rw are (actives-from k 0 T (tree-out n k T tree .fits)))
 
--- so the tables have entries for them
+-- so the table has images for them
 pub sets-fit : (n k : ℕ) (rows : List Row) (T : Tree) → k ≤ maxSets → isTree n k T ≡ true → AreRows rows T → SetsFit rows
 sets-fit n k rows T h tree are i = go (decLt i (length rows))
   where
@@ -130,19 +119,10 @@ sets-fit n k rows T h tree are i = go (decLt i (length rows))
 
 -- ONE LETTER
 
--- the rows that the answer counts are those written
-written-rows : (p : Pass) → take (steppedOf p .count) (steppedOf p .rows) ≡ p .rows
-unfolding steppedOf
-written-rows p = take-append-seam (p .rows) (replicate (2 * maxStates - length (p .rows)) blankRow)
-
-written-count : (p : Pass) → length (take (steppedOf p .count) (steppedOf p .rows)) ≡ steppedOf p .count
-unfolding steppedOf
-written-count p = ap length (written-rows p)
-
 module _ (R : Rule) (well : WellFormed R) (few-states : R .states ≤ maxStates) (few-sets : R .sets ≤ maxSets)
     (a : ℕ) (T : Tree) (tree : isTree (R .states) (R .sets) T ≡ true) where
   abbrev E : ℕ → ℕ → ℕ
-  E = tableImage (letterTables (held (R .grid)) a)
+  E = tableImage (letterTable (getD (held (R .grid)) a []))
 
   abbrev whole : Pass
   whole = passOver E (R .sets) 0 atStart (rowsOf T)
@@ -157,15 +137,16 @@ module _ (R : Rule) (well : WellFormed R) (few-states : R .states ≤ maxStates)
 
   -- the pass gives the nodes after the letter
   gives : Gives (oldNumber T) whole (survivors R a T)
+  unfolding tableImage
   gives = let t = tree-out (R .states) (R .sets) T tree in go T none (t .one-root) (t .fits) few
     where
       go : (F : Tree) → oldNumber F sprouted ≡ noNode → OneRoot F → Fits (R .sets) F → size F < noNode
           → Gives (oldNumber F) (passOver E (R .sets) 0 atStart (rowsOf F)) (survivors R a F)
-      go nil e one fits small = pass-dead R a E (oldNumber nil) e (table-all R well few-states a)
-          (λ i s low high. table-of R well few-states a i s low (omega arith))
+      go nil e one fits small = pass-dead R a E (oldNumber nil) e (look-up-successors R well few-states a)
+          (λ i s low high. look-up-successors-in R well few-states i a s low (omega arith))
       go (node x below nil) e one fits small = let (root, inner) = tree-numbered x below small in
-          pass-root R a E (oldNumber (node x below nil)) e (table-all R well few-states a)
-          (λ i s low high. table-of R well few-states a i s low (omega arith)) x below fits root inner
+          pass-root R a E (oldNumber (node x below nil)) e (look-up-successors R well few-states a)
+          (λ i s low high. look-up-successors-in R well few-states i a s low (omega arith)) x below fits root inner
       go (node x below (node y other younger)) e one fits small = absurd one
 
   -- the maps have no number past the last node's
@@ -175,36 +156,46 @@ module _ (R : Rule) (well : WellFormed R) (few-states : R .states ≤ maxStates)
       let e : 0 + length (rowsFrom 0 T) ≡ size T = omega (arith, rows-size 0 T) in
       subst (λ (n : ℕ). MapsBelow n whole) e (pass-below E (R .sets) 0 atStart (rowsFrom 0 T) (pow-pos 0, pow-pos 0))
 
-  -- so its answer is the letter's step
-  steps : StepsTo R a T (steppedOf whole)
-  unfolding steppedOf nextTree plainNode rowsOf oldNumbers
-  steps = let one = tree-out (R .states) (R .sets) T tree .one-root in record {
-    rows = ap (map withoutOld) (written-rows whole ∙ gives .rows) ∙ grown-rows (oldNumber T) 0 (survivors R a T);
-    olds = ap (map (λ x. x .old)) (written-rows whole ∙ gives .rows) ∙ grown-olds (oldNumber T) 0 (survivors R a T);
-    accepting = gives .accepting ∙ accepting-map R a T one few (rw (gives .accepting) at (maps-below .0));
-    stable = gives .stable ∙ stable-map R a T one few (rw (gives .stable) at (maps-below .1));
+  -- so an answer that counts its rows and has its maps is the letter's step
+  steps : (r : Stepped) → r .count ≡ length (whole .rows) → r .accepting ≡ whole .accepting → r .stable ≡ whole .stable
+      → StepsTo R a T (whole .rows) r
+  unfolding nextTree plainNode rowsOf oldNumbers
+  steps r many accepts keeps = let one = tree-out (R .states) (R .sets) T tree .one-root in record {
+    are = ap (map withoutOld) (gives .rows) ∙ grown-rows (oldNumber T) 0 (survivors R a T);
+    count = many;
+    olds = ap (map (λ x. x .old)) (gives .rows) ∙ grown-olds (oldNumber T) 0 (survivors R a T);
+    accepting = accepts ∙ gives .accepting ∙ accepting-map R a T one few (rw (gives .accepting) at (maps-below .0));
+    stable = keeps ∙ gives .stable ∙ stable-map R a T one few (rw (gives .stable) at (maps-below .1));
   }
 
-module _ (tables : List (List ℕ)) (k : ℕ) (rows : List Row) (r : Stepped) (is : r ≡ steppedRows tables k rows)
+module _ (tables : List (List ℕ)) (k from : ℕ) (rows : List Row) (before after : List (List ℕ)) (r : Stepped)
+    (step : Stepping (steppedRows tables k rows) from before r after)
     (R : Rule) (a : ℕ) (T : Tree) (well : WellFormed R) (few-states : R .states ≤ maxStates) (few-sets : R .sets ≤ maxSets)
-    (sets : R .sets ≡ k) (tree : isTree (R .states) (R .sets) T ≡ true) (by : tables ≡ letterTables (held (R .grid)) a)
+    (sets : R .sets ≡ k) (tree : isTree (R .states) (R .sets) T ≡ true) (by : tables ≡ letterTable (getD (held (R .grid)) a []))
     (are : AreRows rows T) where
-  -- the pass over the rows of a tree is the letter's step
-  pub steps-to : StepsTo R a T r
+  -- the pass over the rows of a tree
+  over-tree : steppedRows tables k rows ≡ passOver (tableImage (letterTable (getD (held (R .grid)) a []))) (R .sets) 0 atStart (rowsOf T)
   unfolding steppedRows
-  steps-to = subst (StepsTo R a T) (sym (is ∙ rw (← sets, by, ← are) (ap steppedOf (sym (pass-without-old _ (R .sets) 0 atStart rows)))))
-      (steps R well few-states few-sets a T tree)
+  over-tree = rw (← sets, by, ← are) (sym (pass-without-old _ (R .sets) 0 atStart rows))
+
+  -- is the letter's step
+  pub steps-to : StepsTo R a T (rowsOn after (1 - from) (r .count)) r
+  steps-to = rw (step .rows, over-tree) (steps R well few-states few-sets a T tree r (rw over-tree at (step .count))
+      (rw over-tree at (step .accepting)) (rw over-tree at (step .stable)))
 
   -- and from its answer the next letter can be read
-  pub step-again : 1 ≤ R .sets → (r .count ≤ maxStates) × SetsFit (take (r .count) (r .rows))
-  unfolding steppedRows
-  step-again pos =
+  pub step-again : 1 ≤ R .sets → from < 2 → Steppable after (1 - from) (r .count)
+  step-again pos side =
       let next = next-is-tree R well pos a T tree in
-      let n : length (take (r .count) (r .rows)) ≡ r .count = rw is (written-count (passOver (tableImage tables) k 0 atStart rows)) in (
-        omega (
+      let rows′ : List Row = rowsOn after (1 - from) (r .count) in
+      record {
+        arrays = step .arrays;
+        side = omega arith;
+        few = omega (
           arith,
           few-nodes (R .states) (R .sets) (nextTree R a T) next,
-          rows-are-nodes (take (r .count) (r .rows)) (nextTree R a T) (steps-to .rows),
-        ),
-        sets-fit (R .states) (R .sets) (take (r .count) (r .rows)) (nextTree R a T) few-sets next (steps-to .rows),
-      )
+          rows-are-nodes rows′ (nextTree R a T) (steps-to .are),
+          steps-to .count,
+        );
+        fits = sets-fit (R .states) (R .sets) rows′ (nextTree R a T) few-sets next (steps-to .are);
+      }

@@ -41,15 +41,15 @@ module _ {rows : List Row} {count q node : ℕ} (v : HostAhead rows count q node
       opened : drop node (take count rows) ≡ getD rows node blankRow ∷ drop (suc node) (take count rows)
       opened = drop-cons (take count rows) node blankRow (omega (arith, long)) ∙ ap (λ (x : Row). x ∷ drop (suc node) (take count rows)) this-row
 
-      pub host-found : (member (getD rows node blankRow .label) q && not (member (getD rows node blankRow .kids) q)) ≡ true
-          → node ≡ hostRow 0 (take count rows) q
-      unfolding hostRow
-      host-found e = rw (opened, e) at (v .ahead)
+      -- the row at `node` hosts it, or not
+      module _ (x : Row) (is : x ≡ getD rows node blankRow) where
+        pub host-found : (member (x .label) q && not (member (x .kids) q)) ≡ true → node ≡ hostRow 0 (take count rows) q
+        unfolding hostRow
+        host-found e = rw (opened, ← is, e) at (v .ahead)
 
-      pub host-next : (member (getD rows node blankRow .label) q && not (member (getD rows node blankRow .kids) q)) ≡ false
-          → HostAhead rows count q (node + 1)
-      unfolding hostRow
-      host-next e = rw (add-one node) (record { upto = h; ahead = rw (opened, e) at (v .ahead) })
+        pub host-next : (member (x .label) q && not (member (x .kids) q)) ≡ false → HostAhead rows count q (node + 1)
+        unfolding hostRow
+        host-next e = rw (add-one node) (record { upto = h; ahead = rw (opened, ← is, e) at (v .ahead) })
 
     pub host-none : count ≤ node → node ≡ hostRow 0 (take count rows) q
     unfolding hostRow
@@ -157,9 +157,9 @@ module _ {n count : ℕ} {rows : List Row} {before : List ℕ} {from : ℕ} {out
     (v : MarksStored n count rows before from out at node) where
   module _ (h : node < count) where
     -- the mark is a byte, and there is room for it
-    pub mark-small : 16 * getD rows node blankRow .depth + getD rows node blankRow .active < 256
+    pub mark-small : (x : Row) → x ≡ getD rows node blankRow → 16 * x .depth + x .active < 256
     unfolding markOf
-    mark-small = v .fits .marks node h
+    mark-small x is = rw is (v .fits .marks node h)
 
     marks-room : at < length before
     marks-room = omega (arith, v .room, v .pieces .stores .place, marks-le rows node)
@@ -167,16 +167,15 @@ module _ {n count : ℕ} {rows : List Row} {before : List ℕ} {from : ℕ} {out
     pub marks-fits : at < length out
     marks-fits = omega (arith, marks-room, pieces-size (v .pieces))
 
-    pub marks-put : length rows ≡ places
-        → MarksStored n count rows before from (set out at (16 * getD rows node blankRow .depth + getD rows node blankRow .active))
-        (at + 1) (node + 1)
+    pub marks-put : (x : Row) → x ≡ getD rows node blankRow → length rows ≡ places
+        → MarksStored n count rows before from (set out at (16 * x .depth + x .active)) (at + 1) (node + 1)
     unfolding markBytes markOf
-    marks-put held = record {
+    marks-put x is held = rw is (record {
       fits = v .fits;
       room = v .room;
       pieces = pieces-byte (v .pieces) h _ (ap (map markOf) (take-suc rows node blankRow inside)
           ∙ map-append markOf (take node rows) (getD rows node blankRow ∷ [])) marks-room;
-    }
+    })
       where
         inside : node < length rows
         inside = omega (arith, v .fits .few, v .fits .states)
@@ -202,30 +201,36 @@ module _ (n count : ℕ) (rows : List Row) (before : List ℕ) (fits : Recordabl
   unfolding rowsRecord
   record-dead e = rw e (refl, stored-byte (stored-start before 0 (omega arith)) 0 (omega arith) .same)
 
-  abbrev root : ℕ
-  root = getD rows 0 blankRow .label
+  module _ (x : Row) (is : x ≡ getD rows 0 blankRow) where
+    abbrev root : ℕ
+    root = x .label
 
-  abbrev hosts : List ℕ
-  hosts = hostBytes (take count rows) n root
+    abbrev hosts : List ℕ
+    hosts = hostBytes (take count rows) n root
 
-  abbrev marks : List ℕ
-  marks = markBytes (take count rows)
+    abbrev marks : List ℕ
+    marks = markBytes (take count rows)
 
-  -- the map, the hosts behind it, and the marks behind them
-  record-room : 1 + length hosts + count ≤ recordRoom
-  record-room = omega (arith, hosts-le (take count rows) root n, fits .few, fits .states)
+    -- the root's map is a byte
+    pub root-small : (count ≡ 0 → ⊥) → root < 256
+    root-small some = rw is (fits .root (omega arith))
 
-  pub marks-room-left : (at : ℕ) (then : List ℕ) → at ≡ 1 + length hosts → length then ≡ length (set before 0 root) → at + count ≤ length then
-  marks-room-left at then e f = omega (arith, record-room, length-set before 0 root)
+    -- the map, the hosts behind it, and the marks behind them
+    record-room : 1 + length hosts + count ≤ recordRoom
+    record-room = omega (arith, hosts-le (take count rows) root n, fits .few, fits .states)
 
-  pub record-live : (count ≡ 0 → ⊥) → length rows ≡ places → (at r : ℕ) (then after : List ℕ)
-      → at ≡ 1 + length hosts → then ≡ stored 1 hosts (set before 0 root) → r ≡ at + length marks → after ≡ stored at marks then
-      → (r ≡ length (rowsRecord n (take count rows))) × (after ≡ stored 0 (rowsRecord n (take count rows)) before)
-  record-live some held at r then after e f g h =
-      let first = stored-byte (stored-start before 0 (omega arith)) root (omega arith) in
-      let second = stored-next first hosts (omega (arith, record-room)) in
-      let third = stored-next second marks (omega (arith, record-room, marks-le rows count)) in
-      rw (live-record n count rows some (omega arith)) (
-        omega (arith, length-append hosts marks),
-        h ∙ ap₂ (λ (c : ℕ) (l : List ℕ). stored c marks l) e f ∙ third .same,
-      )
+    pub marks-room-left : (at : ℕ) (then : List ℕ) → at ≡ 1 + length hosts → length then ≡ length (set before 0 root)
+        → at + count ≤ length then
+    marks-room-left at then e f = omega (arith, record-room, length-set before 0 root)
+
+    pub record-live : (count ≡ 0 → ⊥) → length rows ≡ places → (at r : ℕ) (then after : List ℕ)
+        → at ≡ 1 + length hosts → then ≡ stored 1 hosts (set before 0 root) → r ≡ at + length marks → after ≡ stored at marks then
+        → (r ≡ length (rowsRecord n (take count rows))) × (after ≡ stored 0 (rowsRecord n (take count rows)) before)
+    record-live some held at r then after e f g h =
+        let first = stored-byte (stored-start before 0 (omega arith)) root (omega arith) in
+        let second = stored-next first hosts (omega (arith, record-room)) in
+        let third = stored-next second marks (omega (arith, record-room, marks-le rows count)) in
+        rw (live-record n count rows some (omega arith), ← is) (
+          omega (arith, length-append hosts marks),
+          h ∙ ap₂ (λ (c : ℕ) (l : List ℕ). stored c marks l) e f ∙ third .same,
+        )

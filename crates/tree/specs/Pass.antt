@@ -3,30 +3,29 @@
 use mathlib.Core.Path.{_≡_}
 use mathlib.Core.Bool.{Bool, true, false, cond}
 use mathlib.Core.List.{List, [], _∷_, _++_}
-use Prim.Native.Nat.{ℕ, zero, suc, _*_, _-_, _^_, _≤_}
+use Prim.Native.Nat.{ℕ, zero, suc, _^_, _≤_}
 use lib.Bits.{bitOr}
 use lib.Dec.{eqb, ltb}
-use lib.ListN.{length, getD, replicate}
+use lib.ListN.{length, getD}
 use Rattle.table.specs.BitSet.{minus}
 use Rattle.table.specs.Limits.{maxStates, maxSets}
 use Rattle.table.specs.Lookup.{lookUp}
 use Rattle.history.specs.Letter.{nextSet}
 use Rattle.history.specs.OldNumbers.{noNode}
 use Rattle.tree.specs.declared.rows.Row.{Row}
-use Rattle.tree.specs.declared.rows.Stepped.{Stepped}
 use Rattle.tree.specs.declared.step.Met.{Met}
 
 -- the row of no node
 abbrev pub blankRow : Row
 blankRow = record { depth = 0; label = 0; kids = 0; active = 0; old = 0 }
 
--- a letter's tables have an entry for each row's active set
+-- a letter's table has images for each row's active set
 abbrev pub SetsFit : List Row → Type 0
 SetsFit rows = (i : ℕ) → getD rows i blankRow .active ≤ maxSets
 
 -- the image of a set of states under relation i of a letter: all transitions at 0, those of set i at i
 unfoldable pub tableImage : List (List ℕ) → ℕ → ℕ → ℕ
-tableImage tables i s = lookUp (getD tables i []) s
+tableImage table i s = lookUp table i s
 
 -- STEPS 1 TO 3 AT A ROW
 
@@ -145,19 +144,9 @@ passOver E k i p (x ∷ rows) = passOver E k (suc i) (readRow E k i x (closedTo 
 abbrev pub atStart : Pass
 atStart = record { levels = outermost ∷ []; rows = []; accepting = 0; stable = 0 }
 
--- the answer: the rows written, with blank ones behind them, their count and the maps
-unfoldable pub steppedOf : Pass → Stepped
-steppedOf p =
-    record {
-      rows = p .rows ++ replicate (2 * maxStates - length (p .rows)) blankRow;
-      count = length (p .rows);
-      accepting = p .accepting;
-      stable = p .stable;
-    }
-
--- one letter over rows, by the letter's tables; there are k sets
-unfoldable pub steppedRows : List (List ℕ) → ℕ → List Row → Stepped
-steppedRows tables k rows = steppedOf (passOver (tableImage tables) k 0 atStart rows)
+-- one letter over rows, by the letter's table; there are k sets
+unfoldable pub steppedRows : List (List ℕ) → ℕ → List Row → Pass
+steppedRows table k rows = passOver (tableImage table) k 0 atStart rows
 
 -- THE LEVELS IN ARRAYS
 

@@ -2,7 +2,7 @@
 use mathlib.Core.Path.{_≡_}
 use mathlib.Core.List.{List, [], _∷_, _++_, map}
 use Prim.Native.Nat.{ℕ, suc}
-use lib.ListN.{take}
+use lib.ListN.{length}
 use Rattle.table.specs.Rule.{Rule}
 use Rattle.history.specs.Forest.{nil, node}
 use Rattle.history.specs.Tree.{Tree, labels}
@@ -29,9 +29,10 @@ withoutOld x = record { depth = x .depth; label = x .label; kids = x .kids; acti
 abbrev pub AreRows : List Row → Tree → Type 0
 AreRows rows T = map withoutOld rows ≡ rowsOf T
 
--- what one letter makes of the rows of a tree
-pub record StepsTo (R : Rule) (a : ℕ) (T : Tree) (r : Stepped) : Type 0 where
-  pub rows : AreRows (take (r .count) (r .rows)) (nextTree R a T)
-  pub olds : map (λ x. x .old) (take (r .count) (r .rows)) ≡ oldNumbers R a T
+-- what one letter makes of the rows of a tree: the rows that it writes, and its answer
+pub record StepsTo (R : Rule) (a : ℕ) (T : Tree) (rows : List Row) (r : Stepped) : Type 0 where
+  pub are : AreRows rows (nextTree R a T)
+  pub count : r .count ≡ length rows
+  pub olds : map (λ x. x .old) rows ≡ oldNumbers R a T
   pub accepting : r .accepting ≡ acceptingMap R a T
   pub stable : r .stable ≡ stableMap R a T

@@ -1,12 +1,14 @@
 // The calls on trees: the starting record of a table, and one letter.
 use crate::record::Count;
 use crate::record::Tree;
+use crate::rows::PLACES;
 use crate::step::step_rows;
 use crate::writing::put_record;
 use table::limits::LETTERS;
 use table::limits::NO_TRANSITION;
+use table::limits::SETS;
 use table::limits::STATES;
-use table::lookup::letter_tables;
+use table::lookup::fill_table;
 use table::reader::Reading;
 use table::reader::read_rule;
 ghost use mathlib.Core.Path.{_≡_};
@@ -54,7 +56,7 @@ pub fn start(table: &[u8], buffer: &mut [u8]) -> StartAnswer
             }
             let tree = Tree::start(header.start);
             let rows = tree.rows;
-            let written = put_record(rows, 1, header.states, buffer);
+            let written = put_record(&rows, 1, header.states, buffer);
             StartAnswer {
                 number: 0,
                 written: written,
@@ -97,11 +99,13 @@ pub fn step(table: &[u8], letter: u8, bytes: &[u8], buffer: &mut [u8]) -> StepAn
             if buffer.len() < Tree::RECORD {
                 return step_refusal(10);
             }
-            let tables = letter_tables(&cells, a);
+            let mut letter_table = [[0u16; SETS + 1]; 32];
+            fill_table(&cells[a], &mut letter_table);
+            let mut sides = [[0u64; PLACES]; 2];
             let rows = tree.rows;
-            let next = step_rows(&tables, header.sets as u8, rows, count);
-            let next_rows = next.rows;
-            let written = put_record(next_rows, next.count, header.states, buffer);
+            sides[0] = rows;
+            let next = step_rows(&letter_table, header.sets as u8, &mut sides, 0, count);
+            let written = put_record(&sides[1], next.count, header.states, buffer);
             StepAnswer {
                 number: 0,
                 written: written,

@@ -1,7 +1,8 @@
 // The rows of a record's tree: its marks give each node's depth and active set, its hosts give the labels.
+use crate::packed::Rows;
+use crate::packed::pack;
 use crate::rows::PLACES;
 use crate::rows::Row;
-use crate::step::blank_row;
 ghost use mathlib.Core.Path.{_≡_};
 ghost use mathlib.Core.Bool.{_&&_, cond};
 ghost use Prim.Native.Nat.{_^_, _<_, _≤_};
@@ -9,6 +10,7 @@ ghost use lib.Count.{ones};
 ghost use lib.Dec.{leb, ltb};
 ghost use lib.ListN.{length, take};
 ghost use Rattle.history.specs.Record.{hostedIn};
+ghost use Rattle.tree.specs.PackedRows.{rowsIn};
 ghost use Rattle.tree.specs.RecordRows.{places, deeper, rowsOfMarks};
 
 // How many marks at the front are deeper than a node: the number of nodes below it, where they follow its own mark.
@@ -58,12 +60,12 @@ fn hosted(n: usize, map: u16, hosts: &[u8], low: usize, high: usize) -> u16
 }
 
 // A row for each mark. A node's label are the states hosted at the node or below it, its children's are those below it.
-pub fn record_rows(n: usize, map: u16, hosts: &[u8], marks: &[u8]) -> [Row; PLACES]
+pub fn record_rows(n: usize, map: u16, hosts: &[u8], marks: &[u8]) -> Rows
     requires { ⌜ ((n ≤ 16) × ((map < 2 ^ n) × (ones map ≤ length (now hosts)))) × (length (now marks) ≤ places) ⌝ }
-    ensures { λ r. ⌜ take (length (now (marks .entry))) r ≡ rowsOfMarks (hostedIn n map (now (hosts .entry))) 0 (now (marks .entry)) ⌝ }
+    ensures { λ r. ⌜ (take (length (now (marks .entry))) (rowsIn r)
+        ≡ rowsOfMarks (hostedIn n map (now (hosts .entry))) 0 (now (marks .entry))) × (length r ≡ places) ⌝ }
 {
-    let none = blank_row();
-    let mut rows = [none; PLACES];
+    let mut rows = [0u64; PLACES];
     let mut node = 0usize;
     while node < marks.len() {
         let mark = marks[node];
@@ -72,13 +74,14 @@ pub fn record_rows(n: usize, map: u16, hosts: &[u8], marks: &[u8]) -> [Row; PLAC
         let end = next + deeper(mark / 16, &marks[next..]);
         let label = hosted(n, map, hosts, node, end);
         let kids = hosted(n, map, hosts, next, end);
-        rows[node] = Row {
+        let row = Row {
             depth: depth,
             label: label,
             kids: kids,
             active: mark % 16,
             old: 0,
         };
+        rows[node] = pack(row);
         node = next;
     }
     rows

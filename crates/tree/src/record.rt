@@ -1,20 +1,22 @@
 // Trees come from the starting tree or from a checked record.
 use crate::checks::record_fits;
+use crate::packed::Rows;
+use crate::packed::pack;
 use crate::reading::record_rows;
 use crate::rows::NODES;
 use crate::rows::PLACES;
 use crate::rows::Row;
-use crate::step::blank_row;
 ghost use mathlib.Core.Path.{_≡_};
 ghost use Prim.Native.Nat.{_<_, _≤_};
 ghost use Rattle.table.specs.Limits.{maxStates};
 ghost use Rattle.history.specs.Record.{readTree};
+ghost use Rattle.tree.specs.PackedRows.{rowsIn};
 ghost use Rattle.tree.specs.RecordCode.{Checks};
 ghost use Rattle.tree.specs.RecordRows.{startRows};
 
-// A tree's rows, in number order; how many of them count stands beside it.
+// A tree's rows, in number order, as words; how many of them count stands beside it.
 pub struct Tree {
-    pub rows: [Row; PLACES],
+    pub rows: Rows,
 }
 
 // The number of nodes of a checked record's tree, or that the bytes are no record.
@@ -37,19 +39,20 @@ impl Tree {
 
     pub const NAME: usize = NODES - 1;
 
-    // "The starting tree is the root alone, the starting states, active set 1." Its one row stands in front.
+    // "The starting tree is the root alone, the starting states, active set 1." Its one row stands in front of
+    // blank ones: the word 0 is the blank row.
     pub fn start(map: u16) -> Tree
-        ensures { λ r. ⌜ r .rows ≡ startRows map ⌝ }
+        ensures { λ r. ⌜ rowsIn (r .rows) ≡ startRows map ⌝ }
     {
-        let none = blank_row();
-        let mut rows = [none; PLACES];
-        rows[0] = Row {
+        let root = Row {
             depth: 0,
             label: map,
             kids: 0,
             active: 1,
             old: 0,
         };
+        let mut rows = [0u64; PLACES];
+        rows[0] = pack(root);
         Tree { rows: rows }
     }
 
@@ -58,12 +61,11 @@ impl Tree {
         requires { ⌜ (n ≤ maxStates) × (k < 16) ⌝ }
         ensures { λ r. ⌜ Checks (readTree n k (now (bytes .entry))) r ⌝ }
     {
-        let none = blank_row();
         if !record_fits(n, k, bytes) {
             return Checked {
                 count: Count::Refused,
                 tree: Tree {
-                    rows: [none; PLACES],
+                    rows: [0u64; PLACES],
                 },
             };
         }

@@ -19,9 +19,8 @@ pub const NODES: usize = STATES;
 
 pub const PLACES: usize = 2 * NODES;
 
-// The tree after a letter: its rows (the first `count` of them), and the maps by old node number.
+// What a letter answers: how many rows the next tree has, and the maps by old node number.
 pub struct Stepped {
-    pub rows: [Row; PLACES],
     pub count: usize,
     pub accepting: u16,
     pub stable: u16,

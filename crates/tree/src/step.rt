@@ -1,23 +1,25 @@
 // One letter: the rows of the next tree in one forward pass over the rows of a tree, oldest first.
 // The document's five steps are fused: steps 1 to 3 at a row need only what older nodes have taken, and the union of the
 // new children's labels, which step 4 asks for, is known from the old one.
+use crate::packed::Sides;
+use crate::packed::pack;
+use crate::packed::unpack;
 use crate::rows::NODES;
 use crate::rows::NONE;
-use crate::rows::PLACES;
 use crate::rows::Row;
 use crate::rows::Stepped;
-use table::lookup::LetterTables;
+use table::lookup::LetterTable;
 use table::lookup::look_up;
 ghost use mathlib.Core.Path.{_≡_};
 ghost use mathlib.Core.Bool.{cond};
 ghost use Prim.Native.Nat.{_≤_, _<_};
 ghost use lib.Dec.{ltb};
-ghost use lib.ListN.{take};
 ghost use Rattle.table.specs.BitSet.{minus};
 ghost use Rattle.table.specs.Limits.{maxStates, maxSets};
 ghost use Rattle.history.specs.Letter.{nextSet};
-ghost use Rattle.tree.specs.Pass.{blankRow, SetsFit, tableImage, metBy, sproutRow, settledRow, joinedIf};
+ghost use Rattle.tree.specs.Pass.{blankRow, tableImage, metBy, sproutRow, settledRow, joinedIf};
 ghost use Rattle.tree.specs.Pass.{ByDepth, Entered, steppedRows};
+ghost use Rattle.tree.specs.Sides.{rowsOn, Steppable, Stepping};
 
 // Sets of states by depth.
 type ByDepth = [u16; NODES + 1];
@@ -37,14 +39,14 @@ fn minus(a: u16, b: u16) -> u16
 }
 
 // Steps 1 to 3 at a row, where older siblings of its node and of its ancestors have taken the states `taken`.
-fn meet(tables: &LetterTables, x: Row, taken: u16) -> Met
+fn meet(table: &LetterTable, x: Row, taken: u16) -> Met
     requires { ⌜ x .active ≤ maxSets ⌝ }
-    ensures { λ r. ⌜ r ≡ metBy (tableImage (now (tables .entry))) x taken ⌝ }
+    ensures { λ r. ⌜ r ≡ metBy (tableImage (now (table .entry))) x taken ⌝ }
 {
     let active = x.active as usize;
-    let label = look_up(&tables[0], x.label);
-    let kids = look_up(&tables[0], x.kids);
-    let sprout = look_up(&tables[active], x.label);
+    let label = look_up(table, 0, x.label);
+    let kids = look_up(table, 0, x.kids);
+    let sprout = look_up(table, active, x.label);
     Met {
         label: minus(label, taken),
         kids: minus(kids | sprout, taken),
@@ -156,26 +158,30 @@ pub fn blank_row() -> Row
     }
 }
 
-// What a letter answers.
-fn stepped(rows: [Row; PLACES], count: usize, accepting: u16, stable: u16) -> Stepped
-    ensures { λ r. ⌜ r ≡ record { rows = rows; count = count; accepting = accepting; stable = stable } ⌝ }
+fn stepped(count: usize, accepting: u16, stable: u16) -> Stepped
+    ensures { λ r. ⌜ r ≡ record { count = count; accepting = accepting; stable = stable } ⌝ }
 {
     Stepped {
-        rows: rows,
         count: count,
         accepting: accepting,
         stable: stable,
     }
 }
 
-// One letter over the first `count` rows; there are k sets. By depth, as siblings are read from the oldest to the youngest:
-// the states taken from the younger ones, the states of the child that their parent sprouts, and whether names are kept.
-pub fn step_rows(tables: &LetterTables, k: u8, rows: [Row; PLACES], count: usize) -> Stepped
-    requires { ⌜ (count ≤ maxStates) × SetsFit (take count rows) ⌝ }
-    ensures { λ r. ⌜ r ≡ steppedRows (now (tables .entry)) k (take count rows) ⌝ }
+// One letter over the first `count` rows of a side; there are k sets. By depth, as siblings are read from the oldest to the
+// youngest: the states taken from the younger ones, the states of the child that their parent sprouts, and whether names are kept.
+pub fn step_rows(
+    table: &LetterTable,
+    k: u8,
+    sides: &mut Sides,
+    from: usize,
+    count: usize,
+) -> Stepped
+    requires { ⌜ Steppable (now sides) from count ⌝ }
+    ensures { λ r. ⌜ Stepping (steppedRows (now (table .entry)) k (rowsOn (now (sides .entry)) from count))
+        from (now (sides .entry)) r (now (sides .exit)) ⌝ }
 {
-    let blank = blank_row();
-    let mut out = [blank; PLACES];
+    let to = 1 - from;
     let mut taken = [0u16; NODES + 1];
     let mut sprout = [0u16; NODES + 1];
     let mut named = [true; NODES + 1];
@@ -185,14 +191,14 @@ pub fn step_rows(tables: &LetterTables, k: u8, rows: [Row; PLACES], count: usize
     let mut i = 0usize;
     let mut j = 0usize;
     while i < count || 0 < top {
-        let x = rows[i];
+        let x = unpack(sides[from][i]);
         let depth = next_depth(x, i, count);
         if depth < top {
             // All below a parent is read: the child that it sprouts is the youngest (step 2).
             let s = sprout_row(top, sprout[top], taken[top]);
             top -= 1;
             if s.label != 0 {
-                out[j] = s;
+                sides[to][j] = pack(s);
                 j += 1;
             }
             continue;
@@ -201,16 +207,16 @@ pub fn step_rows(tables: &LetterTables, k: u8, rows: [Row; PLACES], count: usize
         i += 1;
         // A deeper row is below a node that was removed or that has lost its descendants (step 4).
         if depth == top {
-            let met = meet(tables, x, taken[top]);
+            let met = meet(table, x, taken[top]);
             let name = named[top];
             top = enter(&mut taken, &mut sprout, &mut named, top, met);
             if met.label != 0 {
-                out[j] = settled_row(k, x, met, old);
+                sides[to][j] = pack(settled_row(k, x, met, old));
                 j += 1;
                 accepting = joined_if(accepting, old, met.label == met.kids);
                 stable = joined_if(stable, old, name);
             }
         }
     }
-    stepped(out, j, accepting, stable)
+    stepped(j, accepting, stable)
 }

@@ -1,5 +1,7 @@
-// The record of a tree from its rows, stored into a lent buffer.
-use crate::rows::PLACES;
+// The record of a tree from its rows, stored into a lent buffer. The rows are lent; that there are PLACES of them is required, since a
+// contract has a lent array as a list of any length.
+use crate::packed::Rows;
+use crate::packed::unpack;
 use crate::rows::Row;
 ghost use mathlib.Core.Path.{_≡_};
 ghost use mathlib.Core.Bool.{not, _&&_};
@@ -8,6 +10,7 @@ ghost use lib.ListN.{length, take};
 ghost use Rattle.table.specs.BitSet.{member};
 ghost use Rattle.table.specs.Storing.{stored};
 ghost use Rattle.tree.specs.TreeCalls.{recordRoom};
+ghost use Rattle.tree.specs.PackedRows.{rowsIn};
 ghost use Rattle.tree.specs.RecordRows.{places, hostRow, hostBytes, markBytes, rowsRecord, Recordable};
 
 // Does a node host a state: is the state in its label and in no child's?
@@ -22,13 +25,14 @@ fn hosts_state(row: Row, state: usize) -> bool
 }
 
 // The number of a state's host.
-fn host_row(rows: [Row; PLACES], count: usize, state: usize) -> u8
-    requires { ⌜ (count ≤ places) × (state < 16) ⌝ }
-    ensures { λ r. ⌜ r ≡ hostRow 0 (take count rows) state ⌝ }
+fn host_row(rows: &Rows, count: usize, state: usize) -> u8
+    requires { ⌜ (count ≤ places) × (state < 16) × (length (now rows) ≡ places) ⌝ }
+    ensures { λ r. ⌜ r ≡ hostRow 0 (take count (rowsIn (now (rows .entry)))) state ⌝ }
 {
     let mut node = 0usize;
     while node < count {
-        if hosts_state(rows[node], state) {
+        let row = unpack(rows[node]);
+        if hosts_state(row, state) {
             return node as u8;
         }
         node += 1;
@@ -37,17 +41,10 @@ fn host_row(rows: [Row; PLACES], count: usize, state: usize) -> u8
 }
 
 // "for each standing bit, lowest first, the number of its host", stored from a place on. Answers the place behind them.
-fn put_hosts(
-    rows: [Row; PLACES],
-    count: usize,
-    states: u16,
-    n: usize,
-    out: &mut [u8],
-    from: usize,
-) -> usize
-    requires { ⌜ ((count ≤ places) × (n ≤ 16)) × (from + n ≤ length (now out)) ⌝ }
-    ensures { λ r. ⌜ (r ≡ from + length (hostBytes (take count rows) n states))
-        × (now (out .exit) ≡ stored from (hostBytes (take count rows) n states) (now (out .entry))) ⌝ }
+fn put_hosts(rows: &Rows, count: usize, states: u16, n: usize, out: &mut [u8], from: usize) -> usize
+    requires { ⌜ ((count ≤ places) × (n ≤ 16)) × (from + n ≤ length (now out)) × (length (now rows) ≡ places) ⌝ }
+    ensures { λ r. ⌜ (r ≡ from + length (hostBytes (take count (rowsIn (now (rows .entry)))) n states))
+        × (now (out .exit) ≡ stored from (hostBytes (take count (rowsIn (now (rows .entry)))) n states) (now (out .entry))) ⌝ }
 {
     let mut at = from;
     let mut state = 0usize;
@@ -65,15 +62,15 @@ fn put_hosts(
 
 // "for each node in number order 16 times its depth plus its active set", stored from a place on. Answers the place
 // behind them.
-fn put_marks(rows: [Row; PLACES], count: usize, n: usize, out: &mut [u8], from: usize) -> usize
-    requires { ⌜ Recordable n count rows × (from + count ≤ length (now out)) ⌝ }
-    ensures { λ r. ⌜ (r ≡ from + length (markBytes (take count rows)))
-        × (now (out .exit) ≡ stored from (markBytes (take count rows)) (now (out .entry))) ⌝ }
+fn put_marks(rows: &Rows, count: usize, n: usize, out: &mut [u8], from: usize) -> usize
+    requires { ⌜ Recordable n count (rowsIn (now rows)) × (from + count ≤ length (now out)) × (length (now rows) ≡ places) ⌝ }
+    ensures { λ r. ⌜ (r ≡ from + length (markBytes (take count (rowsIn (now (rows .entry))))))
+        × (now (out .exit) ≡ stored from (markBytes (take count (rowsIn (now (rows .entry))))) (now (out .entry))) ⌝ }
 {
     let mut at = from;
     let mut node = 0usize;
     while node < count {
-        let row = rows[node];
+        let row = unpack(rows[node]);
         out[at] = (16 * row.depth) as u8 + row.active;
         at += 1;
         node += 1;
@@ -82,16 +79,16 @@ fn put_marks(rows: [Row; PLACES], count: usize, n: usize, out: &mut [u8], from: 
 }
 
 // The record of the first `count` rows, stored in front; answers its length. "The dead tree's record is the byte 0."
-pub fn put_record(rows: [Row; PLACES], count: usize, n: usize, out: &mut [u8]) -> usize
-    requires { ⌜ Recordable n count rows × (recordRoom ≤ length (now out)) ⌝ }
-    ensures { λ r. ⌜ (r ≡ length (rowsRecord n (take count rows)))
-        × (now (out .exit) ≡ stored 0 (rowsRecord n (take count rows)) (now (out .entry))) ⌝ }
+pub fn put_record(rows: &Rows, count: usize, n: usize, out: &mut [u8]) -> usize
+    requires { ⌜ Recordable n count (rowsIn (now rows)) × (recordRoom ≤ length (now out)) × (length (now rows) ≡ places) ⌝ }
+    ensures { λ r. ⌜ (r ≡ length (rowsRecord n (take count (rowsIn (now (rows .entry))))))
+        × (now (out .exit) ≡ stored 0 (rowsRecord n (take count (rowsIn (now (rows .entry))))) (now (out .entry))) ⌝ }
 {
     if count == 0 {
         out[0] = 0;
         return 1;
     }
-    let root = rows[0];
+    let root = unpack(rows[0]);
     out[0] = root.label as u8;
     let at = put_hosts(rows, count, root.label, n, out, 1);
     put_marks(rows, count, n, out, at)

@@ -15,6 +15,7 @@ use Rattle.history.proofs.RepeatExists.{repeat-exists}
 use Rattle.history.proofs.CycleVerdict.{read-rounds}
 use Rattle.history.proofs.CycleFinding.{BrentSoFar, Skips, brent-start, none-skips, brent-more, brent-reset, reset-skips}
 use Rattle.history.proofs.CycleFinding.{brent-found, lam-steps, power-doubles, brent-measure}
+use Rattle.tree.specs.PackedRows.{rowsIn}
 use Rattle.treejudge.specs.Names.{Follows, FollowsOn, FollowsTo, begunAt}
 use Rattle.treejudge.specs.SameRows.{sameRows}
 use Rattle.treejudge.specs.Cycles.{AtRound, CycleOf}
@@ -54,7 +55,7 @@ module _ {R : Rule} {u v : List ℕ} {tables : List (List (List ℕ))} {k : ℕ}
     (S : Searching R u v tables k x y half power lam now) where
   -- a round is followed from there
   pub search-follows : FollowsOn R (roundTree R u v (power - 1)) (rounds lam v) tables k v now
-  search-follows = record { holds = S .held .holds; below = S .held .below; follows = S .follows }
+  search-follows = record { holds = S .held .holds; tabled = S .held .tabled; follows = S .follows }
 
   -- there are fewer than 2 ^ 63 trees
   repeat : (entry : ℕ) × (period : ℕ) × FirstRepeat (roundTree R u v) entry period × (entry + period < 2 ^ 63)
@@ -79,7 +80,7 @@ module _ {R : Rule} {u v : List ℕ} {tables : List (List (List ℕ))} {k : ℕ}
     there : AtRound R u v tables k (power - 1 + (lam + 1)) reached
     there = record {
       holds = S .held .holds;
-      below = S .held .below;
+      tabled = S .held .tabled;
       tree = rw (is, ← read-rounds R u v (lam + 1) (power - 1)) (followed .tree);
     }
 
@@ -88,7 +89,7 @@ module _ {R : Rule} {u v : List ℕ} {tables : List (List (List ℕ))} {k : ℕ}
     search-small = both-small (S .held) there
 
     -- where they are the same, the cycle is found
-    pub search-found : sameRows (take (x .count) (x .rows)) (take (reached .count) (reached .rows)) ≡ true
+    pub search-found : sameRows (take (x .count) (rowsIn (x .rows))) (take (reached .count) (rowsIn (reached .rows))) ≡ true
         → (entry period : ℕ) → FirstRepeat (roundTree R u v) entry period
         → CycleOf R u v entry period
         (record { held = x; before = y; half = half; power = power; period = lam + 1; accepted = next .accepted })
@@ -105,7 +106,7 @@ module _ {R : Rule} {u v : List ℕ} {tables : List (List (List ℕ))} {k : ℕ}
           accepted = rw (← back) (followed .accepted);
         }
 
-    module _ (differ : sameRows (take (x .count) (x .rows)) (take (reached .count) (reached .rows)) ≡ false) where
+    module _ (differ : sameRows (take (x .count) (rowsIn (x .rows))) (take (reached .count) (rowsIn (reached .rows))) ≡ false) where
       apart : roundTree R u v (power - 1) ≡ roundTree R u v (power - 1 + (lam + 1)) → ⊥
       apart = rows-differ (S .held) there differ
 

@@ -11,6 +11,7 @@ use Rattle.table.specs.Rule.{Rule}
 use Rattle.history.specs.Rounds.{readLetters, roundTree}
 use Rattle.history.proofs.TreesOfWalk.{round-next}
 use Rattle.history.proofs.FirstRepeats.{repeat-only}
+use Rattle.tree.specs.PackedRows.{rowsIn}
 use Rattle.treejudge.specs.Reading.{ReadsTo}
 use Rattle.treejudge.specs.SameRows.{sameRows}
 use Rattle.treejudge.specs.Cycles.{AtRound, Ahead, Bracket, Searched}
@@ -25,14 +26,14 @@ module _ {R : Rule} {u v : List ℕ} {tables : List (List (List ℕ))} {k entry 
   trees-small = both-small (N .place) (N .ahead)
 
   -- where they are the same, the place is the entry
-  pub entry-here : sameRows (take (x .count) (x .rows)) (take (y .count) (y .rows)) ≡ true → place ≡ entry
+  pub entry-here : sameRows (take (x .count) (rowsIn (x .rows))) (take (y .count) (rowsIn (y .rows))) ≡ true → place ≡ entry
   entry-here same =
       let F = N .repeat in
       let (late, _) = repeat-only (roundTree R u v) (readLetters R v) (round-next R u v) entry period F place (place + period)
       (omega (arith, F .positive)) (rows-same (N .place) (N .ahead) same) in
       omega (arith, N .from)
 
-  module _ (differ : sameRows (take (x .count) (x .rows)) (take (y .count) (y .rows)) ≡ false) where
+  module _ (differ : sameRows (take (x .count) (rowsIn (x .rows))) (take (y .count) (rowsIn (y .rows))) ≡ false) where
     -- otherwise the entry is later
     pub entry-later : place + 1 ≤ entry
     entry-later = go (ℕ-discrete place entry)
@@ -60,7 +61,7 @@ module _ {R : Rule} {u v : List ℕ} {tables : List (List (List ℕ))} {k entry 
     (S : Searched R u v tables k entry period first c) where
   -- the tree that was held before
   pub before-place : AtRound R u v tables k (c .half - 1) (c .before)
-  before-place = record { holds = S .place .holds; below = S .place .below; tree = S .cycle .before }
+  before-place = record { holds = S .place .holds; tabled = S .place .tabled; tree = S .cycle .before }
 
   -- at t(0), with t(period) read from there
   pub bracket-first : c .half < c .period → (left : ℕ) → left ≡ c .period - (c .half - 1) → {y : CountedRows}

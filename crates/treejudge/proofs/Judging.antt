@@ -2,7 +2,7 @@
 use mathlib.Core.Path.{_≡_, refl, sym, _∙_, ap}
 use mathlib.Core.Bool.{false, true}
 use mathlib.Core.List.{List, [], _++_, append-nil}
-use Prim.Native.Nat.{ℕ, _+_, _-_, _^_, _≤_, _<_}
+use Prim.Native.Nat.{ℕ, _+_, _-_, _^_, _<_}
 use native.Mathlib.Omega.{arith}
 use native.Mathlib.Decide.{decLt}
 use lib.ListN.{length, getD, take, length-take}
@@ -11,11 +11,10 @@ use Rattle.table.specs.Limits.{maxStates, maxLetters}
 use Rattle.table.specs.Rule.{Grid, Rule}
 use Rattle.table.specs.Table.{Every}
 use Rattle.table.specs.Storing.{stored}
-use Rattle.table.specs.Held.{held}
 use Rattle.table.specs.HeldRule.{HoldsRule}
-use Rattle.table.specs.Lookup.{letterTables}
 use Rattle.table.specs.declared.header.Header.{Header}
 use Rattle.table.proofs.BitSet.{some-member}
+use Rattle.table.proofs.Every.{every-weaker}
 use Rattle.table.proofs.Logic.{clash}
 use Rattle.word.specs.Walk.{rounds, lettersLeft}
 use Rattle.history.specs.Forest.{size, names}
@@ -28,16 +27,17 @@ use Rattle.history.proofs.TreesKept.{start-is-tree, few-nodes}
 use Rattle.history.proofs.RepeatExists.{repeat-exists}
 use Rattle.history.proofs.CycleVerdict.{member-node, verdict-yes, verdict-no}
 use Rattle.tree.specs.RecordRows.{startRows}
-use Rattle.tree.specs.declared.rows.Row.{Row}
+use Rattle.tree.specs.PackedRows.{rowsIn}
 use Rattle.tree.proofs.StartCall.{start-rows-are}
 use Rattle.treejudge.specs.JudgeCall.{nameRoom, noName, treeAnswer, namesAfter, Judged}
-use Rattle.treejudge.specs.Reading.{TablesOf, HoldsTables, HoldsTree, Reads, ReadsTo}
+use Rattle.treejudge.specs.Reading.{occurring, TablesOf, WithinLimits, HoldsTree, Reads, ReadsTo}
 use Rattle.treejudge.specs.Cycles.{AtRound, CycleFound, Searched, EntryFound}
 use Rattle.treejudge.specs.NodeNames.{Lowest, SomeNode, IsName}
 use Rattle.treejudge.specs.declared.letters.CountedRows.{CountedRows}
 use Rattle.treejudge.specs.declared.cycle.Cycle.{Cycle}
 use Rattle.treejudge.specs.declared.name.Name.{Name}
 use Rattle.treejudge.specs.declared.judge.TreeAnswer.{TreeAnswer}
+use Rattle.treejudge.proofs.WalkTables.{lead-tabled, tail-tabled}
 
 -- the letters still to be read, from the first of u or of v on
 lead-left : (u v w : List ℕ) → w ≡ lettersLeft false u v 0 → u ≡ w
@@ -53,17 +53,10 @@ pub judged-tail : (R : Rule) (u v w names : List ℕ) (answer : TreeAnswer) (aft
     → Judged R u w names answer after → Judged R u v names answer after
 judged-tail R u v w names answer after left J = rw (tail-left u v w left) J
 
--- the numbers of the rule are within the limits
-pub numbers-fit : (R : Rule) (header : Header) (cells : Grid) → HoldsRule R header cells → (header .letters ≤ maxLetters) × (header .sets < 256)
-numbers-fit R header cells h = rw (h .numbers) (h .letters, omega (arith, h .sets))
-
-module _ (R : Rule) (header : Header) (cells : Grid) (h : HoldsRule R header cells) (tables : List (List (List ℕ)))
-    (of : TablesOf (header .letters) cells tables) where
-  -- the tables are those of the rule
-  pub tables-held : HoldsTables R tables (header .sets)
-  unfolding TablesOf
-  tables-held = record {
-    entries = λ a l. of a (rw (h .numbers) l) ∙ ap (λ (g : Grid). letterTables g a) (h .transitions);
+module _ (R : Rule) (header : Header) (cells : Grid) (h : HoldsRule R header cells) where
+  -- the rule is within the limits
+  within-limits : WithinLimits R (header .sets)
+  within-limits = record {
     number = rw (h .numbers);
     well = h .well;
     states = h .states;
@@ -72,14 +65,27 @@ module _ (R : Rule) (header : Header) (cells : Grid) (h : HoldsRule R header cel
     sets = h .sets;
   }
 
-  module _ (rows : List Row) (made : rows ≡ startRows (header .start)) (u v w : List ℕ) (left : w ≡ lettersLeft false u v 0)
-      (lead : Every (λ a. a < header .letters) u) where
+  -- so its number of sets fits in a byte
+  pub sets-small : header .sets < 256
+  sets-small = rw (h .numbers) (omega (arith, h .sets))
+
+  -- and its letters in a map
+  pub letters-small : (w : List ℕ) → Every (λ a. a < header .letters) w → Every (λ a. a < maxLetters) w
+  letters-small w below = every-weaker _ _ w (λ a less. omega (arith, ap (λ (x : Header). x .letters) (h .numbers), h .letters)) below
+
+  module _ (rows : List ℕ) (made : rowsIn rows ≡ startRows (header .start)) (u v w : List ℕ) (left : w ≡ lettersLeft false u v 0)
+      (lead : Every (λ a. a < header .letters) u) (lead-letters letters : ℕ) (lead-is : lead-letters ≡ occurring 0 u)
+      (letters-are : letters ≡ occurring lead-letters v) (tables : List (List (List ℕ))) (of : TablesOf letters cells tables) where
+    -- the tables are those of the walk's letters
+    walk-tables : TablesOf (occurring (occurring 0 u) v) cells tables
+    walk-tables = rw (letters-are, lead-is) at of
+
     -- u is read from the starting tree
     pub lead-reads : Reads R (startTree R) tables (header .sets) w (record { rows = rows; count = 1 })
     unfolding startTree size
     lead-reads = record {
-      holds = tables-held;
-      below = rw (h .numbers, lead-left u v w left) at lead;
+      holds = within-limits;
+      tabled = rw (lead-left u v w left) at (lead-tabled R cells (h .transitions) tables u v walk-tables (rw (h .numbers) at lead));
       tree = record {
         fits = start-is-tree R (h .well) (h .some-set);
         nodes = refl;
@@ -92,8 +98,8 @@ module _ (R : Rule) (header : Header) (cells : Grid) (h : HoldsRule R header cel
         → (v′ : List ℕ) → v′ ≡ lettersLeft true u v 0 → Every (λ a. a < header .letters) v → AtRound R u v′ tables (header .sets) 0 first
     unfolding ReadsTo roundTree rounds
     first-round first to v′ left′ tail = record {
-      holds = tables-held;
-      below = rw (h .numbers, tail-left u v v′ left′) at tail;
+      holds = within-limits;
+      tabled = rw (tail-left u v v′ left′) at (tail-tabled R cells (h .transitions) tables u v walk-tables (rw (h .numbers) at tail));
       tree = rw (append-nil u, lead-left u v w left) (to R (startTree R) lead-reads);
     }
 

@@ -3,7 +3,8 @@ pub mod TreeVerdict
 pub mod Examples
 pub mod JudgeCalls
 pub mod Judging
--- Reading letters, and following names through them.
+-- The tables of a walk, reading letters, and following names through them.
+pub mod WalkTables
 pub mod LettersRead
 pub mod NamesFollowed
 -- Finding the first repeat: rounds read and compared, the search for the period, the search for the entry.

@@ -24,10 +24,13 @@ use Rattle.history.specs.OldNumbers.{noNode}
 use Rattle.history.specs.Following.{carried}
 use Rattle.history.proofs.FollowingLaws.{follow-none, follow-kept, follow-accepted}
 use Rattle.history.proofs.TreesOfWalk.{read-append}
-use Rattle.tree.specs.Pass.{blankRow, SetsFit, steppedRows}
+use Rattle.tree.specs.Pass.{blankRow, steppedRows}
+use Rattle.tree.specs.RecordRows.{places}
+use Rattle.tree.specs.Sides.{rowsOn, TwoSides, Steppable, Stepping}
+use Rattle.tree.proofs.PassLoop.{two-sides}
 use Rattle.tree.specs.declared.rows.Row.{Row}
 use Rattle.tree.specs.declared.rows.Stepped.{Stepped}
-use Rattle.treejudge.specs.Reading.{HoldsTables, HoldsTree, Readable}
+use Rattle.treejudge.specs.Reading.{Tabled, WithinLimits, HoldsTree, Readable}
 use Rattle.treejudge.specs.Names.{followedBy, begunAt, Follows, FollowsOn, Followable, FollowsTo}
 use Rattle.treejudge.specs.declared.letters.CountedRows.{CountedRows}
 use Rattle.treejudge.specs.declared.follow.Followed.{Followed}
@@ -57,16 +60,16 @@ pub carried-start : (rows : List Row) (nodes : ℕ) → 0 ≡ carriedTo rows nod
 unfolding carriedTo collect
 carried-start rows nodes = refl
 
-module _ (rows : List Row) (nodes j new : ℕ) (so-far : new ≡ carriedTo rows nodes j) where
+module _ (rows : List Row) (nodes j new : ℕ) (so-far : new ≡ carriedTo rows nodes j) (x : Row) (is : x ≡ getD rows j blankRow) where
   -- one row more: its old number is in the map
-  pub carried-in : member nodes (getD rows j blankRow .old) ≡ true → bitOr new (2 ^ j) ≡ carriedTo rows nodes (j + 1)
+  pub carried-in : member nodes (x .old) ≡ true → bitOr new (2 ^ j) ≡ carriedTo rows nodes (j + 1)
   unfolding carriedTo
-  carried-in h = rw (add-one, so-far) (sym (collect-more j _ ∙ rw h))
+  carried-in h = rw (add-one, so-far) (sym (collect-more j _ ∙ rw (← is, h)))
 
   -- or is not
-  pub carried-out : member nodes (getD rows j blankRow .old) ≡ false → new ≡ carriedTo rows nodes (j + 1)
+  pub carried-out : member nodes (x .old) ≡ false → new ≡ carriedTo rows nodes (j + 1)
   unfolding carriedTo
-  carried-out h = rw (add-one, so-far) (sym (collect-more j _ ∙ rw h (or-zero-r _)))
+  carried-out h = rw (add-one, so-far) (sym (collect-more j _ ∙ rw (← is, h) (or-zero-r _)))
 
 -- all rows
 pub carried-all : (rows : List Row) (nodes count : ℕ) → count ≤ length rows
@@ -93,18 +96,20 @@ begun-follows R T x tree = let (kept, accepted) = follow-none R T in record {
 
 -- ONE LETTER
 
-module _ (R : Rule) (T : Tree) (before : List ℕ) (tables : List (List (List ℕ))) (k : ℕ) (holds : HoldsTables R tables k)
-    (x : Followed) (v : Follows R T before x) (a : ℕ) (less : a < R .letters)
-    (next : Stepped) (is : next ≡ steppedRows (getD tables a []) k (take (x .count) (x .rows))) where
+module _ (R : Rule) (T : Tree) (before : List ℕ) (tables : List (List (List ℕ))) (k : ℕ) (holds : WithinLimits R k)
+    (sides : List (List ℕ)) (side count kept accepted : ℕ)
+    (v : Follows R T before (record { rows = getD sides side []; count = count; kept = kept; accepted = accepted }))
+    (a : ℕ) (has : Tabled R tables a) (next : Stepped) (after : List (List ℕ))
+    (step : Stepping (steppedRows (getD tables a []) k (rowsOn sides side count)) side sides next after) where
   -- it carries both maps to the new numbers
-  pub letter-follows : Follows R T (before ++ (a ∷ [])) (followedBy next (x .kept) (x .accepted))
+  pub letter-follows : Follows R T (before ++ (a ∷ [])) (followedBy (getD after (1 - side) []) next kept accepted)
   unfolding followedBy readLetters
   letter-follows =
       let few : R .states < noNode = omega (arith, holds .states) in
-      let s = letter-steps R (readLetters R before T) tables k holds (x .rows) (x .count) (v .tree) a less next is in
+      let s = letter-steps R (readLetters R before T) tables k holds sides side count (v .tree) a has next after step in
       record {
         first = v .first;
-        tree = rw read-append (letter-holds R (readLetters R before T) tables k holds (x .rows) (x .count) (v .tree) a less next is);
+        tree = rw read-append (letter-holds R (readLetters R before T) tables k holds sides side count (v .tree) a has next after step);
         kept = rw (s .olds, s .stable, v .kept) (sym (follow-kept R (holds .well) (holds .some-set) few T (v .first) before a));
         accepted = rw (s .olds, s .stable, s .accepting, v .kept, v .accepted)
             (sym (follow-accepted R (holds .well) (holds .some-set) few T (v .first) before a));
@@ -113,48 +118,70 @@ module _ (R : Rule) (T : Tree) (before : List ℕ) (tables : List (List (List �
   -- and from its answer the next one can be read
   pub letter-few : next .count ≤ maxStates
   letter-few = tree-small R _ _ (holds .states)
-      (letter-holds R (readLetters R before T) tables k holds (x .rows) (x .count) (v .tree) a less next is)
+      (letter-holds R (readLetters R before T) tables k holds sides side count (v .tree) a has next after step)
 
 -- LETTER BY LETTER
 
--- the followed nodes y after the first `at` letters of w, read from x on
-pub record FollowedUpTo (tables : List (List (List ℕ))) (k : ℕ) (w : List ℕ) (x : Followed) (at : ℕ) (y : Followed) : Type 0 where
+-- the followed nodes on a side after the first `at` letters of w, read from x on
+pub record FollowedUpTo (tables : List (List (List ℕ))) (k : ℕ) (w : List ℕ) (x : Followed) (at : ℕ)
+    (sides : List (List ℕ)) (side count kept accepted : ℕ) : Type 0 where
   pub upto : at ≤ length w
-  pub names : (R : Rule) (T : Tree) (before : List ℕ) → FollowsOn R T before tables k w x → Follows R T (before ++ take at w) y
+  pub arrays : TwoSides sides
+  pub on : side < 2
+  pub names : (R : Rule) (T : Tree) (before : List ℕ) → FollowsOn R T before tables k w x → Follows R T (before ++ take at w)
+      (record { rows = getD sides side []; count = count; kept = kept; accepted = accepted })
 
 module _ (tables : List (List (List ℕ))) (k : ℕ) (w : List ℕ) (x : Followed) where
   -- the letters can be read
   pub followed-reads : Followable tables k w x → Readable tables k w (record { rows = x .rows; count = x .count })
   unfolding Followable Readable
   followed-reads (R, T, before, v) =
-      (R, readLetters R before T, record { holds = v .holds; below = v .below; tree = v .follows .tree })
+      (R, readLetters R before T, record { holds = v .holds; tabled = v .tabled; tree = v .follows .tree })
 
   -- at the start, and at the end
-  pub followed-none : FollowedUpTo tables k w x 0 x
-  followed-none = record { upto = omega arith; names = λ R T before v. rw append-nil (v .follows) }
+  pub followed-none : (other : List ℕ) → length (x .rows) ≡ places → length other ≡ places
+      → FollowedUpTo tables k w x 0 (x .rows ∷ other ∷ []) 0 (x .count) (x .kept) (x .accepted)
+  followed-none other long-rows long-other = record {
+    upto = omega arith;
+    arrays = two-sides (x .rows) other long-rows long-other;
+    on = omega arith;
+    names = λ R T before v. rw append-nil (v .follows);
+  }
 
-  pub followed-all : (at : ℕ) (y : Followed) → FollowedUpTo tables k w x at y → length w ≤ at → FollowsTo tables k w x y
-  unfolding FollowsTo
-  followed-all at y v h R T before on = rw (take-all at w h) at (v .names R T before on)
+  module _ (at : ℕ) (sides : List (List ℕ)) (side count kept accepted : ℕ)
+      (v : FollowedUpTo tables k w x at sides side count kept accepted) where
+    pub followed-all : length w ≤ at
+        → FollowsTo tables k w x (record { rows = getD sides side []; count = count; kept = kept; accepted = accepted })
+    unfolding FollowsTo
+    followed-all h R T before on = rw (take-all at w h) at (v .names R T before on)
 
-  module _ (at : ℕ) (y : Followed) (v : FollowedUpTo tables k w x at y) where
     -- the next letter can be read
-    pub followed-ready : Followable tables k w x → (y .count ≤ maxStates) × SetsFit (take (y .count) (y .rows))
+    pub followed-ready : Followable tables k w x → Steppable sides side count
     unfolding Followable
-    followed-ready (R, T, before, on) = letter-ready R _ tables k (on .holds) (y .rows) (y .count) (v .names R T before on .tree)
+    followed-ready (R, T, before, on) =
+        letter-ready R _ tables k (on .holds) sides side count (v .names R T before on .tree) (v .arrays) (v .on)
 
-    module _ (h : at < length w)
-        (next : Stepped) (is : next ≡ steppedRows (getD tables (getD w at 0) []) k (take (y .count) (y .rows))) where
-      -- and leads on
-      pub followed-few : Followable tables k w x → next .count ≤ maxStates
+    module _ (h : at < length w) (next : Stepped) (after : List (List ℕ))
+        (step : Stepping (steppedRows (getD tables (getD w at 0) []) k (rowsOn sides side count)) side sides next after) where
+      -- both maps can be carried to the side that was written,
+      pub followed-few : Followable tables k w x → (next .count ≤ maxStates) × (length (getD after (1 - side) []) ≡ places)
       unfolding Followable
-      followed-few (R, T, before, on) = letter-few R T (before ++ take at w) tables k (on .holds) y (v .names R T before on)
-          (getD w at 0) (every-at (λ a. a < R .letters) w at 0 (on .below) h) next is
+      followed-few (R, T, before, on) = (
+        letter-few R T (before ++ take at w) tables k (on .holds) sides side count kept accepted (v .names R T before on)
+            (getD w at 0) (every-at (Tabled R tables) w at 0 (on .tabled) h) next after step,
+        step .arrays .long (1 - side) (omega arith),
+      )
 
-      pub followed-more : FollowedUpTo tables k w x (at + 1) (followedBy next (y .kept) (y .accepted))
-      followed-more = record {
+      -- and that leads on
+      pub followed-more : (kept′ accepted′ : ℕ)
+          → record { rows = getD after (1 - side) []; count = next .count; kept = kept′; accepted = accepted′ }
+          ≡ followedBy (getD after (1 - side) []) next kept accepted
+          → FollowedUpTo tables k w x (at + 1) after (1 - side) (next .count) kept′ accepted′
+      followed-more kept′ accepted′ carries = record {
         upto = omega arith;
-        names = λ R T before on. rw (add-one, take-suc w at 0 h, ← append-assoc)
-            (letter-follows R T (before ++ take at w) tables k (on .holds) y (v .names R T before on)
-            (getD w at 0) (every-at (λ a. a < R .letters) w at 0 (on .below) h) next is);
+        arrays = step .arrays;
+        on = omega arith;
+        names = λ R T before on. rw (carries, add-one, take-suc w at 0 h, ← append-assoc)
+            (letter-follows R T (before ++ take at w) tables k (on .holds) sides side count kept accepted (v .names R T before on)
+            (getD w at 0) (every-at (Tabled R tables) w at 0 (on .tabled) h) next after step);
       }

@@ -17,6 +17,7 @@ use Rattle.history.specs.NamesByDepth.{depthsFrom, depths, nameAfter}
 use Rattle.history.specs.Tree.{Tree}
 use Rattle.history.proofs.NamesByDepth.{after-deeper, after-beside, name-root, name-next, name-depth, depth-next, name-small}
 use Rattle.tree.specs.Rows.{rowsFrom, rowsOf, withoutOld}
+use Rattle.tree.specs.PackedRows.{rowsIn}
 use Rattle.tree.specs.Pass.{blankRow}
 use Rattle.tree.specs.declared.rows.Row.{Row}
 use Rattle.treejudge.specs.JudgeCall.{nameRoom}
@@ -60,14 +61,14 @@ depths-of-rows d (node x below younger) =
     rw (map-append (λ x. x .depth) (rowsFrom (suc d) below) (rowsFrom d younger), depths-of-rows (suc d) below, depths-of-rows d younger)
 
 abbrev rowDepth : CountedRows → ℕ → ℕ
-rowDepth x i = getD (x .rows) i blankRow .depth
+rowDepth x i = getD (rowsIn (x .rows)) i blankRow .depth
 
 -- a row has the depth of its node
 depth-at : (R : Rule) (T : Tree) (x : CountedRows) → HoldsTree R T x → (i : ℕ) → i < x .count → rowDepth x i ≡ getD (depths T) i 0
 unfolding depths rowsOf
 depth-at R T x held i h =
-    let rows = take (x .count) (x .rows) in
-    ap (λ (r : Row). r .depth) (sym (getD-take (x .count) (x .rows) i blankRow h))
+    let rows = take (x .count) (rowsIn (x .rows)) in
+    ap (λ (r : Row). r .depth) (sym (getD-take (x .count) (rowsIn (x .rows)) i blankRow h))
     ∙ sym (List·getD-map (λ (r : Row). r .depth) rows i blankRow)
     ∙ ap (λ (l : List ℕ). getD l i 0) (sym (map-map (λ (r : Row). r .depth) withoutOld rows)
     ∙ ap (map (λ (r : Row). r .depth)) (held .are) ∙ depths-of-rows 0 T)
@@ -94,14 +95,14 @@ module _ (numbers : List ℕ) (long d : ℕ) (low : 1 ≤ d) (room : d ≤ lengt
 -- THE NAME OF A NODE
 
 -- the nodes up to node i are passed, and the first `long` numbers are the name of node i in every tree of these rows
-pub record NamedSoFar (rows : List Row) (number : ℕ) (numbers : List ℕ) (long i : ℕ) : Type 0 where
+pub record NamedSoFar (rows : List ℕ) (number : ℕ) (numbers : List ℕ) (long i : ℕ) : Type 0 where
   pub upto : i ≤ number
   pub room : length numbers ≡ maxStates
   pub short : long ≤ nameRoom
   pub name : (R : Rule) (T : Tree) (count : ℕ) → HoldsTree R T (record { rows = rows; count = count }) → i < count
       → take long numbers ≡ getD (names T) i []
 
-pub name-start : (rows : List Row) (number : ℕ) (numbers : List ℕ) → length numbers ≡ maxStates → NamedSoFar rows number numbers 0 0
+pub name-start : (rows : List ℕ) (number : ℕ) (numbers : List ℕ) → length numbers ≡ maxStates → NamedSoFar rows number numbers 0 0
 name-start rows number numbers room =
     record { upto = omega arith; room = room; short = omega arith; name = λ R T count held h. sym (name-root T) }
 

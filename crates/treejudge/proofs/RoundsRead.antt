@@ -10,6 +10,7 @@ use Rattle.table.specs.Rule.{Rule}
 use Rattle.table.proofs.Logic.{clash}
 use Rattle.history.specs.Rounds.{roundTree}
 use Rattle.history.proofs.TreesOfWalk.{round-next}
+use Rattle.tree.specs.PackedRows.{rowsIn}
 use Rattle.treejudge.specs.Reading.{Reads, ReadsTo}
 use Rattle.treejudge.specs.SameRows.{sameRows}
 use Rattle.treejudge.specs.Cycles.{AtRound, Ahead}
@@ -20,18 +21,18 @@ use Rattle.treejudge.proofs.SameTrees.{same-rows-same, same-trees-same}
 module _ {R : Rule} {u v : List ℕ} {tables : List (List (List ℕ))} {k i : ℕ} {x : CountedRows} (X : AtRound R u v tables k i x) where
   -- the tail is read from a round's tree
   pub round-reads : Reads R (roundTree R u v i) tables k v x
-  round-reads = record { holds = X .holds; below = X .below; tree = X .tree }
+  round-reads = record { holds = X .holds; tabled = X .tabled; tree = X .tree }
 
   -- to the next round's
   pub round-read : {y : CountedRows} → ReadsTo tables k v x y → AtRound R u v tables k (i + 1) y
   unfolding ReadsTo
   round-read read =
-      record { holds = X .holds; below = X .below; tree = rw (add-one, round-next) (read R (roundTree R u v i) round-reads) }
+      record { holds = X .holds; tabled = X .tabled; tree = rw (add-one, round-next) (read R (roundTree R u v i) round-reads) }
 
   -- or to a later one's
   pub rounds-read : (count : ℕ) {y : CountedRows} → Ahead tables k v count x y → AtRound R u v tables k (i + count) y
   unfolding Ahead
-  rounds-read count on = record { holds = X .holds; below = X .below; tree = on R u i X }
+  rounds-read count on = record { holds = X .holds; tabled = X .tabled; tree = on R u i X }
 
   module _ {j : ℕ} {y : CountedRows} (Y : AtRound R u v tables k j y) where
     -- two trees can be compared
@@ -39,8 +40,8 @@ module _ {R : Rule} {u v : List ℕ} {tables : List (List (List ℕ))} {k i : �
     both-small = (tree-small R _ x (X .holds .states) (X .tree), tree-small R _ y (X .holds .states) (Y .tree))
 
     -- and are the same if their rows are
-    pub rows-same : sameRows (take (x .count) (x .rows)) (take (y .count) (y .rows)) ≡ true → roundTree R u v i ≡ roundTree R u v j
+    pub rows-same : sameRows (take (x .count) (rowsIn (x .rows))) (take (y .count) (rowsIn (y .rows))) ≡ true → roundTree R u v i ≡ roundTree R u v j
     rows-same same = same-rows-same R _ _ x y (X .holds .sets) (X .tree) (Y .tree) same
 
-    pub rows-differ : sameRows (take (x .count) (x .rows)) (take (y .count) (y .rows)) ≡ false → roundTree R u v i ≡ roundTree R u v j → ⊥
+    pub rows-differ : sameRows (take (x .count) (rowsIn (x .rows))) (take (y .count) (rowsIn (y .rows))) ≡ false → roundTree R u v i ≡ roundTree R u v j → ⊥
     rows-differ differ e = clash differ (same-trees-same R _ x y (X .tree) (rw e (Y .tree)))

@@ -20,6 +20,7 @@ use Rattle.tree.specs.Pass.{blankRow}
 use Rattle.tree.specs.RecordRows.{places}
 use Rattle.tree.specs.declared.rows.Row.{Row}
 use Rattle.tree.proofs.RecordOfRows.{record-of-rows}
+use Rattle.tree.specs.PackedRows.{rowsIn}
 use Rattle.treejudge.specs.SameRows.{sameRow, sameRows}
 use Rattle.treejudge.specs.Reading.{HoldsTree}
 use Rattle.treejudge.specs.declared.letters.CountedRows.{CountedRows}
@@ -58,15 +59,17 @@ module _ (rows : List Row) (count i : ℕ) (held : length rows ≡ places) (few 
 
 module _ {rows others : List Row} {count i : ℕ} (v : SameBefore rows others count i)
     (held : length rows ≡ places) (other : length others ≡ places) (few : count ≤ maxStates) where
-  pub same-not : i < count → sameRow (getD rows i blankRow) (getD others i blankRow) ≡ false
-      → false ≡ sameRows (take count rows) (take count others)
-  unfolding sameRows
-  same-not h e = rw (opened rows count i held few h, opened others count i other few h, e) at (v .left)
+  module _ (h : i < count) (x y : Row) (is : x ≡ getD rows i blankRow) (is′ : y ≡ getD others i blankRow) where
+    pub same-not : sameRow x y ≡ false → false ≡ sameRows (take count rows) (take count others)
+    unfolding sameRows
+    same-not e = rw (opened rows count i held few h, opened others count i other few h, ← is, ← is′, e) at (v .left)
 
-  pub same-next : i < count → sameRow (getD rows i blankRow) (getD others i blankRow) ≡ true → SameBefore rows others count (i + 1)
-  unfolding sameRows
-  same-next h e =
-      rw (add-one i) (record { upto = h; left = rw (opened rows count i held few h, opened others count i other few h, e) at (v .left) })
+    pub same-next : sameRow x y ≡ true → SameBefore rows others count (i + 1)
+    unfolding sameRows
+    same-next e = rw (add-one i) (record {
+      upto = h;
+      left = rw (opened rows count i held few h, opened others count i other few h, ← is, ← is′, e) at (v .left);
+    })
 
   pub same-done : count ≤ i → true ≡ sameRows (take count rows) (take count others)
   unfolding sameRows
@@ -113,15 +116,15 @@ same-rows-in (x ∷ rows) (y ∷ others) e = and-both (sameRow x y) _ (same-row-
 
 -- trees with the same rows have one record, so they are the same tree
 pub same-rows-same : (R : Rule) (T U : Tree) (x y : CountedRows) → R .sets ≤ maxSets → HoldsTree R T x → HoldsTree R U y
-    → sameRows (take (x .count) (x .rows)) (take (y .count) (y .rows)) ≡ true → T ≡ U
+    → sameRows (take (x .count) (rowsIn (x .rows))) (take (y .count) (rowsIn (y .rows))) ≡ true → T ≡ U
 same-rows-same R T U x y sets held other e =
-    let rows = take (x .count) (x .rows) in
+    let rows = take (x .count) (rowsIn (x .rows)) in
     record-injective (R .states) (R .sets) T U (held .fits) (other .fits) (omega arith)
     (sym (record-of-rows (R .states) (R .sets) T (held .fits) rows (held .are))
-    ∙ record-of-rows (R .states) (R .sets) U (other .fits) rows (same-rows-out rows (take (y .count) (y .rows)) e ∙ other .are))
+    ∙ record-of-rows (R .states) (R .sets) U (other .fits) rows (same-rows-out rows (take (y .count) (rowsIn (y .rows))) e ∙ other .are))
 
 -- one tree has the same rows wherever it is held
 pub same-trees-same : (R : Rule) (T : Tree) (x y : CountedRows) → HoldsTree R T x → HoldsTree R T y
-    → sameRows (take (x .count) (x .rows)) (take (y .count) (y .rows)) ≡ true
+    → sameRows (take (x .count) (rowsIn (x .rows))) (take (y .count) (rowsIn (y .rows))) ≡ true
 same-trees-same R T x y held other =
-    same-rows-in (take (x .count) (x .rows)) (take (y .count) (y .rows)) (held .are ∙ sym (other .are))
+    same-rows-in (take (x .count) (rowsIn (x .rows))) (take (y .count) (rowsIn (y .rows))) (held .are ∙ sym (other .are))

@@ -7,14 +7,14 @@ use Rattle.table.specs.Table.{Every}
 use Rattle.word.specs.Walk.{rounds}
 use Rattle.history.specs.Rounds.{roundTree, FirstRepeat}
 use Rattle.history.specs.Following.{acceptedMap}
-use Rattle.treejudge.specs.Reading.{HoldsTables, HoldsTree}
+use Rattle.treejudge.specs.Reading.{Tabled, WithinLimits, HoldsTree}
 use Rattle.treejudge.specs.declared.letters.CountedRows.{CountedRows}
 use Rattle.treejudge.specs.declared.cycle.Cycle.{Cycle}
 
 -- the walk u v v v … is read, and x is its tree t(r)
 pub record AtRound (R : Rule) (u v : List ℕ) (tables : List (List (List ℕ))) (k r : ℕ) (x : CountedRows) : Type 0 where
-  pub holds : HoldsTables R tables k
-  pub below : Every (λ a. a < R .letters) v
+  pub holds : WithinLimits R k
+  pub tabled : Every (Tabled R tables) v
   pub tree : HoldsTree R (roundTree R u v r) x
 
 -- ROUNDS

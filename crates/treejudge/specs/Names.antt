@@ -2,7 +2,7 @@
 use mathlib.Core.Path.{_≡_}
 use mathlib.Core.Bool.{true}
 use mathlib.Core.List.{List, map, _++_}
-use Prim.Native.Nat.{ℕ, _-_, _^_, _<_}
+use Prim.Native.Nat.{ℕ, _-_, _^_}
 use lib.Bits.{bitAnd, bitOr}
 use lib.ListN.{take}
 use Rattle.table.specs.Rule.{Rule}
@@ -10,20 +10,21 @@ use Rattle.table.specs.Table.{Every}
 use Rattle.history.specs.Tree.{Tree, isTree}
 use Rattle.history.specs.Rounds.{readLetters}
 use Rattle.history.specs.Following.{carried, keptMap, acceptedMap}
+use Rattle.tree.specs.PackedRows.{rowsIn}
 use Rattle.tree.specs.declared.rows.Stepped.{Stepped}
-use Rattle.treejudge.specs.Reading.{HoldsTables, HoldsTree}
+use Rattle.treejudge.specs.Reading.{Tabled, WithinLimits, HoldsTree}
 use Rattle.treejudge.specs.declared.letters.CountedRows.{CountedRows}
 use Rattle.treejudge.specs.declared.follow.Followed.{Followed}
 
--- the followed nodes behind a letter
-unfoldable pub followedBy : Stepped → ℕ → ℕ → Followed
-followedBy next kept accepted =
+-- the followed nodes behind a letter, which has written these words
+unfoldable pub followedBy : List ℕ → Stepped → ℕ → ℕ → Followed
+followedBy words next kept accepted =
+    let olds = map (λ x. x .old) (take (next .count) (rowsIn words)) in
     record {
-      rows = next .rows;
+      rows = words;
       count = next .count;
-      kept = carried (map (λ x. x .old) (take (next .count) (next .rows))) (bitAnd kept (next .stable));
-      accepted = carried (map (λ x. x .old) (take (next .count) (next .rows)))
-          (bitAnd (bitOr accepted (bitAnd kept (next .accepting))) (next .stable));
+      kept = carried olds (bitAnd kept (next .stable));
+      accepted = carried olds (bitAnd (bitOr accepted (bitAnd kept (next .accepting))) (next .stable));
     }
 
 -- all nodes, before the first letter
@@ -39,8 +40,8 @@ pub record Follows (R : Rule) (T : Tree) (w : List ℕ) (x : Followed) : Type 0 
 
 -- the letters w are read on, behind others
 pub record FollowsOn (R : Rule) (T : Tree) (before : List ℕ) (tables : List (List (List ℕ))) (k : ℕ) (w : List ℕ) (x : Followed) : Type 0 where
-  pub holds : HoldsTables R tables k
-  pub below : Every (λ a. a < R .letters) w
+  pub holds : WithinLimits R k
+  pub tabled : Every (Tabled R tables) w
   pub follows : Follows R T before x
 
 unfoldable pub Followable : List (List (List ℕ)) → ℕ → List ℕ → Followed → Type 0

@@ -1,27 +1,39 @@
 -- Reading letters: what the contracts of the tree judge's own functions say of tables and rows.
 use mathlib.Core.Path.{_≡_}
 use mathlib.Core.Bool.{true}
-use mathlib.Core.List.{List, []}
-use Prim.Native.Nat.{ℕ, _≤_, _<_}
+use mathlib.Core.List.{List, [], _∷_}
+use Prim.Native.Nat.{ℕ, _^_, _≤_, _<_}
+use lib.Bits.{bitOr}
 use lib.ListN.{getD, take}
+use Rattle.table.specs.BitSet.{member}
 use Rattle.table.specs.Limits.{maxStates, maxLetters, maxSets}
 use Rattle.table.specs.Rule.{Grid, Rule}
 use Rattle.table.specs.Table.{Every, WellFormed}
 use Rattle.table.specs.Held.{held}
-use Rattle.table.specs.Lookup.{letterTables}
+use Rattle.table.specs.Lookup.{letterTable}
 use Rattle.history.specs.Forest.{size}
 use Rattle.history.specs.Tree.{Tree, isTree}
 use Rattle.history.specs.Rounds.{readLetters}
+use Rattle.tree.specs.PackedRows.{rowsIn}
 use Rattle.tree.specs.Rows.{AreRows}
 use Rattle.treejudge.specs.declared.letters.CountedRows.{CountedRows}
 
--- the tables of the letters below m
-unfoldable pub TablesOf : ℕ → Grid → List (List (List ℕ)) → Type 0
-TablesOf m cells tables = (a : ℕ) → a < m → getD tables a [] ≡ letterTables cells a
+-- the map of the letters of a word, joined to a map of letters
+unfoldable pub occurring : ℕ → List ℕ → ℕ
+occurring others [] = others
+occurring others (a ∷ w) = occurring (bitOr others (2 ^ a)) w
 
--- the tables and the number of sets are those of the well-formed rule R, which is within the limits
-pub record HoldsTables (R : Rule) (tables : List (List (List ℕ))) (k : ℕ) : Type 0 where
-  pub entries : TablesOf (R .letters) (held (R .grid)) tables
+-- the tables of a map of letters
+unfoldable pub TablesOf : ℕ → Grid → List (List (List ℕ)) → Type 0
+TablesOf letters cells tables = (a : ℕ) → member letters a ≡ true → getD tables a [] ≡ letterTable (getD cells a [])
+
+-- a letter of the rule has its tables
+pub record Tabled (R : Rule) (tables : List (List (List ℕ))) (a : ℕ) : Type 0 where
+  pub below : a < R .letters
+  pub entries : getD tables a [] ≡ letterTable (getD (held (R .grid)) a [])
+
+-- the rule R is well-formed and within the limits, and has k sets
+pub record WithinLimits (R : Rule) (k : ℕ) : Type 0 where
   pub number : R .sets ≡ k
   pub well : WellFormed R
   pub states : R .states ≤ maxStates
@@ -33,12 +45,12 @@ pub record HoldsTables (R : Rule) (tables : List (List (List ℕ))) (k : ℕ) : 
 pub record HoldsTree (R : Rule) (T : Tree) (x : CountedRows) : Type 0 where
   pub fits : isTree (R .states) (R .sets) T ≡ true
   pub nodes : x .count ≡ size T
-  pub are : AreRows (take (x .count) (x .rows)) T
+  pub are : AreRows (take (x .count) (rowsIn (x .rows))) T
 
 -- the letters w are read from T
 pub record Reads (R : Rule) (T : Tree) (tables : List (List (List ℕ))) (k : ℕ) (w : List ℕ) (x : CountedRows) : Type 0 where
-  pub holds : HoldsTables R tables k
-  pub below : Every (λ a. a < R .letters) w
+  pub holds : WithinLimits R k
+  pub tabled : Every (Tabled R tables) w
   pub tree : HoldsTree R T x
 
 unfoldable pub Readable : List (List (List ℕ)) → ℕ → List ℕ → CountedRows → Type 0

@@ -2,30 +2,32 @@
 // the present numbers, and each letter carries them from the old numbers to the new ones.
 use crate::letters::AllTables;
 use crate::letters::CountedRows;
+use tree::packed::Rows;
+use tree::packed::unpack;
 use tree::rows::PLACES;
-use tree::rows::Row;
-use tree::rows::Stepped;
 use tree::step::step_rows;
 ghost use mathlib.Core.Path.{_≡_};
 ghost use mathlib.Core.List.{map};
 ghost use Prim.Native.Nat.{_≤_};
-ghost use lib.ListN.{take};
+ghost use lib.ListN.{length, take};
 ghost use Rattle.table.specs.Limits.{maxStates};
 ghost use Rattle.history.specs.Following.{carried};
-ghost use Rattle.treejudge.specs.Names.{followedBy, begunAt, Followable, FollowsTo};
+ghost use Rattle.tree.specs.PackedRows.{rowsIn};
+ghost use Rattle.tree.specs.RecordRows.{places};
+ghost use Rattle.treejudge.specs.Names.{begunAt, Followable, FollowsTo};
 
 // A tree, the map of its nodes that have kept their names, and that of those among them that were accepting once.
 pub struct Followed {
-    pub rows: [Row; PLACES],
+    pub rows: Rows,
     pub count: usize,
     pub kept: u16,
     pub accepted: u16,
 }
 
 // A map of old numbers carried to the numbers of the rows.
-fn carry(rows: [Row; PLACES], count: usize, nodes: u16) -> u16
-    requires { ⌜ count ≤ maxStates ⌝ }
-    ensures { λ r. ⌜ r ≡ carried (map (λ x. x .old) (take count rows)) nodes ⌝ }
+fn carry(rows: &Rows, count: usize, nodes: u16) -> u16
+    requires { ⌜ (count ≤ maxStates) × (length (now rows) ≡ places) ⌝ }
+    ensures { λ r. ⌜ r ≡ carried (map (λ x. x .old) (take count (rowsIn (now (rows .entry))))) nodes ⌝ }
 {
     if nodes == 0 {
         return 0;
@@ -33,29 +35,14 @@ fn carry(rows: [Row; PLACES], count: usize, nodes: u16) -> u16
     let mut new_nodes = 0u16;
     let mut j = 0usize;
     while j < count {
-        let old = rows[j].old;
+        let row = unpack(rows[j]);
+        let old = row.old;
         if old < 16 && (nodes >> old) % 2 == 1 {
             new_nodes = new_nodes | (1u16 << j);
         }
         j += 1;
     }
     new_nodes
-}
-
-// The followed nodes behind a letter: those that are stable at it keep their names; one that is accepting was so once.
-fn follow(next: Stepped, kept: u16, accepted: u16) -> Followed
-    requires { ⌜ next .count ≤ maxStates ⌝ }
-    ensures { λ r. ⌜ r ≡ followedBy next kept accepted ⌝ }
-{
-    let rows = next.rows;
-    let stays = kept & next.stable;
-    let once = (accepted | (kept & next.accepting)) & next.stable;
-    Followed {
-        rows: rows,
-        count: next.count,
-        kept: carry(rows, next.count, stays),
-        accepted: carry(rows, next.count, once),
-    }
 }
 
 // Before the first letter every node of a tree has kept its name, and none was accepting.
@@ -77,14 +64,30 @@ pub fn follow_letters(tables: &AllTables, k: u8, w: &[u8], from: Followed) -> Fo
     requires { ⌜ Followable (now tables) k (now w) from ⌝ }
     ensures { λ r. ⌜ FollowsTo (now (tables .entry)) k (now (w .entry)) from r ⌝ }
 {
-    let mut now = from;
+    let mut sides = [[0u64; PLACES]; 2];
+    let rows = from.rows;
+    sides[0] = rows;
+    let mut side = 0usize;
+    let mut count = from.count;
+    let mut kept = from.kept;
+    let mut accepted = from.accepted;
     let mut at = 0usize;
     while at < w.len() {
-        let rows = now.rows;
-        let next = step_rows(&tables[w[at] as usize], k, rows, now.count);
-        let followed = follow(next, now.kept, now.accepted);
-        now = followed;
+        let next = step_rows(&tables[w[at] as usize], k, &mut sides, side, count);
+        side = 1 - side;
+        count = next.count;
+        // Those that are stable at the letter keep their names; one that is accepting was so once.
+        let stays = kept & next.stable;
+        let once = (accepted | (kept & next.accepting)) & next.stable;
+        kept = carry(&sides[side], count, stays);
+        accepted = carry(&sides[side], count, once);
         at += 1;
     }
-    now
+    let last = sides[side];
+    Followed {
+        rows: last,
+        count: count,
+        kept: kept,
+        accepted: accepted,
+    }
 }

@@ -2,8 +2,9 @@
 use crate::cycle::find_cycle;
 use crate::entry::find_entry;
 use crate::letters::CountedRows;
-use crate::letters::all_tables;
+use crate::letters::occurring;
 use crate::letters::read_letters;
+use crate::letters::tables_of;
 use crate::name::first_node;
 use crate::name::node_name;
 use crate::name::store_name;
@@ -50,7 +51,10 @@ fn judge_walk<'a>(
         → Judged R (now (u .entry)) (now (v .entry)) (now (names .entry)) r (now (names .exit))) ⌝ }
 {
     let k = header.sets as u8;
-    let tables = all_tables(cells, header.letters);
+    // tables for the letters that occur in the walk, and for no others
+    let lead_letters = occurring(u, 0);
+    let letters = occurring(v, lead_letters);
+    let tables = tables_of(cells, letters);
     let root = Tree::start(header.start);
     let rows = root.rows;
     let start = CountedRows {

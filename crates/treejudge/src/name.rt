@@ -1,5 +1,6 @@
 // The name of a node, in a lent buffer. Nodes are numbered in dictionary order, so the first of a map is the lowest member.
 use crate::letters::CountedRows;
+use tree::packed::unpack;
 use tree::rows::NODES;
 ghost use mathlib.Core.Path.{_≡_};
 ghost use Prim.Native.Nat.{_≤_};
@@ -37,7 +38,8 @@ pub fn node_name(tree: CountedRows, number: usize) -> Name
     let mut i = 0usize;
     while i < number {
         i += 1;
-        let depth = rows[i].depth as usize;
+        let row = unpack(rows[i]);
+        let depth = row.depth as usize;
         let last = depth - 1;
         if last < length {
             numbers[last] = numbers[last] + 1;

@@ -26,7 +26,8 @@ returns c = rw (← (rw (c .before .number .given .1) at (c .before .before .bef
 returns-2 : tie.Need-returns-2
 unfolding readCell
 returns-2 c =
-    rw (← (rw (c .before .before .map .given .1) at (c .before .before .before .before .read-byte .ensures))) (c .read-row .ensures)
+    let r = c .before .before .before in
+    rw (← (rw (r .map .given .1) at (r .before .before .read-byte .ensures))) (c .read-row .ensures)
 
 pub read-cell-spec : {M : Type 1} → statement M
 read-cell-spec =

@@ -1,12 +1,15 @@
 -- The cells of a letter, by the laws of ManyReading.
 use Prim.Native.Nat.{_-_}
+use mathlib.Core.List.{[]}
+use mathlib.Core.Path.{_∙_}
+use native.Mathlib.Omega.{arith}
 use borrow.Author.Needs.{needs}
-use lib.ListN.{drop}
+use lib.ListN.{drop, getD-replicate}
 use Rattle.table.specs.Limits.{maxStates}
-use Rattle.table.specs.Held.{blankSquare}
+use Rattle.table.specs.Held.{blankRow, blankSquare}
 use Rattle.table.specs.Table.{readCell}
 use Rattle.table.specs.Cursor.{readSquare}
-use Rattle.table.proofs.ManyReading.{ManySoFar, many-start, many-more, many-refused, many-done}
+use Rattle.table.proofs.ManyReading.{ManySoFar, many-start, many-place, many-more, many-refused, many-done}
 use Rattle.table.proofs.cells.read_letter.Statement.{statement}
 use Rattle.table.proofs.cells.read_letter.Tie as tie
 
@@ -21,26 +24,28 @@ loop-holds : tie.Need-loop-holds Inv-loop μ-loop
 unfolding readSquare
 loop-holds c = rw (c .before .pre .1) (many-start _ _ _ _ _)
 
-read-cell-requires : tie.Need-read-cell-requires Inv-loop μ-loop
-read-cell-requires c κs = search needs
+mul-read-cell : tie.Need-mul-read-cell Inv-loop μ-loop
+mul-read-cell c = search needs
 
-enum-known-behind : tie.Need-enum-known-behind Inv-loop μ-loop
-enum-known-behind c = search needs
+index-1-read-cell : tie.Need-index-1-read-cell Inv-loop μ-loop
+index-1-read-cell c = search needs
+
+read-cell-requires : tie.Need-read-cell-requires Inv-loop μ-loop
+read-cell-requires c κs =
+    let l = c .before in
+    (search needs, many-place (l .before .loop .inv) [] ∙ getD-replicate maxStates (l .before .loop .state) blankRow [] (search needs))
+
+enum-known-number : tie.Need-enum-known-number Inv-loop μ-loop
+enum-known-number c = search needs
 
 returns : tie.Need-returns Inv-loop μ-loop
 returns c =
-    let r = c .before .before .before .before in
-    many-refused (r .before .before .loop .inv) (r .before .loop-test .taken) _
-    (rw (c .before .behind .given .1) at (r .read-cell .ensures))
+    let r = c .before .before .before in
+    let l = r .before .before in
+    many-refused (l .before .loop .inv) (l .loop-test .taken) _ (rw (c .before .number .given .1) at (r .read-cell .ensures))
 
-enum-known-behind-2 : tie.Need-enum-known-behind-2 Inv-loop μ-loop
-enum-known-behind-2 c = search needs
-
-mul-row : tie.Need-mul-row Inv-loop μ-loop
-mul-row c = search needs
-
-element-set-from-row : tie.Need-element-set-from-row Inv-loop μ-loop
-element-set-from-row c = search needs
+enum-known-next : tie.Need-enum-known-next Inv-loop μ-loop
+enum-known-next c = search needs
 
 add-state : tie.Need-add-state Inv-loop μ-loop
 add-state c = search needs
@@ -50,9 +55,10 @@ loop-less c = search needs
 
 loop-again : tie.Need-loop-again Inv-loop μ-loop
 loop-again c =
-    let r = c .before .before .before .before in
-    many-more (r .before .before .loop .inv) (r .before .loop-test .taken) (search needs) _ _
-    (rw (c .before .behind2 .given .1) at (r .read-cell .ensures))
+    let r = c .before .before .before in
+    let l = r .before .before in
+    many-more (l .before .loop .inv) (l .loop-test .taken) (search needs) _ _
+    (rw (c .before .next .given .1) at (r .read-cell .ensures))
 
 returns-2 : tie.Need-returns-2 Inv-loop μ-loop
 returns-2 c = many-done (c .before .loop .inv) (c .loop-test .left)
@@ -64,12 +70,12 @@ read-letter-spec =
     Inv-loop
     μ-loop
     loop-holds
+    mul-read-cell
+    index-1-read-cell
     read-cell-requires
-    enum-known-behind
+    enum-known-number
     returns
-    enum-known-behind-2
-    mul-row
-    element-set-from-row
+    enum-known-next
     add-state
     loop-less
     loop-again

@@ -34,10 +34,11 @@ start-requires c κs = search needs
 
 put-record-requires : tie.Need-put-record-requires
 put-record-requires c κs =
-    let h = c .before .before .before .before .before in
+    let made = c .before .before .before in
+    let h = made .before .before .before in
     let r = h .before .before in
     let v = reading-rule _ _ _ (r .read-rule .ensures .1) _ (sym (h .header .given .1) ∙ r .read-rule .ensures .0) in
-    (start-recordable _ [] _ _ v _ (c .before .before .start .ensures), c .before .before .before .if1 .left)
+    (start-recordable _ [] _ _ v _ (made .start .ensures), made .before .if1 .left, search needs)
 
 returns-2 : tie.Need-returns-2
 returns-2 c =
@@ -51,7 +52,7 @@ same-length c = search needs
 returns-3 : tie.Need-returns-3
 returns-3 c =
     let put = c .before .before in
-    let made = put .before .before .before in
+    let made = put .before .before .before .before in
     let h = made .before .before .before in
     let r = h .before .before in
     let v = reading-rule _ _ _ (r .read-rule .ensures .1) _ (sym (h .header .given .1) ∙ r .read-rule .ensures .0) in

@@ -2,13 +2,12 @@
 use borrow.Author.Needs.{needs}
 use mathlib.Core.List.{[]}
 use mathlib.Core.Path.{sym, _∙_}
-use Prim.Native.Nat.{_≤_}
+use Prim.Native.Nat.{_<_}
 use native.Mathlib.Omega.{arith}
+use Rattle.table.specs.Limits.{maxLetters}
 use Rattle.table.proofs.GridReading.{RuleRead, reading-refused, reading-rule}
-use Rattle.table.specs.Limits.{maxStates}
-use Rattle.tree.specs.Rows.{StepsTo}
-use Rattle.tree.proofs.StepCall.{step-refused, TreeRead, tree-refused, tree-read, numbers-fit}
-use Rattle.tree.proofs.StepCall.{step-no-letter, step-no-tree, step-no-room, step-ready, step-taken, step-recordable, step-done}
+use Rattle.tree.proofs.StepCall.{step-refused, TreeRead, tree-refused, tree-read, numbers-fit, letter-fits}
+use Rattle.tree.proofs.StepCall.{step-no-letter, step-no-tree, step-no-room, step-ready, step-recordable, step-done}
 use Rattle.tree.proofs.calls.step.Statement.{statement}
 use Rattle.tree.proofs.calls.step.Tie as tie
 
@@ -23,16 +22,12 @@ tree : (c : tie.After-nodes) → let k = c .before .before .before in let h = k 
     (h .before .before .before .before .before .before .before .args .bytes .now) (c .nodes .given .0 .0) (k .checked .result .tree .rows)
 tree c = let k = c .before .before .before in tree-read _ _ _ _ (k .checked .ensures) _ (c .nodes .given .1)
 
--- the letter is taken
-steps : (c : tie.After-step-rows) → let n = c .before .before .before .before .before .before .before .before in
-    let l = n .before .before .before .before in let h = l .before .before .before in
-    StepsTo (rule h .rule) (h .before .before .before .before .before .before .before .args .letter) (tree n .tree) (c .step-rows .result)
-    × (c .step-rows .result .count ≤ maxStates)
-steps c =
-    let n = c .before .before .before .before .before .before .before .before in
-    let l = n .before .before .before .before in
-    step-taken _ _ _ [] _ _ (rule (l .before .before .before)) (l .if1 .left) _ _ (tree n) _ _
-    (c .before .before .before .before .letter-tables .ensures) (c .step-rows .ensures)
+-- the letter's square is one of the arrays
+letter : (c : tie.Else2) → let l = c .before .before .before .before .before .before in let h = l .before .before .before in
+    h .before .before .before .before .before .before .before .args .letter < maxLetters
+letter c =
+    let l = c .before .before .before .before .before .before in
+    letter-fits _ _ [] [] _ _ (rule (l .before .before .before)) (l .if1 .left)
 
 read-rule-requires : tie.Need-read-rule-requires
 read-rule-requires c κs = search needs
@@ -84,28 +79,40 @@ returns-3 c =
     let l = n .before .before .before .before in
     step-no-room _ _ _ _ _ _ (rule (l .before .before .before)) (l .if1 .left) _ _ (tree n) (c .before .if2 .taken) _ (c .step-refusal4 .ensures)
 
-letter-tables-requires : tie.Need-letter-tables-requires
-letter-tables-requires c κs = search needs
+mul-fill-table : tie.Need-mul-fill-table
+mul-fill-table c = let small = letter c in search needs
+
+index-1-fill-table : tie.Need-index-1-fill-table
+index-1-fill-table c = letter c
+
+fill-table-requires : tie.Need-fill-table-requires
+fill-table-requires c κs = search needs
 
 cast-step-rows : tie.Need-cast-step-rows
 cast-step-rows c =
-    let l = c .before .before .before .before .before .before .before .before .before .before .before in
+    let l = c .before .before .before .before .before .before .before .before .before .before .before .before in
     omega (arith, numbers-fit (rule (l .before .before .before)))
+
+array-set-from-sides : tie.Need-array-set-from-sides
+array-set-from-sides c = search needs
 
 step-rows-requires : tie.Need-step-rows-requires
 step-rows-requires c κs =
-    let n = c .before .before .before .before .before .before .before in
+    let n = c .before .before .before .before .before .before .before .before .before in
     let l = n .before .before .before .before in
-    step-ready _ _ _ [] _ _ (rule (l .before .before .before)) (l .if1 .left) _ _ (tree n)
+    step-ready _ _ _ [] _ _ (rule (l .before .before .before)) (l .if1 .left) _ _ (tree n) _ (search needs)
+
+index-1-put-record : tie.Need-index-1-put-record
+index-1-put-record c = search needs
 
 put-record-requires : tie.Need-put-record-requires
 put-record-requires c κs =
     let s = c .before .before in
-    let n = s .before .before .before .before .before .before .before .before in
-    let l = n .before .before .before .before in (
-      step-recordable _ _ _ [] _ _ (rule (l .before .before .before)) (l .if1 .left) _ _ (tree n) _ (steps s .0) (steps s .1),
-      s .before .before .before .before .before .before .if2 .left,
-    )
+    let n = s .before .before .before .before .before .before .before .before .before .before in
+    let l = n .before .before .before .before in
+    let (fits, long) = step-recordable _ _ _ [] _ _ (rule (l .before .before .before)) (l .if1 .left) _ _ (tree n) _ _ _ _
+    (s .before .before .before .before .before .fill-table .ensures) (s .step-rows .ensures) in
+    (fits, s .before .before .before .before .before .before .before .before .if2 .left, long)
 
 returns-4 : tie.Need-returns-4
 returns-4 c =
@@ -120,10 +127,11 @@ returns-5 : tie.Need-returns-5
 returns-5 c =
     let p = c .before .before in
     let s = p .before .before .before in
-    let n = s .before .before .before .before .before .before .before .before in
+    let n = s .before .before .before .before .before .before .before .before .before .before in
     let l = n .before .before .before .before in
-    step-done _ _ _ _ _ _ (rule (l .before .before .before)) (l .if1 .left) _ _ (tree n) _ (steps s .0)
-    (s .before .before .before .before .before .before .if2 .left) _ _ (p .put-record .ensures .0) (p .put-record .ensures .1)
+    step-done _ _ _ _ _ _ (rule (l .before .before .before)) (l .if1 .left) _ _ (tree n) _ _ _ _
+    (s .before .before .before .before .before .fill-table .ensures) (s .step-rows .ensures)
+    (s .before .before .before .before .before .before .before .before .if2 .left) _ _ (p .put-record .ensures .0) (p .put-record .ensures .1)
 
 pub step-spec : {M : Type 1} → statement M
 step-spec =
@@ -142,9 +150,13 @@ step-spec =
     returns-2
     step-refusal-requires-4
     returns-3
-    letter-tables-requires
+    mul-fill-table
+    index-1-fill-table
+    fill-table-requires
+    array-set-from-sides
     cast-step-rows
     step-rows-requires
+    index-1-put-record
     put-record-requires
     returns-4
     same-length

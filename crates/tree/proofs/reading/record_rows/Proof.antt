@@ -1,26 +1,25 @@
 -- A row for each mark, by the laws of ReadingInTurn.
 use borrow.Author.Needs.{needs}
 use Prim.Native.Nat.{_+_, _-_}
-use mathlib.Core.Path.{refl}
+use mathlib.Core.Path.{refl, sym, _∙_}
 use native.Mathlib.Omega.{arith}
 use lib.ListN.{length}
 use Rattle.history.specs.Record.{hostedIn}
 use Rattle.table.proofs.Parts.{to-end}
+use Rattle.tree.specs.PackedRows.{rowsIn}
+use Rattle.tree.proofs.PackedWords.{row-written, rows-length}
 use Rattle.tree.proofs.ReadingInTurn.{deeper-few, RowsSoFar, rows-start, rows-next, rows-done}
 use Rattle.tree.proofs.reading.record_rows.Statement.{statement}
 use Rattle.tree.proofs.reading.record_rows.Tie as tie
 
 abbrev Inv-loop : tie.InvT-loop
-Inv-loop n map hosts marks rows₀ node₀ rows node = RowsSoFar (hostedIn n map hosts) marks rows node
+Inv-loop n map hosts marks rows₀ node₀ rows node = RowsSoFar (hostedIn n map hosts) marks (rowsIn rows) node
 
 abbrev μ-loop : tie.MeasureT-loop
 μ-loop n map hosts marks rows₀ node₀ rows node = length marks - node
 
-blank-row-requires : tie.Need-blank-row-requires Inv-loop μ-loop
-blank-row-requires c κs = search needs
-
 loop-holds : tie.Need-loop-holds Inv-loop μ-loop
-loop-holds c = rows-start _ _ _ refl (c .before .before .before .pre .1)
+loop-holds c = rows-start _ _ _ refl (c .before .before .pre .1)
 
 shared-slice-read-mark : tie.Need-shared-slice-read-mark Inv-loop μ-loop
 shared-slice-read-mark c = search needs
@@ -47,7 +46,7 @@ add-end : tie.Need-add-end Inv-loop μ-loop
 add-end c =
     let turn = c .before .before .before in
     let node = turn .before .loop .node in
-    let marks = turn .before .before .before .before .before .args .marks .now in
+    let marks = turn .before .before .before .before .args .marks .now in
     omega (arith, deeper-few _ (node + 1) marks (to-end (node + 1) marks) (c .deeper .ensures))
 
 hosted-requires : tie.Need-hosted-requires Inv-loop μ-loop
@@ -56,25 +55,33 @@ hosted-requires c κs = search needs
 hosted-requires-2 : tie.Need-hosted-requires-2 Inv-loop μ-loop
 hosted-requires-2 c κs = search needs
 
+pack-requires : tie.Need-pack-requires Inv-loop μ-loop
+pack-requires c κs = search needs
+
 mul-rows : tie.Need-mul-rows Inv-loop μ-loop
 mul-rows c = search needs
 
-array-set-from-rows : tie.Need-array-set-from-rows Inv-loop μ-loop
-array-set-from-rows c = search needs
+array-write-rows : tie.Need-array-write-rows Inv-loop μ-loop
+array-write-rows c = search needs
 
 loop-less : tie.Need-loop-less Inv-loop μ-loop
 loop-less c = search needs
 
 loop-again : tie.Need-loop-again Inv-loop μ-loop
 loop-again c =
-    let turn = c .before .before .before .before .before in
+    let below = c .before .before .before in
+    let turn = below .before .before .before in
     let node = turn .before .loop .node in
-    let marks = turn .before .before .before .before .before .args .marks .now in
-    rows-next (turn .before .loop .inv) (turn .loop-test .taken) _ _ _ _ (to-end (node + 1) marks) (c .before .before .deeper .ensures)
-    (c .before .hosted .ensures) (c .hosted2 .ensures)
+    let marks = turn .before .before .before .before .args .marks .now in
+    rows-next (turn .before .loop .inv) (turn .loop-test .taken) _ _ _ _ (to-end (node + 1) marks) (below .deeper .ensures)
+    (c .before .before .hosted .ensures) (c .before .hosted2 .ensures) _
+    (row-written (turn .before .loop .rows) node (c .pack .result) (c .pack .ensures))
 
 returns : tie.Need-returns Inv-loop μ-loop
-returns c = rows-done (c .before .loop .inv) (c .loop-test .left)
+returns c = (
+  rows-done (c .before .loop .inv) (c .loop-test .left),
+  sym (rows-length (c .before .loop .rows)) ∙ c .before .loop .inv .held,
+)
 
 pub record-rows-spec : {M : Type 1} → statement M
 record-rows-spec =
@@ -82,7 +89,6 @@ record-rows-spec =
     (tie.spec
     Inv-loop
     μ-loop
-    blank-row-requires
     loop-holds
     shared-slice-read-mark
     cast-depth
@@ -94,8 +100,9 @@ record-rows-spec =
     add-end
     hosted-requires
     hosted-requires-2
+    pack-requires
     mul-rows
-    array-set-from-rows
+    array-write-rows
     loop-less
     loop-again
     returns)

@@ -7,23 +7,11 @@ use Rattle.tree.proofs.step.meet.Tie as tie
 cast-active : tie.Need-cast-active
 cast-active c = search needs
 
-index-1-look-up : tie.Need-index-1-look-up
-index-1-look-up c = search needs
-
 look-up-requires : tie.Need-look-up-requires
 look-up-requires c κs = search needs
 
-index-1-look-up-2 : tie.Need-index-1-look-up-2
-index-1-look-up-2 c = search needs
-
 look-up-requires-2 : tie.Need-look-up-requires-2
 look-up-requires-2 c κs = search needs
-
-mul-look-up : tie.Need-mul-look-up
-mul-look-up c = search needs
-
-index-1-look-up-3 : tie.Need-index-1-look-up-3
-index-1-look-up-3 c = search needs
 
 look-up-requires-3 : tie.Need-look-up-requires-3
 look-up-requires-3 c κs = search needs
@@ -41,8 +29,8 @@ returns c =
       c .minus2 .ensures,
       c .before .minus .ensures,
       c .before .before .look-up3 .ensures,
-      c .before .before .before .before .look-up2 .ensures,
-      c .before .before .before .before .before .before .look-up .ensures,
+      c .before .before .before .look-up2 .ensures,
+      c .before .before .before .before .look-up .ensures,
     )
 
 pub meet-spec : {M : Type 1} → statement M
@@ -50,12 +38,8 @@ meet-spec =
     tie.close
     (tie.spec
     cast-active
-    index-1-look-up
     look-up-requires
-    index-1-look-up-2
     look-up-requires-2
-    mul-look-up
-    index-1-look-up-3
     look-up-requires-3
     minus-requires
     minus-requires-2

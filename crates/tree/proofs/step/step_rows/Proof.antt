@@ -1,17 +1,22 @@
 -- `step_rows` meets its contract, by the laws of PassLoop: one for each way through the loop's body.
-use mathlib.Core.Path.{refl, _∙_}
+use mathlib.Core.Path.{_≡_, refl, _∙_}
 use mathlib.Core.Logic.{inl, inr, ⊎-elim}
 use Prim.Native.Nat.{_+_, _*_, _-_, _<_}
 use native.Mathlib.Omega.{arith}
 use borrow.Author.Needs.{needs}
 use borrow.Author.Tests.{ltb-true, ltb-false}
-use Rattle.tree.specs.Pass.{levelsOf, steppedRows}
-use Rattle.tree.proofs.PassLoop.{Reading, row-left, set-fits, close-none, close-some, row-skipped, row-removed, row-kept, pass-over}
+use mathlib.Core.List.{[]}
+use lib.ListN.{getD}
+use Rattle.tree.specs.Pass.{blankRow, levelsOf}
+use Rattle.tree.specs.PackedRows.{rowsIn}
+use Rattle.tree.proofs.PassLoop.{row-left, set-fits, close-none, close-some, row-skipped, row-removed, row-kept}
+use Rattle.tree.proofs.PassLoop.{OnSides, sides-start, row-read, sides-kept, sides-written, sides-done}
 use Rattle.tree.proofs.step.step_rows.Statement.{statement}
 use Rattle.tree.proofs.step.step_rows.Tie as tie
 use Rattle.tree.proofs.step.step_rows.Reads as reads
 use Rattle.tree.proofs.step.step_rows.Lts as lts
-use Rattle.tree.proofs.step.blank_row.Reads as blank-row-reads
+use Rattle.tree.proofs.packed.pack.Reads as pack-reads
+use Rattle.tree.proofs.packed.unpack.Reads as unpack-reads
 use Rattle.tree.proofs.step.enter.Reads as enter-reads
 use Rattle.tree.proofs.step.joined_if.Reads as joined-if-reads
 use Rattle.tree.proofs.step.meet.Reads as meet-reads
@@ -21,21 +26,23 @@ use Rattle.tree.proofs.step.sprout_row.Reads as sprout-row-reads
 use Rattle.tree.proofs.step.stepped.Reads as stepped-reads
 
 abbrev Inv-loop : tie.InvT-loop
-Inv-loop tables k count rows out₀ taken₀ sprout₀ named₀ accepting₀ stable₀ top₀ i₀ j₀ out taken sprout named accepting stable top i j =
-    Reading tables k count rows out taken sprout named accepting stable top i j
+Inv-loop tables k sides₀ from count to taken₀ sprout₀ named₀ accepting₀ stable₀ top₀ i₀ j₀ sides taken sprout named accepting stable top i j =
+    OnSides tables k count from sides₀ sides taken sprout named accepting stable top i j
 
 abbrev μ-loop : tie.MeasureT-loop
-μ-loop tables k count rows out₀ taken₀ sprout₀ named₀ accepting₀ stable₀ top₀ i₀ j₀ out taken sprout named accepting stable top i j =
+μ-loop tables k sides₀ from count to taken₀ sprout₀ named₀ accepting₀ stable₀ top₀ i₀ j₀ sides taken sprout named accepting stable top i j =
     2 * (count - i) + top
 
--- where no level is closed, a row is left
-less : (c : lts.Else3 (
-  blank-row-reads.Asked,
-  blank-row-reads.Learnt,
+-- the row that is read
+row : (c : lts.After-unpack (
+  unpack-reads.Asked,
+  unpack-reads.Learnt,
   next-depth-reads.Asked,
   next-depth-reads.Learnt,
   sprout-row-reads.Asked,
   sprout-row-reads.Learnt,
+  pack-reads.Asked,
+  pack-reads.Learnt,
   meet-reads.Asked,
   meet-reads.Learnt,
   enter-reads.Asked,
@@ -47,32 +54,56 @@ less : (c : lts.Else3 (
   stepped-reads.Asked,
   stepped-reads.Learnt,
 ) reads.Pre reads.Post Inv-loop μ-loop)
-    → c .before .before .before .before .loop .i < c .before .before .before .before .before .before .args .count
-less c = row-left _ _ _ _ _ (c .before .next-depth .ensures)
-    (⊎-elim (λ w. inl (w .taken)) (λ w. inr (ltb-true _ _ (w .1 .taken))) (c .before .before .before .if1 .came)) (c .if3 .left)
+    → let s = c .before .before .before .before in
+    c .unpack .result ≡ getD (rowsIn (getD (s .args .sides .now) (s .args .from) [])) (c .before .before .before .loop .i) blankRow
+row c = row-read _ _ _ _ _ (c .before .before .before .loop .inv) _ (c .unpack .ensures)
 
-blank-row-requires : tie.Need-blank-row-requires Inv-loop μ-loop
-blank-row-requires c κs = search needs
+-- where no level is closed, a row is left
+less : (c : lts.Else3 (
+  unpack-reads.Asked,
+  unpack-reads.Learnt,
+  next-depth-reads.Asked,
+  next-depth-reads.Learnt,
+  sprout-row-reads.Asked,
+  sprout-row-reads.Learnt,
+  pack-reads.Asked,
+  pack-reads.Learnt,
+  meet-reads.Asked,
+  meet-reads.Learnt,
+  enter-reads.Asked,
+  enter-reads.Learnt,
+  settled-row-reads.Asked,
+  settled-row-reads.Learnt,
+  joined-if-reads.Asked,
+  joined-if-reads.Learnt,
+  stepped-reads.Asked,
+  stepped-reads.Learnt,
+) reads.Pre reads.Post Inv-loop μ-loop)
+    → c .before .before .before .before .before .loop .i < c .before .before .before .before .before .before .args .count
+less c = row-left _ _ _ _ _ (c .before .next-depth .ensures)
+    (⊎-elim (λ w. inl (w .taken)) (λ w. inr (ltb-true _ _ (w .1 .taken))) (c .before .before .before .before .if1 .came)) (c .if3 .left)
+
+sub-to : tie.Need-sub-to Inv-loop μ-loop
+sub-to c = search needs
 
 loop-holds : tie.Need-loop-holds Inv-loop μ-loop
 unfolding levelsOf
-loop-holds c = record {
-  few = c .before .pre .0;
-  long = search needs;
-  within = search needs;
-  shallow = search needs;
-  fewer = search needs;
-  by-depth = search needs;
-  size = search needs;
-  clean = rw (c .blank-row .ensures);
-  rest = refl;
-}
+loop-holds c = sides-start _ _ _ _ _ (c .pre) _ _ _ (search needs) refl
 
-mul-x : tie.Need-mul-x Inv-loop μ-loop
-mul-x c = search needs
+mul-unpack : tie.Need-mul-unpack Inv-loop μ-loop
+mul-unpack c = search needs
 
-array-copy-out-x : tie.Need-array-copy-out-x Inv-loop μ-loop
-array-copy-out-x c = search needs
+mul-unpack-2 : tie.Need-mul-unpack-2 Inv-loop μ-loop
+mul-unpack-2 c = search needs
+
+index-1-unpack : tie.Need-index-1-unpack Inv-loop μ-loop
+index-1-unpack c = search needs
+
+index-2-unpack : tie.Need-index-2-unpack Inv-loop μ-loop
+index-2-unpack c = search needs
+
+unpack-requires : tie.Need-unpack-requires Inv-loop μ-loop
+unpack-requires c κs = search needs
 
 next-depth-requires : tie.Need-next-depth-requires Inv-loop μ-loop
 next-depth-requires c κs = search needs
@@ -95,11 +126,20 @@ sprout-row-requires c κs = search needs
 sub-top : tie.Need-sub-top Inv-loop μ-loop
 sub-top c = search needs
 
-mul-out : tie.Need-mul-out Inv-loop μ-loop
-mul-out c = search needs
+pack-requires : tie.Need-pack-requires Inv-loop μ-loop
+pack-requires c κs = search needs
 
-array-set-from-out : tie.Need-array-set-from-out Inv-loop μ-loop
-array-set-from-out c = search needs
+mul-sides : tie.Need-mul-sides Inv-loop μ-loop
+mul-sides c = search needs
+
+mul-sides-2 : tie.Need-mul-sides-2 Inv-loop μ-loop
+mul-sides-2 c = search needs
+
+index-1-sides : tie.Need-index-1-sides Inv-loop μ-loop
+index-1-sides c = search needs
+
+index-2-sides : tie.Need-index-2-sides Inv-loop μ-loop
+index-2-sides c = search needs
 
 add-j : tie.Need-add-j Inv-loop μ-loop
 add-j c = search needs
@@ -109,9 +149,12 @@ loop-less c = search needs
 
 loop-again : tie.Need-loop-again Inv-loop μ-loop
 loop-again c =
-    let d = c .before .before .before .before in
-    close-some _ _ _ _ (d .before .before .before .loop .inv) _ (d .next-depth .ensures) (c .before .before .before .if3 .taken) _
-    (c .before .before .sprout-row .ensures) (c .if4 .taken)
+    let d = c .before .before .before .before .before in
+    let v = d .before .before .before .before .loop .inv in
+    let s = c .before .before .before in
+    sides-written _ _ _ _ _ v _ _ (c .pack .ensures)
+    (close-some _ _ _ _ (v .reading) _ (rw (row (d .before)) at (d .next-depth .ensures)) (s .before .if3 .taken) _ (s .sprout-row .ensures)
+    (c .before .if4 .taken))
 
 loop-less-2 : tie.Need-loop-less-2 Inv-loop μ-loop
 loop-less-2 c = search needs
@@ -119,8 +162,11 @@ loop-less-2 c = search needs
 loop-again-2 : tie.Need-loop-again-2 Inv-loop μ-loop
 loop-again-2 c =
     let d = c .before .before .before .before in
-    close-none _ _ _ _ (d .before .before .before .loop .inv) _ (d .next-depth .ensures) (c .before .before .before .if3 .taken) _
-    (c .before .before .sprout-row .ensures) (c .if4 .left)
+    let v = d .before .before .before .before .loop .inv in
+    let s = c .before .before in
+    sides-kept _ _ _ _ _ v
+    (close-none _ _ _ _ (v .reading) _ (rw (row (d .before)) at (d .next-depth .ensures)) (s .before .if3 .taken) _ (s .sprout-row .ensures)
+    (c .if4 .left))
 
 add-i : tie.Need-add-i Inv-loop μ-loop
 add-i c = search needs
@@ -132,7 +178,9 @@ array-read-meet : tie.Need-array-read-meet Inv-loop μ-loop
 array-read-meet c = search needs
 
 meet-requires : tie.Need-meet-requires Inv-loop μ-loop
-meet-requires c κs = set-fits _ _ _ (c .before .before .before .before .before .before .before .pre .1) (less (c .before))
+meet-requires c κs =
+    let u = c .before .before .before in
+    rw (row u) (set-fits _ _ _ (u .before .before .before .before .pre .fits) (less (c .before)))
 
 array-read-name : tie.Need-array-read-name Inv-loop μ-loop
 array-read-name c = search needs
@@ -140,43 +188,69 @@ array-read-name c = search needs
 enter-requires : tie.Need-enter-requires Inv-loop μ-loop
 enter-requires c κs =
     let r = c .before .before .before .before .before in
-    (omega (arith, less r), r .before .before .before .before .loop .inv .by-depth)
+    (omega (arith, less r), r .before .before .before .before .before .loop .inv .reading .by-depth)
 
 settled-row-requires : tie.Need-settled-row-requires Inv-loop μ-loop
 settled-row-requires c κs =
     let r = c .before .before .before .before .before .before .before .before in
-    (set-fits _ _ _ (r .before .before .before .before .before .before .pre .1) (less r), omega (arith, less r))
+    let u = r .before .before in
+    (rw (row u) (set-fits _ _ _ (u .before .before .before .before .pre .fits) (less r)), omega (arith, less r))
 
-mul-out-2 : tie.Need-mul-out-2 Inv-loop μ-loop
-mul-out-2 c = search needs
+pack-requires-2 : tie.Need-pack-requires-2 Inv-loop μ-loop
+pack-requires-2 c κs = search needs
 
-array-set-from-out-2 : tie.Need-array-set-from-out-2 Inv-loop μ-loop
-array-set-from-out-2 c = search (needs, less (c .before .before .before .before .before .before .before .before .before))
+mul-sides-3 : tie.Need-mul-sides-3 Inv-loop μ-loop
+mul-sides-3 c =
+    let r = c .before .before .before .before .before .before .before .before .before .before in
+    search (needs, less r, r .before .before .before .before .before .loop .inv .reading .fewer)
+
+mul-sides-4 : tie.Need-mul-sides-4 Inv-loop μ-loop
+mul-sides-4 c =
+    let r = c .before .before .before .before .before .before .before .before .before .before in
+    search (needs, less r, r .before .before .before .before .before .loop .inv .reading .fewer)
+
+index-1-sides-2 : tie.Need-index-1-sides-2 Inv-loop μ-loop
+index-1-sides-2 c =
+    let r = c .before .before .before .before .before .before .before .before .before .before in
+    search (needs, less r, r .before .before .before .before .before .loop .inv .reading .fewer)
+
+index-2-sides-2 : tie.Need-index-2-sides-2 Inv-loop μ-loop
+index-2-sides-2 c =
+    let r = c .before .before .before .before .before .before .before .before .before .before in
+    search (needs, less r, r .before .before .before .before .before .loop .inv .reading .fewer)
 
 add-j-2 : tie.Need-add-j-2 Inv-loop μ-loop
-add-j-2 c = search needs
+add-j-2 c =
+    let r = c .before .before .before .before .before .before .before .before .before .before in
+    search (needs, less r, r .before .before .before .before .before .loop .inv .reading .fewer)
 
 joined-if-requires : tie.Need-joined-if-requires Inv-loop μ-loop
-joined-if-requires c κs = omega (arith, less (c .before .before .before .before .before .before .before .before .before .before))
+joined-if-requires c κs =
+    let r = c .before .before .before .before .before .before .before .before .before .before .before in
+    omega (arith, less r)
 
 joined-if-requires-2 : tie.Need-joined-if-requires-2 Inv-loop μ-loop
 joined-if-requires-2 c κs =
-    let r = c .before .before .before .before .before .before .before .before .before .before .before in
-    omega (arith, less r, r .before .before .before .before .loop .inv .few)
+    let r = c .before .before .before .before .before .before .before .before .before .before .before .before in
+    omega (arith, less r)
 
 loop-less-3 : tie.Need-loop-less-3 Inv-loop μ-loop
 loop-less-3 c =
-    let e = c .before .before .before .before .before .before in
+    let e = c .before .before .before .before .before .before .before in
     omega (arith, less (e .before .before .before .before .before .before), e .enter .ensures .deeper)
 
 loop-again-3 : tie.Need-loop-again-3 Inv-loop μ-loop
 loop-again-3 c =
-    let e = c .before .before .before .before .before .before in
+    let e = c .before .before .before .before .before .before .before in
     let m = e .before .before .before .before in
     let d = m .before .before .before in
-    row-kept _ _ _ _ (d .before .before .before .loop .inv) _ (d .next-depth .ensures) (less (m .before .before)) (m .before .if5 .taken)
-    _ (m .meet .ensures) (e .enter .ensures) (c .before .before .before .before .if6 .taken)
-    _ (c .before .before .before .settled-row .ensures) _ _ (c .before .joined-if .ensures) (c .joined-if2 .ensures)
+    let x = row (d .before) in
+    let v = d .before .before .before .before .loop .inv in
+    let w = c .before .before .before in
+    sides-written _ _ _ _ _ v _ _ (w .pack2 .ensures)
+    (row-kept _ _ _ _ (v .reading) _ (rw x at (d .next-depth .ensures)) (less (m .before .before)) (m .before .if5 .taken)
+    _ (rw x at (m .meet .ensures)) (e .enter .ensures) (w .before .before .if6 .taken)
+    _ (rw x at (w .before .settled-row .ensures)) _ _ (c .before .joined-if .ensures) (c .joined-if2 .ensures))
 
 loop-less-4 : tie.Need-loop-less-4 Inv-loop μ-loop
 loop-less-4 c =
@@ -188,8 +262,11 @@ loop-again-4 c =
     let e = c .before .before in
     let m = e .before .before .before .before in
     let d = m .before .before .before in
-    row-removed _ _ _ _ (d .before .before .before .loop .inv) _ (d .next-depth .ensures) (less (m .before .before)) (m .before .if5 .taken)
-    _ (m .meet .ensures) (e .enter .ensures) (c .if6 .left)
+    let x = row (d .before) in
+    let v = d .before .before .before .before .loop .inv in
+    sides-kept _ _ _ _ _ v
+    (row-removed _ _ _ _ (v .reading) _ (rw x at (d .next-depth .ensures)) (less (m .before .before)) (m .before .if5 .taken)
+    _ (rw x at (m .meet .ensures)) (e .enter .ensures) (c .if6 .left))
 
 loop-less-5 : tie.Need-loop-less-5 Inv-loop μ-loop
 loop-less-5 c = omega (arith, less (c .before))
@@ -197,17 +274,18 @@ loop-less-5 c = omega (arith, less (c .before))
 loop-again-5 : tie.Need-loop-again-5 Inv-loop μ-loop
 loop-again-5 c =
     let d = c .before .before in
-    row-skipped _ _ _ _ (d .before .before .before .loop .inv) _ (d .next-depth .ensures) (less (c .before))
-    (c .before .if3 .left) (c .if5 .left)
+    let v = d .before .before .before .before .loop .inv in
+    sides-kept _ _ _ _ _ v
+    (row-skipped _ _ _ _ (v .reading) _ (rw (row (d .before)) at (d .next-depth .ensures)) (less (c .before))
+    (c .before .if3 .left) (c .if5 .left))
 
 stepped-requires : tie.Need-stepped-requires Inv-loop μ-loop
 stepped-requires c κs = search needs
 
 returns : tie.Need-returns Inv-loop μ-loop
-unfolding steppedRows
 returns c =
-    c .stepped .ensures
-    ∙ pass-over _ _ _ _ (c .before .before .before .loop .inv) (c .before .before .if1 .left) (ltb-false _ _ (c .before .if2 .left))
+    rw (c .stepped .ensures)
+    (sides-done _ _ _ _ _ (c .before .before .before .loop .inv) (c .before .before .if1 .left) (ltb-false _ _ (c .before .if2 .left)))
 
 pub step-rows-spec : {M : Type 1} → statement M
 step-rows-spec =
@@ -215,10 +293,13 @@ step-rows-spec =
     (tie.spec
     Inv-loop
     μ-loop
-    blank-row-requires
+    sub-to
     loop-holds
-    mul-x
-    array-copy-out-x
+    mul-unpack
+    mul-unpack-2
+    index-1-unpack
+    index-2-unpack
+    unpack-requires
     next-depth-requires
     mul-sprout-row
     array-read-sprout-row
@@ -226,8 +307,11 @@ step-rows-spec =
     array-read-sprout-row-2
     sprout-row-requires
     sub-top
-    mul-out
-    array-set-from-out
+    pack-requires
+    mul-sides
+    mul-sides-2
+    index-1-sides
+    index-2-sides
     add-j
     loop-less
     loop-again
@@ -240,8 +324,11 @@ step-rows-spec =
     array-read-name
     enter-requires
     settled-row-requires
-    mul-out-2
-    array-set-from-out-2
+    pack-requires-2
+    mul-sides-3
+    mul-sides-4
+    index-1-sides-2
+    index-2-sides-2
     add-j-2
     joined-if-requires
     joined-if-requires-2

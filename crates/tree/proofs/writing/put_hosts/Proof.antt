@@ -4,12 +4,13 @@ use Prim.Native.Nat.{_-_}
 use native.Mathlib.Omega.{arith}
 use lib.ListN.{take}
 use Rattle.table.proofs.Storing.{pieces-size}
+use Rattle.tree.specs.PackedRows.{rowsIn}
 use Rattle.tree.proofs.WritingInTurn.{HostsStored, hosts-start, hosts-skip, hosts-fits, hosts-put, hosts-done}
 use Rattle.tree.proofs.writing.put_hosts.Statement.{statement}
 use Rattle.tree.proofs.writing.put_hosts.Tie as tie
 
 abbrev Inv-loop : tie.InvT-loop
-Inv-loop rows count states n out₀ from at₀ state₀ out at state = HostsStored (take count rows) n states out₀ from out at state
+Inv-loop rows count states n out₀ from at₀ state₀ out at state = HostsStored (take count (rowsIn rows)) n states out₀ from out at state
 
 abbrev μ-loop : tie.MeasureT-loop
 μ-loop rows count states n out₀ from at₀ state₀ out at state = n - state

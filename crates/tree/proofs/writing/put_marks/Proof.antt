@@ -1,41 +1,53 @@
 -- The marks, by the laws of WritingInTurn.
 use borrow.Author.Needs.{needs}
-use Prim.Native.Nat.{_-_}
+use Prim.Native.Nat.{_+_, _-_, _*_, _<_}
 use native.Mathlib.Omega.{arith}
 use Rattle.table.proofs.Storing.{pieces-size}
+use Rattle.tree.specs.PackedRows.{rowsIn}
+use Rattle.tree.proofs.PackedWords.{row-read, rows-many}
 use Rattle.tree.proofs.WritingInTurn.{MarksStored, marks-start, mark-small, marks-fits, marks-put, marks-done}
 use Rattle.tree.proofs.writing.put_marks.Statement.{statement}
 use Rattle.tree.proofs.writing.put_marks.Tie as tie
 
 abbrev Inv-loop : tie.InvT-loop
-Inv-loop count n out₀ from rows at₀ node₀ out at node = MarksStored n count rows out₀ from out at node
+Inv-loop rows count n out₀ from at₀ node₀ out at node = MarksStored n count (rowsIn rows) out₀ from out at node
 
 abbrev μ-loop : tie.MeasureT-loop
-μ-loop count n out₀ from rows at₀ node₀ out at node = count - node
+μ-loop rows count n out₀ from at₀ node₀ out at node = count - node
 
 loop-holds : tie.Need-loop-holds Inv-loop μ-loop
-loop-holds c = marks-start _ _ _ _ _ (c .pre .0) (c .pre .1)
+loop-holds c = marks-start _ _ _ _ _ (c .before .pre .0) (c .before .pre .1)
 
-mul-row : tie.Need-mul-row Inv-loop μ-loop
-mul-row c = search needs
+mul-unpack : tie.Need-mul-unpack Inv-loop μ-loop
+mul-unpack c = search needs
 
-array-copy-out-row : tie.Need-array-copy-out-row Inv-loop μ-loop
-array-copy-out-row c = search needs
+element-copy-out-unpack : tie.Need-element-copy-out-unpack Inv-loop μ-loop
+element-copy-out-unpack c = search needs
+
+unpack-requires : tie.Need-unpack-requires Inv-loop μ-loop
+unpack-requires c κs = search needs
+
+-- the mark is a byte
+small : (c : tie.After-unpack Inv-loop μ-loop) → 16 * c .unpack .result .depth + c .unpack .result .active < 256
+small c =
+    let turn = c .before .before in
+    mark-small (turn .before .loop .inv) (turn .loop-test .taken) _
+    (row-read (turn .before .before .before .args .rows .now) (turn .before .loop .node) (c .unpack .ensures))
 
 mul-out : tie.Need-mul-out Inv-loop μ-loop
-mul-out c = omega (arith, mark-small (c .before .before .before .loop .inv) (c .before .before .loop-test .taken))
+mul-out c = omega (arith, small (c .before))
 
 cast-out : tie.Need-cast-out Inv-loop μ-loop
-cast-out c = omega (arith, mark-small (c .before .before .before .loop .inv) (c .before .before .loop-test .taken))
+cast-out c = omega (arith, small (c .before))
 
 add-out : tie.Need-add-out Inv-loop μ-loop
-add-out c = omega (arith, mark-small (c .before .before .before .before .loop .inv) (c .before .before .before .loop-test .taken))
+add-out c = omega (arith, small (c .before .before))
 
 slice-write-out : tie.Need-slice-write-out Inv-loop μ-loop
-slice-write-out c = marks-fits (c .before .before .before .before .loop .inv) (c .before .before .before .loop-test .taken)
+slice-write-out c = let turn = c .before .before .before .before in marks-fits (turn .before .loop .inv) (turn .loop-test .taken)
 
 add-at : tie.Need-add-at Inv-loop μ-loop
-add-at c = omega (arith, marks-fits (c .before .before .before .before .loop .inv) (c .before .before .before .loop-test .taken))
+add-at c = let turn = c .before .before .before .before in omega (arith, marks-fits (turn .before .loop .inv) (turn .loop-test .taken))
 
 add-node : tie.Need-add-node Inv-loop μ-loop
 add-node c = search needs
@@ -44,7 +56,13 @@ loop-less : tie.Need-loop-less Inv-loop μ-loop
 loop-less c = search needs
 
 loop-again : tie.Need-loop-again Inv-loop μ-loop
-loop-again c = marks-put (c .before .before .before .before .loop .inv) (c .before .before .before .loop-test .taken) (search needs)
+loop-again c =
+    let read = c .before .before in
+    let turn = read .before .before in
+    let start = turn .before .before .before in
+    marks-put (turn .before .loop .inv) (turn .loop-test .taken) _
+    (row-read (start .args .rows .now) (turn .before .loop .node) (read .unpack .ensures))
+    (rows-many (start .args .rows .now) (start .pre .2))
 
 same-length : tie.Need-same-length Inv-loop μ-loop
 same-length c = pieces-size (c .before .loop .inv .pieces)
@@ -59,8 +77,9 @@ put-marks-spec =
     Inv-loop
     μ-loop
     loop-holds
-    mul-row
-    array-copy-out-row
+    mul-unpack
+    element-copy-out-unpack
+    unpack-requires
     mul-out
     cast-out
     add-out

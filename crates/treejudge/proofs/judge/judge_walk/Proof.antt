@@ -1,20 +1,56 @@
 -- `judge_walk` meets its contract, by the laws of Judging.
 use borrow.Author.Needs.{needs}
 use native.Mathlib.Omega.{arith}
-use mathlib.Core.Path.{_≡_, _∙_}
 use mathlib.Core.List.{[]}
+use Rattle.table.specs.Rule.{Rule}
+use Rattle.table.specs.HeldRule.{HoldsRule}
+use Rattle.word.specs.Judging.{Judgeable}
 use Rattle.history.specs.Tree.{startTree}
+use Rattle.treejudge.specs.JudgeCall.{nameRoom}
 use Rattle.treejudge.specs.Reading.{Readable}
-use Rattle.treejudge.specs.Cycles.{FirstRound, SearchDone}
-use Rattle.treejudge.proofs.Judging.{numbers-fit, judged-tail, lead-reads, first-round, searched, says-no, some-node, says-yes}
+use Rattle.treejudge.specs.Cycles.{AtRound, FirstRound, SearchDone}
+use Rattle.treejudge.proofs.Judging.{sets-small, letters-small, judged-tail, lead-reads, first-round, searched, says-no, some-node, says-yes}
 use Rattle.treejudge.proofs.judge.judge_walk.Statement.{statement}
 use Rattle.treejudge.proofs.judge.judge_walk.Tie as tie
 
-cast-k : tie.Need-cast-k
-cast-k c = let pre = c .before .before .before .before .pre in omega (arith, numbers-fit (pre .rule) _ _ (pre .holds) .1)
+-- what the judge asks for
+known : (c : tie.After-letters-left2) →
+    let args = c .before .before .before .before .before .before .before .before .before .before .before .before .before .args in
+    Judgeable (args .header) (args .cells .now) (args .u .now) (args .v .now) nameRoom (args .names .now)
+known c = c .before .before .before .before .before .before .before .before .before .before .before .before .before .pre
 
-all-tables-requires : tie.Need-all-tables-requires
-all-tables-requires c κs = let pre = c .before .before .before .before .pre in numbers-fit (pre .rule) _ _ (pre .holds) .0
+-- t(0) of the walk, over a rule that the table holds
+first-place : (c : tie.After-letters-left2) →
+    let first = c .before in
+    let tables = first .before .before .before .before .before in
+    let args = tables .before .before .before .before .before .before .before .args in
+    (R : Rule) → HoldsRule R (args .header) (args .cells .now)
+    → AtRound R (args .u .now) (c .letters-left2 .result .now) (tables .tables-of .result) (args .header .sets) 0
+    (first .read-letters .result)
+first-place c R holds =
+    let first = c .before in
+    let lead = first .before in
+    let made = lead .before .before .before in
+    let tables = made .before in
+    let letters = tables .before in
+    let lead-letters = letters .before in
+    first-round R _ _ holds _ (made .start .ensures) _ _ _ (lead .letters-left .ensures) (known c .lead)
+    _ _ (lead-letters .occurring .ensures) (letters .occurring2 .ensures) _ (tables .tables-of .ensures)
+    _ (first .read-letters .ensures) _ (c .letters-left2 .ensures) (known c .tail)
+
+cast-k : tie.Need-cast-k
+cast-k c = let pre = c .before .before .before .before .pre in omega (arith, sets-small (pre .rule) _ _ (pre .holds))
+
+occurring-requires : tie.Need-occurring-requires
+occurring-requires c κs = let start = c .before .before .before .before in
+    letters-small (start .pre .rule) _ _ (start .pre .holds) (start .args .u .now) (start .pre .lead)
+
+occurring-requires-2 : tie.Need-occurring-requires-2
+occurring-requires-2 c κs = let start = c .before .before .before .before .before in
+    letters-small (start .pre .rule) _ _ (start .pre .holds) (start .args .v .now) (start .pre .tail)
+
+tables-of-requires : tie.Need-tables-of-requires
+tables-of-requires c κs = search needs
 
 start-requires : tie.Need-start-requires
 start-requires c κs = search needs
@@ -27,12 +63,13 @@ unfolding Readable
 read-letters-requires c κs =
     let made = c .before .before .before in
     let tables = made .before in
-    let start = tables .before .before .before .before .before in
-    let pre = start .pre in (
+    let letters = tables .before in
+    let lead-letters = letters .before in
+    let pre = lead-letters .before .before .before .before .before .pre in (
       pre .rule,
       startTree (pre .rule),
-      lead-reads (pre .rule) _ _ (pre .holds) _ (tables .all-tables .ensures) _ (made .start .ensures)
-          _ _ _ (c .letters-left .ensures) (pre .lead),
+      lead-reads (pre .rule) _ _ (pre .holds) _ (made .start .ensures) _ _ _ (c .letters-left .ensures) (pre .lead)
+          _ _ (lead-letters .occurring .ensures) (letters .occurring2 .ensures) _ (tables .tables-of .ensures),
     )
 
 letters-left-requires-2 : tie.Need-letters-left-requires-2
@@ -40,48 +77,22 @@ letters-left-requires-2 c κs = search needs
 
 find-cycle-requires : tie.Need-find-cycle-requires
 unfolding FirstRound
-find-cycle-requires c κs =
-    let tail = c .before in
-    let first = tail .before in
-    let lead = first .before in
-    let made = lead .before .before .before in
-    let tables = made .before in
-    let pre = tables .before .before .before .before .before .pre in (
-      pre .rule,
-      _,
-      first-round (pre .rule) _ _ (pre .holds) _ (tables .all-tables .ensures) _ (made .start .ensures)
-          _ _ _ (lead .letters-left .ensures) (pre .lead) _ (first .read-letters .ensures) _ (tail .letters-left2 .ensures) (pre .tail),
-    )
+find-cycle-requires c κs = let pre = known (c .before) in (pre .rule, _, first-place (c .before) (pre .rule) (pre .holds))
 
 find-entry-requires : tie.Need-find-entry-requires
 unfolding SearchDone
 find-entry-requires c κs =
     let cycle = c .before in
     let tail = cycle .before .before in
-    let first = tail .before in
-    let lead = first .before in
-    let made = lead .before .before .before in
-    let tables = made .before in
-    let pre = tables .before .before .before .before .before .pre in
-    let at = first-round (pre .rule) _ _ (pre .holds) _ (tables .all-tables .ensures) _ (made .start .ensures)
-    _ _ _ (lead .letters-left .ensures) (pre .lead) _ (first .read-letters .ensures) _ (tail .letters-left2 .ensures) (pre .tail) in
-    let found = cycle .find-cycle .ensures in
-    let (e, p, S) = searched (pre .rule) _ _ _ _ _ at _ found in
-    (pre .rule, _, e, p, S)
+    let R = known tail .rule in
+    let (e, p, S) = searched R _ _ _ _ _ (first-place tail R (known tail .holds)) _ (cycle .find-cycle .ensures) in
+    (R, _, e, p, S)
 
 returns : tie.Need-returns
 returns c R holds =
     let cycle = c .before .before .before .before in
     let tail = cycle .before .before in
-    let first = tail .before in
-    let lead = first .before in
-    let made = lead .before .before .before in
-    let tables = made .before in
-    let pre = tables .before .before .before .before .before .pre in
-    let at = first-round R _ _ holds _ (tables .all-tables .ensures) _ (made .start .ensures)
-    _ _ _ (lead .letters-left .ensures) (pre .lead) _ (first .read-letters .ensures) _ (tail .letters-left2 .ensures) (pre .tail) in
-    let found = cycle .find-cycle .ensures in
-    let (e, p, S) = searched R _ _ _ _ _ at _ found in
+    let (e, p, S) = searched R _ _ _ _ _ (first-place tail R holds) _ (cycle .find-cycle .ensures) in
     judged-tail R _ _ _ _ _ _ (tail .letters-left2 .ensures)
     (says-no R _ _ _ _ _ _ e p S _ (c .before .before .find-entry .ensures) _ (c .if1 .taken))
 
@@ -92,25 +103,17 @@ node-name-requires : tie.Need-node-name-requires
 node-name-requires c κs =
     let cycle = c .before .before .before .before .before in
     let tail = cycle .before .before in
-    let first = tail .before in
-    let lead = first .before in
-    let made = lead .before .before .before in
-    let tables = made .before in
-    let pre = tables .before .before .before .before .before .pre in
-    let at = first-round (pre .rule) _ _ (pre .holds) _ (tables .all-tables .ensures) _ (made .start .ensures)
-    _ _ _ (lead .letters-left .ensures) (pre .lead) _ (first .read-letters .ensures) _ (tail .letters-left2 .ensures) (pre .tail) in
-    let found = cycle .find-cycle .ensures in
-    let (e, p, S) = searched (pre .rule) _ _ _ _ _ at _ found in
-    some-node (pre .rule) _ _ _ _ _ _ e p S _ (c .before .before .before .find-entry .ensures) [] (c .before .if1 .left) _ (c .first-node .ensures)
+    let R = known tail .rule in
+    let (e, p, S) = searched R _ _ _ _ _ (first-place tail R (known tail .holds)) _ (cycle .find-cycle .ensures) in
+    some-node R _ _ _ _ _ _ e p S _ (c .before .before .before .find-entry .ensures) [] (c .before .if1 .left) _ (c .first-node .ensures)
 
 store-name-requires : tie.Need-store-name-requires
 store-name-requires c κs =
-    let pre = c .before .before .before .before .before .before .before .before .before .before .before .before .before .before .before
-    .before .before .before .before .before .pre in
-    (c .before .node-name .ensures .short, pre .room)
+    let tail = c .before .before .before .before .before .before .before .before .before in
+    (c .before .node-name .ensures .short, known tail .room)
 
-cast-t26 : tie.Need-cast-t26
-cast-t26 c = search needs
+cast-t28 : tie.Need-cast-t28
+cast-t28 c = search needs
 
 same-length : tie.Need-same-length
 same-length c = search needs
@@ -123,15 +126,7 @@ returns-2 c R holds =
     let entry = told .before .before .before in
     let cycle = entry .before .before in
     let tail = cycle .before .before in
-    let first = tail .before in
-    let lead = first .before in
-    let made = lead .before .before .before in
-    let tables = made .before in
-    let pre = tables .before .before .before .before .before .pre in
-    let at = first-round R _ _ holds _ (tables .all-tables .ensures) _ (made .start .ensures)
-    _ _ _ (lead .letters-left .ensures) (pre .lead) _ (first .read-letters .ensures) _ (tail .letters-left2 .ensures) (pre .tail) in
-    let found = cycle .find-cycle .ensures in
-    let (e, p, S) = searched R _ _ _ _ _ at _ found in
+    let (e, p, S) = searched R _ _ _ _ _ (first-place tail R holds) _ (cycle .find-cycle .ensures) in
     judged-tail R _ _ _ _ _ _ (tail .letters-left2 .ensures)
     (says-yes R _ _ _ _ _ _ e p S _ (entry .find-entry .ensures) _ (told .before .if1 .left) _ (told .first-node .ensures)
     _ (named .node-name .ensures) _ (stored .store-name .ensures))
@@ -141,7 +136,9 @@ judge-walk-spec =
     tie.close
     (tie.spec
     cast-k
-    all-tables-requires
+    occurring-requires
+    occurring-requires-2
+    tables-of-requires
     start-requires
     letters-left-requires
     read-letters-requires
@@ -152,6 +149,6 @@ judge-walk-spec =
     first-node-requires
     node-name-requires
     store-name-requires
-    cast-t26
+    cast-t28
     same-length
     returns-2)

@@ -2,20 +2,24 @@
 use borrow.Author.Needs.{needs}
 use Prim.Native.Nat.{_-_}
 use native.Mathlib.Omega.{arith}
-use lib.ListN.{length}
+use mathlib.Core.List.{[]}
+use lib.ListN.{length, getD, length-map}
 use Rattle.treejudge.proofs.LettersRead.{ReadUpTo, letter-small, upto-none, upto-ready, upto-more, upto-all}
 use Rattle.treejudge.proofs.letters.read_letters.Statement.{statement}
 use Rattle.treejudge.proofs.letters.read_letters.Tie as tie
 
 abbrev Inv-loop : tie.InvT-loop
-Inv-loop tables k w rows₀ count₀ at₀ rows count at =
-    ReadUpTo tables k w (record { rows = rows₀; count = count₀ }) at (record { rows = rows; count = count })
+Inv-loop tables k w sides₀ side₀ count₀ at₀ sides side count at =
+    ReadUpTo tables k w (record { rows = getD sides₀ 0 []; count = count₀ }) at sides side count
 
 abbrev μ-loop : tie.MeasureT-loop
-μ-loop tables k w rows₀ count₀ at₀ rows count at = length w - at
+μ-loop tables k w sides₀ side₀ count₀ at₀ sides side count at = length w - at
+
+array-set-from-sides : tie.Need-array-set-from-sides Inv-loop μ-loop
+array-set-from-sides c = search needs
 
 loop-holds : tie.Need-loop-holds Inv-loop μ-loop
-loop-holds c = upto-none _ _ _ _
+loop-holds c = upto-none _ _ _ _ _ (simp length-map at (c .before .before .good .1 .1 .1 .0 .1 .1 .0 .1 .0 .1)) (search needs)
 
 shared-slice-read-step-rows : tie.Need-shared-slice-read-step-rows Inv-loop μ-loop
 shared-slice-read-step-rows c = search needs
@@ -30,7 +34,10 @@ mul-step-rows : tie.Need-mul-step-rows Inv-loop μ-loop
 mul-step-rows c = omega (arith, index-1-step-rows c)
 
 step-rows-requires : tie.Need-step-rows-requires Inv-loop μ-loop
-step-rows-requires c κs = let at = c .before .before .before in upto-ready _ _ _ _ _ _ _ (at .loop .inv) (at .before .before .before .pre)
+step-rows-requires c κs = let at = c .before .before .before .before in upto-ready _ _ _ _ _ _ _ _ (at .loop .inv) (at .before .before .before .pre)
+
+sub-side : tie.Need-sub-side Inv-loop μ-loop
+sub-side c = omega (arith, c .before .before .before .before .before .loop .inv .on)
 
 add-at : tie.Need-add-at Inv-loop μ-loop
 add-at c = search needs
@@ -39,11 +46,18 @@ loop-less : tie.Need-loop-less Inv-loop μ-loop
 loop-less c = search needs
 
 loop-again : tie.Need-loop-again Inv-loop μ-loop
-loop-again c = let at = c .before .before .before .before .before in
-    upto-more _ _ _ _ _ _ _ (at .loop .inv) (c .before .before .before .before .loop-test .taken) _ (c .before .step-rows .ensures)
+loop-again c =
+    let inside = c .before .before .before .before in
+    upto-more _ _ _ _ _ _ _ _ (inside .before .loop .inv) (inside .loop-test .taken) _ _ (c .step-rows .ensures)
+
+mul-last : tie.Need-mul-last Inv-loop μ-loop
+mul-last c = omega (arith, c .before .loop .inv .on)
+
+array-copy-out-last : tie.Need-array-copy-out-last Inv-loop μ-loop
+array-copy-out-last c = omega (arith, c .before .loop .inv .on)
 
 returns : tie.Need-returns Inv-loop μ-loop
-returns c = upto-all _ _ _ _ _ _ (c .before .loop .inv) (c .loop-test .left)
+returns c = upto-all _ _ _ _ _ _ _ _ (c .before .before .loop .inv) (c .before .loop-test .left)
 
 pub read-letters-spec : {M : Type 1} → statement M
 read-letters-spec =
@@ -51,13 +65,17 @@ read-letters-spec =
     (tie.spec
     Inv-loop
     μ-loop
+    array-set-from-sides
     loop-holds
     shared-slice-read-step-rows
     cast-step-rows
     mul-step-rows
     index-1-step-rows
     step-rows-requires
+    sub-side
     add-at
     loop-less
     loop-again
+    mul-last
+    array-copy-out-last
     returns)

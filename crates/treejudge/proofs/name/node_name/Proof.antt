@@ -1,7 +1,12 @@
 -- The name of a node, by the laws of NodeNames.
 use borrow.Author.Needs.{needs}
-use mathlib.Core.Path.{refl}
-use Prim.Native.Nat.{_-_}
+use mathlib.Core.Path.{_≡_, refl, ap}
+use Prim.Native.Nat.{_+_, _-_}
+use lib.ListN.{getD}
+use Rattle.tree.specs.PackedRows.{rowsIn}
+use Rattle.tree.specs.Pass.{blankRow}
+use Rattle.tree.specs.declared.rows.Row.{Row}
+use Rattle.tree.proofs.PackedWords.{row-read}
 use native.Mathlib.Omega.{arith}
 use Rattle.treejudge.proofs.NodeNames.{NamedSoFar, name-start, node-few, depth-low, depth-short, number-small}
 use Rattle.treejudge.proofs.NodeNames.{name-beside, name-deeper, name-done}
@@ -14,59 +19,79 @@ Inv-loop number rows numbers₀ long₀ i₀ numbers long i = NamedSoFar rows nu
 abbrev μ-loop : tie.MeasureT-loop
 μ-loop number rows numbers₀ long₀ i₀ numbers long i = number - i
 
+-- the depth of the row that is read
+depth : (c : tie.After-unpack Inv-loop μ-loop)
+    → c .unpack .result .depth ≡ getD (rowsIn (c .before .before .before .before .args .tree .rows)) (c .before .before .loop .i + 1) blankRow .depth
+depth c = ap (λ (r : Row). r .depth) (row-read (c .before .before .before .before .args .tree .rows) (c .before .before .loop .i + 1)
+    (c .unpack .ensures))
+
 loop-holds : tie.Need-loop-holds Inv-loop μ-loop
 loop-holds c = name-start _ _ _ refl
 
 add-i : tie.Need-add-i Inv-loop μ-loop
 add-i c = search needs
 
-mul-depth : tie.Need-mul-depth Inv-loop μ-loop
-mul-depth c = omega (arith, node-few (c .before .before .before .pre))
+mul-unpack : tie.Need-mul-unpack Inv-loop μ-loop
+mul-unpack c = omega (arith, node-few (c .before .before .before .pre))
 
-element-copy-out-depth : tie.Need-element-copy-out-depth Inv-loop μ-loop
-element-copy-out-depth c = omega (arith, node-few (c .before .before .before .pre))
+array-read-unpack : tie.Need-array-read-unpack Inv-loop μ-loop
+array-read-unpack c = omega (arith, node-few (c .before .before .before .pre))
+
+unpack-requires : tie.Need-unpack-requires Inv-loop μ-loop
+unpack-requires c κs = search needs
 
 cast-depth : tie.Need-cast-depth Inv-loop μ-loop
-cast-depth c = omega (arith, depth-short (c .before .before .before .pre) (c .before .loop .inv) (c .loop-test .taken))
+cast-depth c =
+    let turn = c .before .before in
+    omega (arith, depth (c .before), depth-short (turn .before .before .before .pre) (turn .before .loop .inv) (turn .loop-test .taken))
 
 sub-last : tie.Need-sub-last Inv-loop μ-loop
-sub-last c = depth-low (c .before .before .before .pre) (c .before .loop .inv) (c .loop-test .taken)
+sub-last c =
+    let turn = c .before .before in
+    rw (depth (c .before)) (depth-low (turn .before .before .before .pre) (turn .before .loop .inv) (turn .loop-test .taken))
 
 array-read-numbers : tie.Need-array-read-numbers Inv-loop μ-loop
 array-read-numbers c =
-    let turn = c .before in
-    omega (arith, depth-short (turn .before .before .before .pre) (turn .before .loop .inv) (turn .loop-test .taken))
+    let u = c .before .before in
+    let turn = u .before in
+    omega (arith, depth u, depth-short (turn .before .before .before .pre) (turn .before .loop .inv) (turn .loop-test .taken))
 
 add-numbers : tie.Need-add-numbers Inv-loop μ-loop
 add-numbers c =
-    let turn = c .before in
-    omega (arith, number-small (turn .before .before .before .pre) (turn .before .loop .inv) (turn .loop-test .taken) (c .if1 .taken))
+    let u = c .before .before in
+    let turn = u .before in
+    let small = number-small (turn .before .before .before .pre) (turn .before .loop .inv) (turn .loop-test .taken) (rw (depth u) at (c .if1 .taken)) in
+    omega (arith, rw (← depth u) at small)
 
 array-write-numbers : tie.Need-array-write-numbers Inv-loop μ-loop
 array-write-numbers c =
-    let turn = c .before in
-    omega (arith, depth-short (turn .before .before .before .pre) (turn .before .loop .inv) (turn .loop-test .taken))
+    let u = c .before .before in
+    let turn = u .before in
+    omega (arith, depth u, depth-short (turn .before .before .before .pre) (turn .before .loop .inv) (turn .loop-test .taken))
 
 array-write-numbers-2 : tie.Need-array-write-numbers-2 Inv-loop μ-loop
 array-write-numbers-2 c =
-    let turn = c .before in
-    omega (arith, depth-short (turn .before .before .before .pre) (turn .before .loop .inv) (turn .loop-test .taken))
+    let u = c .before .before in
+    let turn = u .before in
+    omega (arith, depth u, depth-short (turn .before .before .before .pre) (turn .before .loop .inv) (turn .loop-test .taken))
 
 loop-less : tie.Need-loop-less Inv-loop μ-loop
 loop-less c = search needs
 
 loop-again : tie.Need-loop-again Inv-loop μ-loop
 loop-again c =
-    let turn = c .before in
-    name-beside (turn .before .before .before .pre) (turn .before .loop .inv) (turn .loop-test .taken) (c .if1 .taken)
+    let u = c .before .before in
+    let turn = u .before in
+    rw (depth u) (name-beside (turn .before .before .before .pre) (turn .before .loop .inv) (turn .loop-test .taken) (rw (depth u) at (c .if1 .taken)))
 
 loop-less-2 : tie.Need-loop-less-2 Inv-loop μ-loop
 loop-less-2 c = search needs
 
 loop-again-2 : tie.Need-loop-again-2 Inv-loop μ-loop
 loop-again-2 c =
-    let turn = c .before in
-    name-deeper (turn .before .before .before .pre) (turn .before .loop .inv) (turn .loop-test .taken) (c .if1 .left)
+    let u = c .before .before in
+    let turn = u .before in
+    rw (depth u) (name-deeper (turn .before .before .before .pre) (turn .before .loop .inv) (turn .loop-test .taken) (rw (depth u) at (c .if1 .left)))
 
 returns : tie.Need-returns Inv-loop μ-loop
 returns c = name-done (c .before .before .before .pre) (c .before .loop .inv) (c .loop-test .left)
@@ -79,8 +104,9 @@ node-name-spec =
     μ-loop
     loop-holds
     add-i
-    mul-depth
-    element-copy-out-depth
+    mul-unpack
+    array-read-unpack
+    unpack-requires
     cast-depth
     sub-last
     array-read-numbers

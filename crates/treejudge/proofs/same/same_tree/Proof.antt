@@ -3,21 +3,26 @@ use borrow.Author.Needs.{needs}
 use mathlib.Core.Path.{_≡_}
 use Prim.Native.Nat.{_-_}
 use lib.ListN.{length, length-map}
+use Rattle.tree.specs.PackedRows.{rowsIn}
 use Rattle.tree.specs.RecordRows.{places}
+use Rattle.tree.proofs.PackedWords.{row-read, rows-many}
 use Rattle.table.proofs.Tests.{told-no, told-yes}
 use Rattle.treejudge.proofs.SameTrees.{SameBefore, counts-differ, same-start, same-not, same-next, same-done}
 use Rattle.treejudge.proofs.same.same_tree.Statement.{statement}
 use Rattle.treejudge.proofs.same.same_tree.Tie as tie
 
 abbrev Inv-loop : tie.InvT-loop
-Inv-loop rows others count i₀ i = SameBefore rows others count i
+Inv-loop rows others count i₀ i = SameBefore (rowsIn rows) (rowsIn others) count i
 
 abbrev μ-loop : tie.MeasureT-loop
 μ-loop rows others count i₀ i = count - i
 
 -- the lengths of the two arrays
-held : (c : tie.Start Inv-loop μ-loop) → (length (c .args .a .rows) ≡ places) × (length (c .args .b .rows) ≡ places)
-held c = (simp length-map at (c .good .0 .1 .1 .0 .1 .0 .1), simp length-map at (c .good .1 .0 .1 .1 .0 .1 .0 .1))
+held : (c : tie.Start Inv-loop μ-loop) → (length (rowsIn (c .args .a .rows)) ≡ places) × (length (rowsIn (c .args .b .rows)) ≡ places)
+held c = (
+  rows-many (c .args .a .rows) (simp length-map at (c .good .0 .1 .1 .0 .1 .0 .1)),
+  rows-many (c .args .b .rows) (simp length-map at (c .good .1 .0 .1 .1 .0 .1 .0 .1)),
+)
 
 returns : tie.Need-returns Inv-loop μ-loop
 returns c =
@@ -27,28 +32,37 @@ returns c =
 loop-holds : tie.Need-loop-holds Inv-loop μ-loop
 loop-holds c = same-start _ _ _
 
-mul-same-row : tie.Need-mul-same-row Inv-loop μ-loop
-mul-same-row c = search needs
+mul-unpack : tie.Need-mul-unpack Inv-loop μ-loop
+mul-unpack c = search needs
 
-array-copy-out-same-row : tie.Need-array-copy-out-same-row Inv-loop μ-loop
-array-copy-out-same-row c = search needs
+array-read-unpack : tie.Need-array-read-unpack Inv-loop μ-loop
+array-read-unpack c = search needs
 
-mul-same-row-2 : tie.Need-mul-same-row-2 Inv-loop μ-loop
-mul-same-row-2 c = search needs
+unpack-requires : tie.Need-unpack-requires Inv-loop μ-loop
+unpack-requires c κs = search needs
 
-array-copy-out-same-row-2 : tie.Need-array-copy-out-same-row-2 Inv-loop μ-loop
-array-copy-out-same-row-2 c = search needs
+mul-unpack-2 : tie.Need-mul-unpack-2 Inv-loop μ-loop
+mul-unpack-2 c = search needs
+
+array-read-unpack-2 : tie.Need-array-read-unpack-2 Inv-loop μ-loop
+array-read-unpack-2 c = search needs
+
+unpack-requires-2 : tie.Need-unpack-requires-2 Inv-loop μ-loop
+unpack-requires-2 c κs = search needs
 
 same-row-requires : tie.Need-same-row-requires Inv-loop μ-loop
 same-row-requires c κs = search needs
 
 returns-2 : tie.Need-returns-2 Inv-loop μ-loop
 returns-2 c =
-    let turn = c .before .before .before .before in
+    let u = c .before .before .before in
+    let turn = u .before in
     let counts = turn .before .before .before .before in
     let start = counts .before .before .before in
+    let i = turn .before .loop .i in
     rw (← counts .if1 .left)
-    (same-not (turn .before .loop .inv) (held start .0) (held start .1) (start .pre .0) (turn .loop-test .taken)
+    (same-not (turn .before .loop .inv) (held start .0) (held start .1) (start .pre .0) (turn .loop-test .taken) _ _
+    (row-read (start .args .a .rows) i (u .unpack .ensures)) (row-read (start .args .b .rows) i (c .before .before .unpack2 .ensures))
     (told-no (c .before .same-row .ensures) (c .if2 .taken)))
 
 add-i : tie.Need-add-i Inv-loop μ-loop
@@ -59,9 +73,12 @@ loop-less c = search needs
 
 loop-again : tie.Need-loop-again Inv-loop μ-loop
 loop-again c =
-    let turn = c .before .before .before .before in
+    let u = c .before .before .before in
+    let turn = u .before in
     let start = turn .before .before .before .before .before .before .before in
-    same-next (turn .before .loop .inv) (held start .0) (held start .1) (start .pre .0) (turn .loop-test .taken)
+    let i = turn .before .loop .i in
+    same-next (turn .before .loop .inv) (held start .0) (held start .1) (start .pre .0) (turn .loop-test .taken) _ _
+    (row-read (start .args .a .rows) i (u .unpack .ensures)) (row-read (start .args .b .rows) i (c .before .before .unpack2 .ensures))
     (told-yes (c .before .same-row .ensures) (c .if2 .left))
 
 returns-3 : tie.Need-returns-3 Inv-loop μ-loop
@@ -79,10 +96,12 @@ same-tree-spec =
     μ-loop
     returns
     loop-holds
-    mul-same-row
-    array-copy-out-same-row
-    mul-same-row-2
-    array-copy-out-same-row-2
+    mul-unpack
+    array-read-unpack
+    unpack-requires
+    mul-unpack-2
+    array-read-unpack-2
+    unpack-requires-2
     same-row-requires
     returns-2
     add-i

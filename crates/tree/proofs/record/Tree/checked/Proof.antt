@@ -11,17 +11,14 @@ use Rattle.tree.proofs.record.Tree.checked.Statement.{statement}
 use Rattle.tree.proofs.record.Tree.checked.Tie as tie
 
 -- bytes that pass have a map and a host for each of its states
-long : (c : tie.Else1) → let bytes = c .before .before .before .before .args .bytes .now in 1 + ones (getD bytes 0 0) ≤ length bytes
-long c = passed-long _ _ _ (c .before .before .before .before .pre .1) (told-yes (c .before .record-fits .ensures) (c .if1 .left))
-
-blank-row-requires : tie.Need-blank-row-requires
-blank-row-requires c κs = search needs
+long : (c : tie.Else1) → let bytes = c .before .before .before .args .bytes .now in 1 + ones (getD bytes 0 0) ≤ length bytes
+long c = passed-long _ _ _ (c .before .before .before .pre .1) (told-yes (c .before .record-fits .ensures) (c .if1 .left))
 
 record-fits-requires : tie.Need-record-fits-requires
 record-fits-requires c κs = search needs
 
 returns : tie.Need-returns
-returns c = checked-no _ _ _ (c .before .before .before .before .pre .1) (told-no (c .before .record-fits .ensures) (c .if1 .taken)) _
+returns c = checked-no _ _ _ (c .before .before .before .pre .1) (told-no (c .before .record-fits .ensures) (c .if1 .taken)) _
 
 shared-slice-read-map : tie.Need-shared-slice-read-map
 shared-slice-read-map c = omega (arith, long (c .before))
@@ -58,7 +55,7 @@ part-record-rows-end-2 c = search needs
 
 record-rows-requires : tie.Need-record-rows-requires
 record-rows-requires c κs =
-    let start = c .before .before .before .before .before .before .before in
+    let start = c .before .before .before .before .before .before in
     let bytes = start .args .bytes .now in
     let m = ones (getD bytes 0 0) in
     let fits = c .before .before .before .before in
@@ -68,18 +65,17 @@ record-rows-requires c κs =
 
 returns-2 : tie.Need-returns-2
 returns-2 c =
-    let start = c .before .before .before .before .before .before .before .before in
+    let start = c .before .before .before .before .before .before .before in
     let bytes = start .args .bytes .now in
     let m = ones (getD bytes 0 0) in
     let fits = c .before .before .before .before .before in
     checked-yes _ _ bytes (start .pre .1) (told-yes (fits .record-fits .ensures) (c .before .before .before .before .if1 .left))
-    _ _ _ (behind-first m bytes) (to-end (1 + m) bytes) (c .record-rows .ensures)
+    _ _ _ (behind-first m bytes) (to-end (1 + m) bytes) (c .record-rows .ensures .0) (c .record-rows .ensures .1)
 
 pub checked-spec : {M : Type 1} → statement M
 checked-spec =
     tie.close
     (tie.spec
-    blank-row-requires
     record-fits-requires
     returns
     shared-slice-read-map

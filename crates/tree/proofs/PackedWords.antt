@@ -1,0 +1,88 @@
+-- A row and its word: the word's parts are the row's numbers. A word written among others is one row written among the rows.
+use mathlib.Core.Path.{_≡_, refl, sym, _∙_, ap}
+use mathlib.Core.List.{List, [], _∷_}
+use Prim.Native.Nat.{ℕ, zero, suc, _+_, _*_, _/_, _%_, _^_, _<_}
+use native.Mathlib.Omega.{arith}
+use native.Mathlib.Nat.{add-comm, mul-comm, mod-eq-of-lt, div-div-eq-div-mul}
+use lib.Arith.{digits-div, digits-mod}
+use lib.ListN.{length, getD, set, length-map, List·getD-map}
+use Rattle.tree.specs.Pass.{blankRow}
+use Rattle.tree.specs.PackedRows.{unpacked, rowsIn}
+use Rattle.tree.specs.declared.rows.Row.{Row}
+
+-- a number by its lowest digit and what stands above it
+low-part : (c q r : ℕ) → r < c → (r + c * q) % c ≡ r
+low-part c q r h = ap (λ (n : ℕ). n % c) (add-comm r (c * q) ∙ ap (λ (n : ℕ). n + r) (mul-comm c q)) ∙ digits-mod q h
+
+high-part : (c q r : ℕ) → r < c → (r + c * q) / c ≡ q
+high-part c q r h = ap (λ (n : ℕ). n / c) (add-comm r (c * q) ∙ ap (λ (n : ℕ). n + r) (mul-comm c q)) ∙ digits-div q h
+
+-- the word that the code makes of a row whose numbers fit
+pub row-packed : (x : Row) → x .depth < 2 ^ 16 → x .label < 2 ^ 16 → x .kids < 2 ^ 16 → x .active < 2 ^ 8 → x .old < 2 ^ 8
+    → unpacked (x .depth + 65536 * x .label + 4294967296 * (x .kids + 65536 * x .active + 16777216 * x .old)) ≡ x
+unfolding unpacked
+row-packed x d l c a o = ap unpacked joined ∙ rw (depth-is, label-is, kids-is, active-is, old-is)
+  where
+    above-kids : ℕ
+    above-kids = x .active + 256 * x .old
+
+    above-label : ℕ
+    above-label = x .kids + 65536 * above-kids
+
+    above-depth : ℕ
+    above-depth = x .label + 65536 * above-label
+
+    word : ℕ
+    word = x .depth + 65536 * above-depth
+
+    joined : x .depth + 65536 * x .label + 4294967296 * (x .kids + 65536 * x .active + 16777216 * x .old) ≡ word
+    joined = omega arith
+
+    first : word / 65536 ≡ above-depth
+    first = high-part 65536 above-depth (x .depth) d
+
+    second : word / 4294967296 ≡ above-label
+    second = sym (div-div-eq-div-mul word 65536 65536) ∙ ap (λ (n : ℕ). n / 65536) first ∙ high-part 65536 above-label (x .label) l
+
+    third : word / 281474976710656 ≡ above-kids
+    third = sym (div-div-eq-div-mul word 4294967296 65536) ∙ ap (λ (n : ℕ). n / 65536) second ∙ high-part 65536 above-kids (x .kids) c
+
+    depth-is : word % 65536 ≡ x .depth
+    depth-is = low-part 65536 above-depth (x .depth) d
+
+    label-is : word / 65536 % 65536 ≡ x .label
+    label-is = ap (λ (n : ℕ). n % 65536) first ∙ low-part 65536 above-label (x .label) l
+
+    kids-is : word / 4294967296 % 65536 ≡ x .kids
+    kids-is = ap (λ (n : ℕ). n % 65536) second ∙ low-part 65536 above-kids (x .kids) c
+
+    active-is : word / 281474976710656 % 256 ≡ x .active
+    active-is = ap (λ (n : ℕ). n % 256) third ∙ low-part 256 (x .old) (x .active) a
+
+    old-is : word / 72057594037927936 % 256 ≡ x .old
+    old-is = ap (λ (n : ℕ). n % 256) (sym (div-div-eq-div-mul word 281474976710656 256) ∙ ap (λ (n : ℕ). n / 256) third
+        ∙ high-part 256 (x .old) (x .active) a) ∙ mod-eq-of-lt o
+
+-- one word written
+pub rows-set : (words : List ℕ) (j word : ℕ) → rowsIn (set words j word) ≡ set (rowsIn words) j (unpacked word)
+rows-set [] j word = refl
+rows-set (x ∷ words) zero word = refl
+rows-set (x ∷ words) (suc j) word = ap (λ (l : List Row). unpacked x ∷ l) (rows-set words j word)
+
+pub row-written : (words : List ℕ) (j word : ℕ) {x : Row} → unpacked word ≡ x → rowsIn (set words j word) ≡ set (rowsIn words) j x
+row-written words j word is = rows-set words j word ∙ ap (set (rowsIn words) j) is
+
+-- one word read; the word 0 is the blank row
+pub row-in : (words : List ℕ) (i : ℕ) → getD (rowsIn words) i blankRow ≡ unpacked (getD words i 0)
+unfolding unpacked
+row-in words i = List·getD-map unpacked words i 0
+
+pub row-read : (words : List ℕ) (i : ℕ) {x : Row} → x ≡ unpacked (getD words i 0) → x ≡ getD (rowsIn words) i blankRow
+row-read words i is = is ∙ sym (row-in words i)
+
+-- as many rows as words
+pub rows-length : (words : List ℕ) → length (rowsIn words) ≡ length words
+rows-length words = length-map words unpacked
+
+pub rows-many : (words : List ℕ) {n : ℕ} → length words ≡ n → length (rowsIn words) ≡ n
+rows-many words is = rows-length words ∙ is

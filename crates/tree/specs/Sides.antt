@@ -1,0 +1,36 @@
+-- One letter from a tree on one side to the next tree on the other: what the contract of `step_rows` cites.
+use mathlib.Core.Path.{_≡_}
+use mathlib.Core.List.{List, []}
+use Prim.Native.Nat.{ℕ, _*_, _-_, _≤_, _<_}
+use lib.ListN.{length, getD, take, drop}
+use Rattle.table.specs.Limits.{maxStates}
+use Rattle.tree.specs.Pass.{SetsFit, Pass}
+use Rattle.tree.specs.PackedRows.{rowsIn}
+use Rattle.tree.specs.declared.rows.Row.{Row}
+use Rattle.tree.specs.declared.rows.Stepped.{Stepped}
+
+-- the first `count` rows of a side
+abbrev pub rowsOn : List (List ℕ) → ℕ → ℕ → List Row
+rowsOn sides side count = take count (rowsIn (getD sides side []))
+
+-- the arrays: two sides with a place for each row
+pub record TwoSides (sides : List (List ℕ)) : Type 0 where
+  pub two : length sides ≡ 2
+  pub long : (side : ℕ) → side < 2 → length (getD sides side []) ≡ 2 * maxStates
+
+-- a letter can be read from the first `count` rows of one of the two sides
+pub record Steppable (sides : List (List ℕ)) (from count : ℕ) : Type 0 where
+  pub arrays : TwoSides sides
+  pub side : from < 2
+  pub few : count ≤ maxStates
+  pub fits : SetsFit (rowsOn sides from count)
+
+-- what a letter answers and leaves on the sides: the rows of its pass stand in front on the other side; all else is as it was
+pub record Stepping (p : Pass) (from : ℕ) (sides : List (List ℕ)) (r : Stepped) (after : List (List ℕ)) : Type 0 where
+  pub arrays : TwoSides after
+  pub rows : rowsOn after (1 - from) (r .count) ≡ p .rows
+  pub count : r .count ≡ length (p .rows)
+  pub accepting : r .accepting ≡ p .accepting
+  pub stable : r .stable ≡ p .stable
+  pub kept : getD after from [] ≡ getD sides from []
+  pub behind : drop (r .count) (getD after (1 - from) []) ≡ drop (r .count) (getD sides (1 - from) [])

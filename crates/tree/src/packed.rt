@@ -1,0 +1,33 @@
+// A node's row as one machine word, so that the rows of a tree can be lent and a row is one load or one store.
+use crate::rows::PLACES;
+use crate::rows::Row;
+ghost use mathlib.Core.Path.{_≡_};
+ghost use Rattle.tree.specs.PackedRows.{unpacked};
+
+// The rows of a tree, in number order.
+pub type Rows = [u64; PLACES];
+
+// Two trees side by side: a letter reads the rows of one side and writes those of the other.
+pub type Sides = [Rows; 2];
+
+// The word of a row: depth, label, union of the children's labels, active set and old number, from the lowest bits up.
+pub fn pack(x: Row) -> u64
+    ensures { λ r. ⌜ unpacked r ≡ x ⌝ }
+{
+    let lower = (x.depth as u64) + 65536 * (x.label as u64);
+    let upper = (x.kids as u64) + 65536 * (x.active as u64) + 16777216 * (x.old as u64);
+    lower + 4294967296 * upper
+}
+
+// The row of a word.
+pub fn unpack(word: u64) -> Row
+    ensures { λ r. ⌜ r ≡ unpacked word ⌝ }
+{
+    Row {
+        depth: (word % 65536) as u16,
+        label: (word / 65536 % 65536) as u16,
+        kids: (word / 4294967296 % 65536) as u16,
+        active: (word / 281474976710656 % 256) as u8,
+        old: (word / 72057594037927936) as u8,
+    }
+}
