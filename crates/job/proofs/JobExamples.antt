@@ -3,11 +3,16 @@ use mathlib.Core.Path.{_≡_, refl}
 use mathlib.Core.List.{List, [], _∷_, flatMap}
 use Prim.Native.Nat.{ℕ}
 use Rattle.table.specs.Outcome.{refused, accepted}
-use Rattle.table.specs.Table.{ended}
+use Rattle.table.specs.Rule.{Rule}
+use Rattle.table.specs.Table.{inRange, startFits, askHeader, readByte, readTransition, readRow, readCell, readMany, readGrid, ended}
+use Rattle.table.specs.Table.{readBody, readRule}
+use Rattle.word.specs.Walk.{lengthsFit, lettersBelow, askWalk}
 use Rattle.history.specs.Finding.{yes-node, no-node}
 use Rattle.treejudge.specs.Examples.{tableA}
 use Rattle.job.specs.Ascii.{ascii}
-use Rattle.job.specs.JobCall.{readPart, jobParts, digits, digitsWithin, line, yesNo, findingVerdict, dotted, nameText, nodeText, fiveLines, refusalText}
+use Rattle.job.specs.JobCall.{readPart, jobParts, judgeOutcome}
+use Rattle.job.specs.JobCall.{digits, digitsWithin, line, yesNo, findingVerdict, dotted, nameText, nodeText, fiveLines, refusalText}
+use Rattle.job.specs.PrintedVerdict.{AcceptedJob}
 
 -- the job of table A, u empty, v = 1
 jobA : List ℕ
@@ -16,6 +21,24 @@ jobA = 12 ∷ 0 ∷ 2 ∷ 2 ∷ 1 ∷ 1 ∷ 1 ∷ 0 ∷ 0 ∷ 3 ∷ 0 ∷ 0 ∷ 
 parts-of-a : jobParts jobA ≡ accepted (record { table = tableA; lead = []; tail = 1 ∷ [] })
 unfolding jobA jobParts readPart ended tableA
 parts-of-a = refl
+
+-- it is not refused: table A is read as this rule
+ruleA : Rule
+ruleA = record {
+  states = 2;
+  letters = 2;
+  sets = 1;
+  start = 1;
+  grid = ((0 ∷ 255 ∷ []) ∷ (255 ∷ 255 ∷ []) ∷ []) ∷ ((0 ∷ 0 ∷ []) ∷ (255 ∷ 1 ∷ []) ∷ []) ∷ [];
+}
+
+reads-a : readRule tableA ≡ accepted ruleA
+unfolding ruleA tableA readRule askHeader inRange startFits readBody readGrid readMany readCell readRow readTransition readByte ended
+reads-a = refl
+
+a-accepted : AcceptedJob jobA (record { table = tableA; lead = []; tail = 1 ∷ [] }) ruleA
+unfolding ruleA judgeOutcome askWalk lengthsFit lettersBelow
+a-accepted = record { parts = parts-of-a; rule = rw reads-a }
 
 -- "A, u empty, v = 1 prints, whole"
 lines-of-a : fiveLines 2 1 (yes-node (0 ∷ [])) 1 ≡ ascii "verdict yes\nentry 2\nperiod 1\nnode 0\nplain yes\n"

@@ -1,5 +1,6 @@
 -- What the contract says, and the printed example of document 01.
 pub mod JobVerdict
+pub mod PrintedVerdict
 pub mod JobExamples
 -- Question 12: the parts of a job, and where they end.
 pub mod PartEnds
