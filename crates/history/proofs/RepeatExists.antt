@@ -6,6 +6,7 @@ use mathlib.Core.Bool.{true}
 use mathlib.Core.List.{List, [], _∷_, _++_}
 use Prim.Native.Nat.{ℕ, _+_, _-_, _^_, _≤_, _<_}
 use native.Mathlib.Omega.{arith}
+use Rattle.table.specs.Limits.{maxStates, maxSets}
 use Rattle.table.specs.Rule.{Rule}
 use Rattle.table.specs.Table.{WellFormed}
 use Rattle.word.specs.Walk.{rounds}
@@ -26,7 +27,7 @@ module _ (R : Rule) (well : WellFormed R) (sets : 1 ≤ R .sets) where
   unfolding roundTree
   round-is-tree u v r = letters-keep (u ++ rounds r v) (startTree R) (start-is-tree R well sets)
 
-  pub repeat-exists : R .states ≤ 8 → R .sets ≤ 4 → (u v : List ℕ)
+  pub repeat-exists : R .states ≤ maxStates → R .sets ≤ maxSets → (u v : List ℕ)
       → (entry : ℕ) × (period : ℕ) × FirstRepeat (roundTree R u v) entry period × (entry + period < 2 ^ 63)
   repeat-exists few few-sets u v =
       let t = roundTree R u v in

@@ -1,10 +1,10 @@
--- "There are fewer than 2^63 trees": each tree over at most 8 states and 4 sets has a number below 2^63, and no two have the
--- same. The number says for each state whether it is in the tree and which node hosts it (nine possibilities each), the root's
+-- "There are fewer than 2^63 trees": each tree within the limits has a number below 2^63, and no two have the same. The number
+-- says for each of at most eight states whether it is in the tree and which node hosts it (nine possibilities each), the root's
 -- active set (four), and of each other node the depth and the active set (eight times four). The number is never computed.
 use mathlib.Core.Path.{_≡_, refl, sym, _∙_, ap, ap₂}
 use mathlib.Core.Logic.{⊎-elim}
 use mathlib.Core.Bool.{true, false, cond}
-use mathlib.Core.List.{List, [], _∷_, _++_, map}
+use mathlib.Core.List.{List, _∷_, _++_, map}
 use Prim.Native.Nat.{ℕ, zero, suc, _+_, _*_, _-_, _/_, _%_, _^_, _≤_, _<_}
 use native.Mathlib.Omega.{arith}
 use native.Mathlib.Nat.{pow-le-pow-right}
@@ -13,8 +13,9 @@ use lib.Count.{ones-le}
 use lib.ListN.{length, getD, List·getD-eq-default}
 use lib.Seq.{ext-getD}
 use Rattle.table.specs.BitSet.{member}
+use Rattle.table.specs.Limits.{maxStates, maxSets}
 use Rattle.table.specs.Table.{Every}
-use Rattle.table.proofs.Every.{every-at}
+use Rattle.table.proofs.Every.{every-at, every-append}
 use Rattle.table.proofs.Logic.{look, bool-ext}
 use Rattle.table.proofs.BitSet.{member-lt, set-ext}
 use Rattle.history.specs.Forest.{nil, node, size}
@@ -37,7 +38,7 @@ hostDigit T q = cond (member (labels T) q) (suc (host T q)) 0
 markDigit : ℕ → ℕ
 markDigit m = 4 * (m / 16) + (m % 16 - 1)
 
--- of a node, by its number; there are at most 8 nodes
+-- of a node, by its number
 nodeDigit : Tree → ℕ → ℕ
 nodeDigit T i = markDigit (getD (marks 0 T) i 0)
 
@@ -47,15 +48,11 @@ treeCode n T = (positional 9 (hostDigit T) n * 4 + nodeDigit T 0) * 2 ^ 35 + pos
 
 -- MARKS
 
--- a mark of a tree with at most 8 nodes and 4 sets
+-- a mark of a tree within the limits
 MarkFits : ℕ → Type 0
-MarkFits m = (m / 16 < 8) × (1 ≤ m % 16) × (m % 16 ≤ 4)
+MarkFits m = (m / 16 < maxStates) × (1 ≤ m % 16) × (m % 16 ≤ maxSets)
 
-every-append : (P : ℕ → Type 0) (u v : List ℕ) → Every P u → Every P v → Every P (u ++ v)
-every-append P [] v h g = g
-every-append P (m ∷ u) v h g = (h .0, every-append P u v (h .1) g)
-
-every-mark : (k d : ℕ) (F : Tree) → Fits k F → k ≤ 4 → d + size F ≤ 8 → Every MarkFits (marks d F)
+every-mark : (k d : ℕ) (F : Tree) → Fits k F → k ≤ maxSets → d + size F ≤ maxStates → Every MarkFits (marks d F)
 unfolding marks size MarkFits
 every-mark k d nil w h l = tt
 every-mark k d (node x below younger) (f, down, on) h l = (
@@ -76,8 +73,8 @@ same-mark m c (deep, low, high) (deep′, low′, high′) e = omega arith
 -- IT IS BELOW 2^63
 
 -- its digits are below the bases
-module _ (n k : ℕ) (T : Tree) (t : IsTree n k T) (hn : n ≤ 8) (hk : k ≤ 4) where
-  few : size T ≤ 8
+module _ (n k : ℕ) (T : Tree) (t : IsTree n k T) (hn : n ≤ maxStates) (hk : k ≤ maxSets) where
+  few : size T ≤ maxStates
   few = omega (arith, size-labels k T (t .fits), ones-le n (labels T) (t .states))
 
   host-digit-lt : (q : ℕ) → hostDigit T q < 9
@@ -110,7 +107,7 @@ module _ (n k : ℕ) (T : Tree) (t : IsTree n k T) (hn : n ≤ 8) (hk : k ≤ 4)
   nodes-lt = positional-lt 32 (λ i. nodeDigit T (suc i)) 7 (λ i _. node-digit-lt (suc i))
 
 -- the number of a tree is below 2^63 − 1
-pub code-lt : (n k : ℕ) (T : Tree) → isTree n k T ≡ true → n ≤ 8 → k ≤ 4 → treeCode n T < 2 ^ 63 - 1
+pub code-lt : (n k : ℕ) (T : Tree) → isTree n k T ≡ true → n ≤ maxStates → k ≤ maxSets → treeCode n T < 2 ^ 63 - 1
 unfolding treeCode
 code-lt n k T t hn hk = let w = tree-out n k T t in
     omega (arith, hosts-lt n k T w hn hk, root-digit-lt n k T w hn hk, nodes-lt n k T w hn hk)
@@ -164,7 +161,7 @@ same-record n k (node x below nil) (node y down nil) t u s h m =
     ap₂ (λ (a b : List ℕ). x .label ∷ (a ++ b)) hosts m ∙ ap (λ (c : ℕ). c ∷ (map (host U) (members n c) ++ marks 0 U)) root
 
 -- trees with the same number are the same
-pub code-injective : (n k : ℕ) (T U : Tree) → isTree n k T ≡ true → isTree n k U ≡ true → n ≤ 8 → k ≤ 4
+pub code-injective : (n k : ℕ) (T U : Tree) → isTree n k T ≡ true → isTree n k U ≡ true → n ≤ maxStates → k ≤ maxSets
     → treeCode n T ≡ treeCode n U → T ≡ U
 unfolding treeCode nodeDigit
 code-injective n k T U t u hn hk e =
@@ -190,7 +187,7 @@ code-injective n k T U t u hn hk e =
     hosts = same-digits 9 (hostDigit T) (hostDigit U) n (λ q _. host-digit-lt n k T wt hn hk q)
         (λ q _. host-digit-lt n k U wu hn hk q) states
 
-    digit : (i : ℕ) → i < 8 → nodeDigit T i ≡ nodeDigit U i
+    digit : (i : ℕ) → i < maxStates → nodeDigit T i ≡ nodeDigit U i
     digit zero l = root
     digit (suc i) l = same-digits 32 (λ i. nodeDigit T (suc i)) (λ i. nodeDigit U (suc i)) 7 (λ i _. node-digit-lt n k T wt hn hk (suc i))
         (λ i _. node-digit-lt n k U wu hn hk (suc i)) others i (omega arith)

@@ -1,6 +1,6 @@
 -- The tree theorem: the tree judge's verdict is right. Some node is stable at every letter of rounds e+1 to e+p and
--- accepting at one of them just if the walk has an accepting run, and just if it has a loop. It holds for every rule, for
--- any number of states, letters and sets, and every walk.
+-- accepting at one of them just if the walk has an accepting run, and just if it has a loop. It holds for every well-formed
+-- rule with at least one set, whatever the numbers of states, letters and sets, and for every walk whose tail is not empty.
 use mathlib.Core.Path.{_≡_}
 use mathlib.Core.Logic.{_↔_}
 use mathlib.Core.List.{List, []}

@@ -1,5 +1,5 @@
 -- The bytes that the arrays of a read table hold: those of the rule, wherever the limits have a place.
-use mathlib.Core.Path.{_≡_, refl, _∙_, ap}
+use mathlib.Core.Path.{_≡_, _∙_, ap}
 use mathlib.Core.Logic.{⊎-elim}
 use mathlib.Core.List.{List, [], _∷_, _++_, map}
 use Prim.Native.Nat.{ℕ, zero, suc, _+_, _-_, _≤_, _<_}
@@ -13,7 +13,7 @@ use Rattle.table.specs.Table.{WellFormed}
 use Rattle.table.specs.Held.{pad, blankRow, blankSquare, heldRow, heldSquare, held}
 use Rattle.table.proofs.Logic.{look}
 use Rattle.table.proofs.Edges.{edge-byte-lt}
-use Rattle.table.proofs.Holding.{held-cell}
+use Rattle.table.proofs.Holding.{any-default, held-cell}
 use Rattle.plain.specs.Ways.{entry}
 use Rattle.plain.specs.TailWays.{BytesFit}
 
@@ -52,12 +52,7 @@ held-long grid a s a-lt s-lt = padded (λ square. maxStates ≤ length (getD squ
 
 -- THE BYTES
 
--- inside a list the default plays no part, and outside 0 is no more than any
-any-default : (l : List ℕ) (i d e : ℕ) → i < length l → getD l i d ≡ getD l i e
-any-default [] i d e h = absurd (omega arith)
-any-default (x ∷ l) zero d e h = refl
-any-default (x ∷ l) (suc i) d e h = any-default l i d e (omega arith)
-
+-- the default 0 gives no more than another one
 zero-default : (l : List ℕ) (i d : ℕ) → getD l i 0 ≤ getD l i d
 zero-default [] i d = omega arith
 zero-default (x ∷ l) zero d = omega arith

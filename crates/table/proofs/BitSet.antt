@@ -10,7 +10,7 @@ use native.Mathlib.Numerals.{one-add}
 use native.Mathlib.Decide.{decLt}
 use borrow.Author.Tests.{eqb-true, eqb-false, ltb-true, lt-ltb, le-ltb}
 use lib.Arith.{bin-ind}
-use lib.Bits.{bitAnd, bitOr, bitXor, differ, and-step, or-step, xor-step, and-shr, or-shr, xor-shr}
+use lib.Bits.{bitAnd, bitOr, bitXor, differ, and-step, or-step, xor-step, and-shr, or-shr, xor-shr, or-shifted-r, or-zero-r}
 use lib.Count.{ones, onesIn, ones-step}
 use lib.Dec.{eqb, ltb, eqb·zero-suc, eqb·suc-zero, eqb·suc-suc, leb·suc-suc}
 use lib.Pow.{shl-exact, shr-shr, field, mod-mod-pow}
@@ -146,6 +146,10 @@ union-assoc a b c = set-ext _ _ (λ q. member-union a (bitOr b c) q ∙ ap (λ (
     ∙ sym (or-assoc (member a q) (member b q) (member c q)) ∙ ap (λ (x : Bool). x || member c q) (sym (member-union a b q))
     ∙ sym (member-union (bitOr a b) c q))
 
+-- a number above all members, joined
+pub union-above : (n s : ℕ) → s < 2 ^ n → bitOr s (2 ^ n) ≡ 2 ^ n + s
+union-above n s h = ap (bitOr s) (sym (one-mul (2 ^ n))) ∙ or-shifted-r 1 n s h ∙ ap (λ (x : ℕ). x + s) (one-mul (2 ^ n))
+
 -- the members below n of a set are those of its remainder by 2^n
 pub member-mod : (n s q : ℕ) → q < n → member (s % 2 ^ n) q ≡ member s q
 unfolding member
@@ -182,6 +186,23 @@ unfolding collect
 collect-ext zero f g h = refl
 collect-ext (suc n) f g h = ap₂ (λ (b : Bool) (c : ℕ). cond b 1 0 + 2 * c) (h 0 (omega arith))
     (collect-ext n (λ q. f (suc q)) (λ q. g (suc q)) (λ q l. h (suc q) (omega arith)))
+
+-- one more number, above the others
+pub collect-more : (n : ℕ) (f : ℕ → Bool) → collect (suc n) f ≡ bitOr (collect n f) (cond (f n) (2 ^ n) 0)
+unfolding collect
+collect-more n f = counts n f ∙ joins (f n)
+  where
+    counts : (n : ℕ) (f : ℕ → Bool) → collect (suc n) f ≡ cond (f n) (2 ^ n) 0 + collect n f
+    counts zero f = omega arith
+    counts (suc n) f = omega (arith, counts n (λ q. f (suc q)), doubled (f (suc n)))
+      where
+        doubled : (b : Bool) → 2 * cond b (2 ^ n) 0 ≡ cond b (2 ^ suc n) 0
+        doubled true = omega (arith, pow-suc 2 n)
+        doubled false = refl
+
+    joins : (b : Bool) → cond b (2 ^ n) 0 + collect n f ≡ bitOr (collect n f) (cond b (2 ^ n) 0)
+    joins true = sym (union-above n (collect n f) (collect-lt n f))
+    joins false = omega (arith, or-zero-r (collect n f))
 
 -- what `some` says
 pub some-in : (n : ℕ) (f : ℕ → Bool) (q : ℕ) → q < n → f q ≡ true → some n f ≡ true

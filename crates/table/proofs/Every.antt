@@ -13,7 +13,7 @@ module _ {A : Type 0} (P : A → Type 0) where
   every-at (x ∷ l) (suc i) d h b = every-at l i d (h .1) (le-of-suc-le-suc b)
 
   -- a list and another behind it
-  every-append : (l r : List A) → Every P l → Every P r → Every P (l ++ r)
+  pub every-append : (l r : List A) → Every P l → Every P r → Every P (l ++ r)
   every-append [] r h g = g
   every-append (x ∷ l) r h g = (h .0, every-append l r (h .1) g)
 

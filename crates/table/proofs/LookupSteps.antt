@@ -2,14 +2,14 @@
 use mathlib.Core.Path.{_≡_, refl, sym, _∙_, ap, ap₂}
 use mathlib.Core.Logic.{_⊎_, inl, inr}
 use mathlib.Core.Bool.{Bool, true, false, not, _&&_, cond}
-use mathlib.Core.List.{List, [], _∷_, _++_}
+use mathlib.Core.List.{List, [], _++_}
 use Prim.Native.Nat.{ℕ, zero, suc, _+_, _*_, _-_, _/_, _%_, _^_, _<_}
 use native.Mathlib.Decide.{decLt, ℕ-discrete}
-use native.Mathlib.Nat.{pow-suc, one-mul, zero-mul, add-zero}
+use native.Mathlib.Nat.{pow-suc, one-mul, zero-mul}
 use native.Mathlib.Numerals.{add-one}
 use native.Mathlib.Omega.{arith}
 use borrow.Author.Tests.{eqb-true, eqb-false, eq-eqb}
-use lib.Bits.{bitOr, or-shifted-r, or-zero-r}
+use lib.Bits.{bitOr}
 use lib.Dec.{eqb}
 use lib.ListN.{length, getD, set, replicate, length-append, length-set, List·getD-append}
 use lib.Pow.{pow-add, pow-mono, shl-exact}
@@ -19,37 +19,13 @@ use Rattle.table.specs.BitSet.{member, collect, some}
 use Rattle.table.specs.Rule.{cellAt, edge, edgeIn, image}
 use Rattle.table.specs.Lookup.{tabulate, relation, images, letterTable}
 use Rattle.table.specs.LookupSteps.{relationsOf, nextStates, rowMaps, joined, Filled}
-use Rattle.table.proofs.BitSet.{member-zero, member-suc, member-none, member-single, collect-lt, collect-ext}
+use Rattle.table.proofs.BitSet.{member-zero, member-suc, member-none, member-single, union-above, collect-ext, collect-more}
 use Rattle.table.proofs.BitSet.{some-in, some-out, image-none, image-union}
+use Rattle.table.proofs.Holding.{any-default}
 use Rattle.table.proofs.Logic.{look, and-in, and-both, bool-ext}
 use Rattle.table.proofs.Tabulate.{length-tabulate, getD-tabulate, tabulate-ext}
 
 -- A ROW
-
--- one more place: its number counts 2^n
-collect-plus : (n : ℕ) (f : ℕ → Bool) → collect (suc n) f ≡ collect n f + cond (f n) (2 ^ n) 0
-unfolding collect
-collect-plus zero f = omega arith
-collect-plus (suc n) f = omega (arith, collect-plus n (λ q. f (suc q)), doubled (f (suc n)))
-  where
-    doubled : (b : Bool) → 2 * cond b (2 ^ n) 0 ≡ cond b (2 ^ suc n) 0
-    doubled true = omega (arith, pow-suc 2 n)
-    doubled false = refl
-
--- as a union: the new number is the highest member
-pub collect-more : (n : ℕ) (f : ℕ → Bool) → collect (suc n) f ≡ bitOr (collect n f) (cond (f n) (2 ^ n) 0)
-collect-more n f = collect-plus n f ∙ joins (f n) (collect n f) (collect-lt n f)
-  where
-    joins : (b : Bool) (c : ℕ) → c < 2 ^ n → c + cond b (2 ^ n) 0 ≡ bitOr c (cond b (2 ^ n) 0)
-    joins true c h = let e : bitOr c (1 * 2 ^ n) ≡ 1 * 2 ^ n + c = or-shifted-r 1 n c h in
-        sym (ap (bitOr c) (sym (one-mul (2 ^ n))) ∙ e ∙ omega arith)
-    joins false c h = add-zero c ∙ sym (or-zero-r c)
-
--- inside a list the default plays no part
-any-default : (l : List ℕ) (i d e : ℕ) → i < length l → getD l i d ≡ getD l i e
-any-default [] i d e h = absurd (omega arith)
-any-default (x ∷ l) zero d e h = refl
-any-default (x ∷ l) (suc i) d e h = any-default l i d e (omega arith)
 
 -- what the code computes for one relation: bit i of the relations, moved to place r
 bit-at : (relations i r : ℕ) → r < 16 → relations / 2 ^ i % 2 * 2 ^ r % 2 ^ 16 ≡ cond (member relations i) (2 ^ r) 0
@@ -102,8 +78,7 @@ image-single n E q h = collect-ext n _ _ (λ r l. bool-ext _ _ (into r) (from r)
 
 -- one more state, the highest: where it leads joins the image
 image-more : (n : ℕ) (E : ℕ → ℕ → Bool) (q j : ℕ) → j < 2 ^ q → image n E (2 ^ q + j) ≡ bitOr (image n E j) (image n E (2 ^ q))
-image-more n E q j h = let e : bitOr j (1 * 2 ^ q) ≡ 1 * 2 ^ q + j = or-shifted-r 1 q j h in
-    ap (image n E) (sym (ap (bitOr j) (sym (one-mul (2 ^ q))) ∙ e ∙ omega arith)) ∙ image-union n E j (2 ^ q)
+image-more n E q j h = ap (image n E) (sym (union-above q j h)) ∙ image-union n E j (2 ^ q)
 
 -- of the empty set
 images-none : (square : List (List ℕ)) → images square 0 ≡ replicate (suc maxSets) 0

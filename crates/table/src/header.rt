@@ -5,7 +5,7 @@ use crate::limits::SETS;
 use crate::limits::STATES;
 ghost use mathlib.Core.Path.{_≡_};
 ghost use mathlib.Core.Bool.{_&&_};
-ghost use Prim.Native.Nat.{_<_, _≤_};
+ghost use Prim.Native.Nat.{_<_};
 ghost use lib.Dec.{leb};
 ghost use Rattle.table.specs.Table.{inRange, startFits};
 ghost use Rattle.table.specs.Header.{headerNumber};

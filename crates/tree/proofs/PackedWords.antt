@@ -3,11 +3,12 @@ use mathlib.Core.Path.{_≡_, refl, sym, _∙_, ap}
 use mathlib.Core.List.{List, [], _∷_}
 use Prim.Native.Nat.{ℕ, zero, suc, _+_, _*_, _/_, _%_, _^_, _<_}
 use native.Mathlib.Omega.{arith}
-use native.Mathlib.Nat.{add-comm, mul-comm, mod-eq-of-lt, div-div-eq-div-mul}
-use lib.Arith.{digits-div, digits-mod}
+use native.Mathlib.Nat.{add-comm, mul-comm, mod-eq-of-lt, div-div-eq-div-mul, mod-lt}
+use lib.Arith.{digits-div, digits-mod, mod-mul}
 use lib.ListN.{length, getD, set, length-map, List·getD-map}
 use Rattle.tree.specs.Pass.{blankRow}
 use Rattle.tree.specs.PackedRows.{unpacked, rowsIn}
+use Rattle.tree.specs.Rows.{withoutOld}
 use Rattle.tree.specs.declared.rows.Row.{Row}
 
 -- a number by its lowest digit and what stands above it
@@ -63,8 +64,45 @@ row-packed x d l c a o = ap unpacked joined ∙ rw (depth-is, label-is, kids-is,
     old-is = ap (λ (n : ℕ). n % 256) (sym (div-div-eq-div-mul word 281474976710656 256) ∙ ap (λ (n : ℕ). n / 256) third
         ∙ high-part 256 (x .old) (x .active) a) ∙ mod-eq-of-lt o
 
+-- the part of a number below m·c, by its digits to the base c
+mod-div : (m c n : ℕ) → 0 < m → 0 < c → n % (m * c) / c ≡ n / c % m
+mod-div m c n hm hc = ap (λ (x : ℕ). x / c) (mod-mul n hm hc) ∙ digits-div (n / c % m) (mod-lt n hc)
+
+mod-mod : (m c n : ℕ) → 0 < m → 0 < c → n % (m * c) % c ≡ n % c
+mod-mod m c n hm hc = ap (λ (x : ℕ). x % c) (mod-mul n hm hc) ∙ digits-mod (n / c % m) (mod-lt n hc)
+
+-- the lowest 56 bits of a word are the row but for its old number,
+low-row : (w : ℕ) → withoutOld (unpacked (w % 2 ^ 56)) ≡ withoutOld (unpacked w)
+unfolding unpacked
+low-row w =
+    let depth-is : w % 72057594037927936 % 65536 ≡ w % 65536 = mod-mod 1099511627776 65536 w (omega arith) (omega arith) in
+    let label-is : w % 72057594037927936 / 65536 % 65536 ≡ w / 65536 % 65536 =
+    ap (λ (x : ℕ). x % 65536) (mod-div 1099511627776 65536 w (omega arith) (omega arith)) ∙ mod-mod 16777216 65536 (w / 65536) (omega arith) (omega arith) in
+    let kids-is : w % 72057594037927936 / 4294967296 % 65536 ≡ w / 4294967296 % 65536 =
+    ap (λ (x : ℕ). x % 65536) (mod-div 16777216 4294967296 w (omega arith) (omega arith)) ∙ mod-mod 256 65536 (w / 4294967296) (omega arith) (omega arith) in
+    let active-is : w % 72057594037927936 / 281474976710656 % 256 ≡ w / 281474976710656 % 256 =
+    ap (λ (x : ℕ). x % 256) (mod-div 256 281474976710656 w (omega arith) (omega arith)) ∙ mod-mod 1 256 (w / 281474976710656) (omega arith) (omega arith) in
+    rw (depth-is, label-is, kids-is, active-is)
+
+abbrev low-word : Row → ℕ
+low-word x = x .active * 281474976710656 + (x .kids * 4294967296 + (x .label * 65536 + x .depth))
+
+-- and are known from it
+word-low : (w : ℕ) → w % 2 ^ 56 ≡ low-word (withoutOld (unpacked w))
+unfolding unpacked
+word-low w = mod-mul w {m = 256} {c = 281474976710656} (omega arith) (omega arith)
+    ∙ ap (λ (x : ℕ). w / 281474976710656 % 256 * 281474976710656 + x) (mod-mul w {m = 65536} {c = 4294967296} (omega arith) (omega arith)
+    ∙ ap (λ (x : ℕ). w / 4294967296 % 65536 * 4294967296 + x) (mod-mul w {m = 65536} {c = 65536} (omega arith) (omega arith)))
+
+-- so two words' lowest 56 bits are the same just if their rows are, but for the old numbers
+pub low-same : (a b : ℕ) → a % 2 ^ 56 ≡ b % 2 ^ 56 → withoutOld (unpacked a) ≡ withoutOld (unpacked b)
+low-same a b e = sym (low-row a) ∙ ap (λ (w : ℕ). withoutOld (unpacked w)) e ∙ low-row b
+
+pub same-low : (a b : ℕ) → withoutOld (unpacked a) ≡ withoutOld (unpacked b) → a % 2 ^ 56 ≡ b % 2 ^ 56
+same-low a b e = word-low a ∙ ap low-word e ∙ sym (word-low b)
+
 -- one word written
-pub rows-set : (words : List ℕ) (j word : ℕ) → rowsIn (set words j word) ≡ set (rowsIn words) j (unpacked word)
+rows-set : (words : List ℕ) (j word : ℕ) → rowsIn (set words j word) ≡ set (rowsIn words) j (unpacked word)
 rows-set [] j word = refl
 rows-set (x ∷ words) zero word = refl
 rows-set (x ∷ words) (suc j) word = ap (λ (l : List Row). unpacked x ∷ l) (rows-set words j word)
@@ -73,7 +111,7 @@ pub row-written : (words : List ℕ) (j word : ℕ) {x : Row} → unpacked word 
 row-written words j word is = rows-set words j word ∙ ap (set (rowsIn words) j) is
 
 -- one word read; the word 0 is the blank row
-pub row-in : (words : List ℕ) (i : ℕ) → getD (rowsIn words) i blankRow ≡ unpacked (getD words i 0)
+row-in : (words : List ℕ) (i : ℕ) → getD (rowsIn words) i blankRow ≡ unpacked (getD words i 0)
 unfolding unpacked
 row-in words i = List·getD-map unpacked words i 0
 

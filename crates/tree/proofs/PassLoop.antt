@@ -16,18 +16,19 @@ use Rattle.table.specs.Limits.{maxStates, maxSets}
 use Rattle.tree.specs.Pass.{blankRow, SetsFit, tableImage, metBy, sproutRow, settledRow, written, joinedIf, Level, outermost, deepest}
 use Rattle.tree.specs.Pass.{Pass, metRow, passOver, atStart, steppedRows, levelsOf, ByDepth, Entered}
 use Rattle.tree.specs.PackedRows.{unpacked, rowsIn}
+use Rattle.tree.specs.RecordRows.{places}
 use Rattle.tree.specs.Sides.{rowsOn, TwoSides, Steppable, Stepping}
 use Rattle.tree.specs.declared.rows.Row.{Row}
 use Rattle.tree.specs.declared.step.Met.{Met}
 use Rattle.tree.proofs.Levels.{levels-length}
-use Rattle.tree.proofs.PackedWords.{row-in, rows-set, rows-length}
+use Rattle.tree.proofs.PackedWords.{row-read, row-written, rows-many}
 use Rattle.tree.proofs.PassSteps.{Closes, sproutOfLevel, none-closed, pass-closes, pass-skips, pass-meets}
 
 -- ROWS IN AN ARRAY
 
 -- one more row behind the first j
-row-written : (out : List Row) (j : ℕ) (x : Row) → j < length out → take (j + 1) (set out j x) ≡ take j out ++ (x ∷ [])
-row-written out j x room = rw (add-one, take-suc-set out j x room)
+row-behind : (out : List Row) (j : ℕ) (x : Row) → j < length out → take (j + 1) (set out j x) ≡ take j out ++ (x ∷ [])
+row-behind out j x room = rw (add-one, take-suc-set out j x room)
 
 -- the rows from i on, of the first `count`: one, with those behind it, or none
 left-some : (rows : List Row) (count i : ℕ) → i < count → count ≤ length rows
@@ -47,7 +48,7 @@ row-left i count top depth own is going deep = go (decLt i count)
     go (no more) = let end : depth ≡ 0 = is ∙ rw (le-ltb i count (omega arith)) in
         ⊎-elim (λ less. less) (λ open-level. absurd (omega arith)) going
 
--- that row's active set has a table
+-- that row's active set has its images in the table
 pub set-fits : (rows : List Row) (count i : ℕ) → SetsFit (take count rows) → i < count → getD rows i blankRow .active ≤ maxSets
 set-fits rows count i fit less = rw (getD-take count rows i blankRow less) at (fit i)
 
@@ -68,23 +69,23 @@ abbrev pub passAt : List Row → List ℕ → List ℕ → List Bool → ℕ →
 passAt out taken sprout named accepting stable top j =
     record { levels = levelsOf (suc top) taken sprout named; rows = take j out; accepting = accepting; stable = stable }
 
-module _ (tables : List (List ℕ)) (k count : ℕ) (rows : List Row) where
+module _ (table : List (List ℕ)) (k count : ℕ) (rows : List Row) where
   -- the pass over all rows
   abbrev whole : Pass
-  whole = passOver (tableImage tables) k 0 atStart (take count rows)
+  whole = passOver (tableImage table) k 0 atStart (take count rows)
 
   -- the loop's variables: rows read, levels open and rows written keep within bounds; and the pass from here over the rows left
   -- is the pass over all rows
   pub record Reading (out : List Row) (taken sprout : List ℕ) (named : List Bool) (accepting stable top i j : ℕ) : Type 0 where
     pub few : count ≤ maxStates
-    pub long : length rows ≡ 2 * maxStates
+    pub long : length rows ≡ places
     pub within : i ≤ count
     pub shallow : top ≤ i
     pub fewer : j + top ≤ 2 * i
     pub by-depth : ByDepth taken sprout named
-    pub size : length out ≡ 2 * maxStates
-    pub rest : passOver (tableImage tables) k i (passAt out taken sprout named accepting stable top j) (drop i (take count rows))
-        ≡ passOver (tableImage tables) k 0 atStart (take count rows)
+    pub size : length out ≡ places
+    pub rest : passOver (tableImage table) k i (passAt out taken sprout named accepting stable top j) (drop i (take count rows))
+        ≡ passOver (tableImage table) k 0 atStart (take count rows)
 
   module _ {out : List Row} {taken sprout : List ℕ} {named : List Bool} {accepting stable top i j : ℕ}
       (v : Reading out taken sprout named accepting stable top i j)
@@ -99,7 +100,7 @@ module _ (tables : List (List ℕ)) (k count : ℕ) (rows : List Row) where
 
     -- what is left of the pass then
     closed : depth < top
-        → passOver (tableImage tables) k i (record {
+        → passOver (tableImage table) k i (record {
           levels = levelsOf top taken sprout named;
           rows = take j out ++ written (sproutRow top (getD sprout top 0) (getD taken top 0));
           accepting = accepting;
@@ -108,7 +109,7 @@ module _ (tables : List (List ℕ)) (k count : ℕ) (rows : List Row) where
     unfolding levelsOf sproutOfLevel
     closed h =
         let n : length (levelsOf top taken sprout named) ≡ top = levels-length top taken sprout named in
-        rw n at (sym (pass-closes (tableImage tables) k i _ (levelsOf top taken sprout named) (take j out) accepting stable
+        rw n at (sym (pass-closes (tableImage table) k i _ (levelsOf top taken sprout named) (take j out) accepting stable
         (drop i (take count rows)) (rw n (closes h))) ∙ v .rest)
 
     module _ (h : depth < top) (s : Row) (made : s ≡ sproutRow top (getD sprout top 0) (getD taken top 0)) where
@@ -140,7 +141,7 @@ module _ (tables : List (List ℕ)) (k count : ℕ) (rows : List Row) where
         fewer = omega (arith, v .fewer);
         by-depth = v .by-depth;
         size = length-set out j s ∙ v .size;
-        rest = rw (open-levels, row-written out j s room) (rw (← made, ne-eqb (s .label) 0 stays) at (closed h));
+        rest = rw (open-levels, row-behind out j s room) (rw (← made, ne-eqb (s .label) 0 stays) at (closed h));
       }
 
     -- else the next row is read: the row x, with some behind it
@@ -157,7 +158,7 @@ module _ (tables : List (List ℕ)) (k count : ℕ) (rows : List Row) where
       depth-is : depth ≡ x .depth
       depth-is = is ∙ rw (lt-ltb i count less)
 
-      opened : passOver (tableImage tables) k i now (x ∷ behind) ≡ whole
+      opened : passOver (tableImage table) k i now (x ∷ behind) ≡ whole
       opened = rw (← left-some rows count i less (omega (arith, v .few, v .long))) (v .rest)
 
       -- a row below a node without descendants is passed over
@@ -170,18 +171,18 @@ module _ (tables : List (List ℕ)) (k count : ℕ) (rows : List Row) where
         fewer = omega (arith, v .fewer);
         by-depth = v .by-depth;
         size = v .size;
-        rest = rw (add-one i) (sym (pass-skips (tableImage tables) k i now x behind
+        rest = rw (add-one i) (sym (pass-skips (tableImage table) k i now x behind
             (rw (levels-length (suc top) taken sprout named) (omega arith))) ∙ opened);
       }
 
-      module _ (here : depth ≡ top) (m : Met) (met : m ≡ metBy (tableImage tables) x (getD taken top 0))
+      module _ (here : depth ≡ top) (m : Met) (met : m ≡ metBy (tableImage table) x (getD taken top 0))
           {next : ℕ} {taken′ sprout′ : List ℕ} {named′ : List Bool}
           (in-arrays : Entered m top taken sprout named next taken′ sprout′ named′) where
         -- a row of the deepest level is met,
-        met-pass : passOver (tableImage tables) k (suc i) (metRow k i x m now) behind ≡ whole
+        met-pass : passOver (tableImage table) k (suc i) (metRow k i x m now) behind ≡ whole
         met-pass = let d = depth-is in
             rw (met, ← ap (λ (l : Level). l .taken) (deepest-is top taken sprout named))
-            (sym (pass-meets (tableImage tables) k i now x behind (levels-length (suc top) taken sprout named ∙ omega arith)) ∙ opened)
+            (sym (pass-meets (tableImage table) k i now x behind (levels-length (suc top) taken sprout named ∙ omega arith)) ∙ opened)
 
         -- and its node is removed,
         pub row-removed : m .label ≡ 0 → Reading out taken′ sprout′ named′ accepting stable next (i + 1) j
@@ -211,7 +212,7 @@ module _ (tables : List (List ℕ)) (k count : ℕ) (rows : List Row) where
               fewer = omega (arith, v .fewer, in-arrays .deeper);
               by-depth = in-arrays .sizes;
               size = length-set out j y ∙ v .size;
-              rest = rw (add-one i, in-arrays .levels, row-written out j y room, settled, accepts, keeps)
+              rest = rw (add-one i, in-arrays .levels, row-behind out j y room, settled, accepts, keeps)
                   (rw (ne-eqb (m .label) 0 stays, deepest-is top taken sprout named) at met-pass);
             }
 
@@ -227,22 +228,22 @@ module _ (tables : List (List ℕ)) (k count : ℕ) (rows : List Row) where
 -- ON TWO SIDES
 
 -- two arrays side by side
-pub two-sides : (words other : List ℕ) → length words ≡ 2 * maxStates → length other ≡ 2 * maxStates → TwoSides (words ∷ other ∷ [])
+pub two-sides : (words other : List ℕ) → length words ≡ places → length other ≡ places → TwoSides (words ∷ other ∷ [])
 two-sides words other long-words long-other = record { two = refl; long = both }
   where
-    both : (side : ℕ) → side < 2 → length (getD (words ∷ other ∷ []) side []) ≡ 2 * maxStates
+    both : (side : ℕ) → side < 2 → length (getD (words ∷ other ∷ []) side []) ≡ places
     both zero h = long-words
     both (suc zero) h = long-other
     both (suc (suc side)) h = absurd (omega arith)
 
-module _ (tables : List (List ℕ)) (k count from : ℕ) (before : List (List ℕ)) where
+module _ (table : List (List ℕ)) (k count from : ℕ) (before : List (List ℕ)) where
   -- the loop reads the rows of one side and writes those of the other; words not written are as they were
   pub record OnSides (sides : List (List ℕ)) (taken sprout : List ℕ) (named : List Bool) (accepting stable top i j : ℕ) : Type 0 where
     pub side : from < 2
     pub arrays : TwoSides sides
     pub kept : getD sides from [] ≡ getD before from []
     pub behind : drop j (getD sides (1 - from) []) ≡ drop j (getD before (1 - from) [])
-    pub reading : Reading tables k count (rowsIn (getD before from [])) (rowsIn (getD sides (1 - from) [])) taken sprout named
+    pub reading : Reading table k count (rowsIn (getD before from [])) (rowsIn (getD sides (1 - from) [])) taken sprout named
         accepting stable top i j
 
   -- before the first row
@@ -257,12 +258,12 @@ module _ (tables : List (List ℕ)) (k count from : ℕ) (before : List (List �
         behind = refl;
         reading = record {
           few = ready .few;
-          long = rows-length (getD before from []) ∙ ready .arrays .long from one;
+          long = rows-many (getD before from []) (ready .arrays .long from one);
           within = omega arith;
           shallow = omega arith;
           fewer = omega arith;
           by-depth = sizes;
-          size = rows-length (getD before (1 - from) []) ∙ ready .arrays .long (1 - from) (omega arith);
+          size = rows-many (getD before (1 - from) []) (ready .arrays .long (1 - from) (omega arith));
           rest = rw top-level;
         };
       }
@@ -270,21 +271,21 @@ module _ (tables : List (List ℕ)) (k count from : ℕ) (before : List (List �
   module _ {sides : List (List ℕ)} {taken sprout : List ℕ} {named : List Bool} {accepting stable top i j : ℕ}
       (v : OnSides sides taken sprout named accepting stable top i j) where
     -- the row that is read
-    pub row-read : (x : Row) → x ≡ unpacked (getD (getD sides from []) i 0) → x ≡ getD (rowsIn (getD before from [])) i blankRow
-    row-read x is = is ∙ ap (λ (words : List ℕ). unpacked (getD words i 0)) (v .kept) ∙ sym (row-in (getD before from []) i)
+    pub side-read : (x : Row) → x ≡ unpacked (getD (getD sides from []) i 0) → x ≡ getD (rowsIn (getD before from [])) i blankRow
+    side-read x is = row-read (getD before from []) i (is ∙ ap (λ (words : List ℕ). unpacked (getD words i 0)) (v .kept))
 
     -- no row is written, whatever else has changed
     pub sides-kept : {taken′ sprout′ : List ℕ} {named′ : List Bool} {top′ i′ : ℕ}
-        → Reading tables k count (rowsIn (getD before from [])) (rowsIn (getD sides (1 - from) [])) taken′ sprout′ named′
+        → Reading table k count (rowsIn (getD before from [])) (rowsIn (getD sides (1 - from) [])) taken′ sprout′ named′
         accepting stable top′ i′ j → OnSides sides taken′ sprout′ named′ accepting stable top′ i′ j
     sides-kept r = record { side = v .side; arrays = v .arrays; kept = v .kept; behind = v .behind; reading = r }
 
     -- a word written leaves the sides as long as they were
-    still-long : (word side : ℕ) → side < 2 → length (getD (set sides (1 - from) (set (getD sides (1 - from) []) j word)) side []) ≡ 2 * maxStates
+    still-long : (word side : ℕ) → side < 2 → length (getD (set sides (1 - from) (set (getD sides (1 - from) []) j word)) side []) ≡ places
     still-long word side h = go (ℕ-discrete side (1 - from))
       where
         go : Dec (side ≡ 1 - from)
-            → length (getD (set sides (1 - from) (set (getD sides (1 - from) []) j word)) side []) ≡ 2 * maxStates
+            → length (getD (set sides (1 - from) (set (getD sides (1 - from) []) j word)) side []) ≡ places
         go (yes e) = rw (
           e,
           getD-set-same sides (1 - from) (set (getD sides (1 - from) []) j word) [] (omega (arith, v .arrays .two)),
@@ -295,7 +296,7 @@ module _ (tables : List (List ℕ)) (k count from : ℕ) (before : List (List �
     -- a row is written
     pub sides-written : {taken′ sprout′ : List ℕ} {named′ : List Bool} {accepting′ stable′ top′ i′ : ℕ} (x : Row) (word : ℕ)
         → unpacked word ≡ x
-        → Reading tables k count (rowsIn (getD before from [])) (set (rowsIn (getD sides (1 - from) [])) j x) taken′ sprout′ named′
+        → Reading table k count (rowsIn (getD before from [])) (set (rowsIn (getD sides (1 - from) [])) j x) taken′ sprout′ named′
         accepting′ stable′ top′ i′ (j + 1)
         → OnSides (set sides (1 - from) (set (getD sides (1 - from) []) j word)) taken′ sprout′ named′ accepting′ stable′ top′ i′ (j + 1)
     sides-written x word is r =
@@ -309,18 +310,18 @@ module _ (tables : List (List ℕ)) (k count from : ℕ) (before : List (List �
           kept = getD-set-other sides (1 - from) from _ [] (λ e. omega arith) ∙ v .kept;
           behind = rw (other, add-one) (drop-set-lt (suc j) (getD sides (1 - from) []) j word (omega arith)
               ∙ drop-more (getD sides (1 - from) []) (getD before (1 - from) []) j (v .behind));
-          reading = rw (other, rows-set (getD sides (1 - from) []) j word, is) r;
+          reading = rw (other, row-written (getD sides (1 - from) []) j word is) r;
         }
 
     -- at the end
     pub sides-done : count ≤ i → top ≤ 0
-        → Stepping (steppedRows tables k (rowsOn before from count)) from before (record { count = j; accepting = accepting; stable = stable }) sides
+        → Stepping (steppedRows table k (rowsOn before from count)) from before (record { count = j; accepting = accepting; stable = stable }) sides
     unfolding steppedRows
     sides-done end bottom =
-        let p = pass-over tables k count (rowsIn (getD before from [])) (v .reading) end bottom in
+        let p = pass-over table k count (rowsIn (getD before from [])) (v .reading) end bottom in
         let out : List Row = rowsIn (getD sides (1 - from) []) in
         let r = v .reading in
-        let front : take j out ≡ passOver (tableImage tables) k 0 atStart (rowsOn before from count) .rows = ap (λ (q : Pass). q .rows) p in
+        let front : take j out ≡ passOver (tableImage table) k 0 atStart (rowsOn before from count) .rows = ap (λ (q : Pass). q .rows) p in
         record {
           arrays = v .arrays;
           rows = front;

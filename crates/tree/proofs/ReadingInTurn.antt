@@ -12,7 +12,7 @@ use lib.Dec.{leb, ltb}
 use lib.ListN.{length, getD, take, drop, set, length-set, length-drop, drop-of-length-le}
 use lib.Seq.{drop-cons, take-suc-set, append-snoc}
 use Rattle.table.specs.BitSet.{member, collect}
-use Rattle.table.proofs.LookupSteps.{collect-more}
+use Rattle.table.proofs.BitSet.{collect-more}
 use Rattle.history.specs.Record.{rank, hostedIn}
 use Rattle.tree.specs.RecordRows.{places, deeper, rowsOfMarks}
 use Rattle.tree.specs.declared.rows.Row.{Row}

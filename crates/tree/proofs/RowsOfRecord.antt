@@ -19,7 +19,6 @@ use Rattle.tree.specs.Rows.{rowsFrom, rowsOf, withoutOld}
 use Rattle.tree.specs.PackedRows.{rowsIn}
 use Rattle.tree.specs.RecordRows.{places, deeper, rowsOfMarks}
 use Rattle.tree.specs.RecordCode.{Checks}
-use Rattle.tree.specs.declared.rows.Row.{Row}
 use Rattle.tree.specs.declared.record.Count.the-variants.{Nodes, Refused}
 use Rattle.tree.specs.declared.record.Tree.{Tree as Code}
 use Rattle.history.proofs.HostLabels.{relabelled, ByNumber, labels-relabelled, labels-from-hosts, Active, fits-active}

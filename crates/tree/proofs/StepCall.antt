@@ -3,7 +3,7 @@
 use mathlib.Core.Path.{_≡_, refl, sym, _∙_, ap}
 use mathlib.Core.Bool.{Bool, true, false}
 use mathlib.Core.List.{List, [], _∷_}
-use Prim.Native.Nat.{ℕ, _*_, _≤_, _<_}
+use Prim.Native.Nat.{ℕ, _≤_, _<_}
 use native.Mathlib.Omega.{arith}
 use borrow.Author.Tests.{le-leb, lt-leb, le-ltb, lt-ltb}
 use lib.ListN.{length, getD, take}
@@ -117,7 +117,7 @@ module _ (table : List ℕ) (a : ℕ) (bytes before : List ℕ) (header : Header
       tree-fits = rw (v .numbers) at (w .fits)
 
       -- the letter can be read from the tree's rows on the first side,
-      pub step-ready : (other : List ℕ) → length other ≡ 2 * maxStates → Steppable (words ∷ other ∷ []) 0 count
+      pub step-ready : (other : List ℕ) → length other ≡ places → Steppable (words ∷ other ∷ []) 0 count
       step-ready other long-other = record {
         arrays = two-sides words other (w .long) long-other;
         side = omega arith;
@@ -146,7 +146,7 @@ module _ (table : List ℕ) (a : ℕ) (bytes before : List ℕ) (header : Header
         next-fits = next-is-tree (v .rule) (v .well) (v .range .some-set) a (w .tree) tree-fits
 
         -- its rows can be recorded
-        pub step-recordable : Recordable (header .states) (r .count) (rowsIn (getD after 1 [])) × (length (getD after 1 []) ≡ 2 * maxStates)
+        pub step-recordable : Recordable (header .states) (r .count) (rowsIn (getD after 1 [])) × (length (getD after 1 []) ≡ places)
         step-recordable = (
           rw (v .numbers) (rows-recordable (v .rule .states) (v .rule .sets) (nextTree (v .rule) a (w .tree)) next-fits
               (r .count) (rowsIn (getD after 1 [])) (step-taken .are) (v .range .states) (next-again .few) (omega (arith, v .range .sets))),

@@ -3,7 +3,7 @@
 use mathlib.Core.Path.{_≡_, refl, sym, _∙_, ap, subst}
 use mathlib.Core.Bool.{Bool, true, false, cond}
 use mathlib.Core.List.{List, [], _∷_, _++_, map}
-use Prim.Native.Nat.{ℕ, zero, suc, _+_, _*_, _-_, _^_, _≤_, _<_}
+use Prim.Native.Nat.{ℕ, zero, suc, _+_, _-_, _^_, _≤_, _<_}
 use native.Mathlib.Omega.{arith}
 use native.Mathlib.Decide.{decLt}
 use native.Mathlib.Nat.{pow-suc}
@@ -168,13 +168,13 @@ module _ (R : Rule) (well : WellFormed R) (few-states : R .states ≤ maxStates)
     stable = keeps ∙ gives .stable ∙ stable-map R a T one few (rw (gives .stable) at (maps-below .1));
   }
 
-module _ (tables : List (List ℕ)) (k from : ℕ) (rows : List Row) (before after : List (List ℕ)) (r : Stepped)
-    (step : Stepping (steppedRows tables k rows) from before r after)
+module _ (table : List (List ℕ)) (k from : ℕ) (rows : List Row) (before after : List (List ℕ)) (r : Stepped)
+    (step : Stepping (steppedRows table k rows) from before r after)
     (R : Rule) (a : ℕ) (T : Tree) (well : WellFormed R) (few-states : R .states ≤ maxStates) (few-sets : R .sets ≤ maxSets)
-    (sets : R .sets ≡ k) (tree : isTree (R .states) (R .sets) T ≡ true) (by : tables ≡ letterTable (getD (held (R .grid)) a []))
+    (sets : R .sets ≡ k) (tree : isTree (R .states) (R .sets) T ≡ true) (by : table ≡ letterTable (getD (held (R .grid)) a []))
     (are : AreRows rows T) where
   -- the pass over the rows of a tree
-  over-tree : steppedRows tables k rows ≡ passOver (tableImage (letterTable (getD (held (R .grid)) a []))) (R .sets) 0 atStart (rowsOf T)
+  over-tree : steppedRows table k rows ≡ passOver (tableImage (letterTable (getD (held (R .grid)) a []))) (R .sets) 0 atStart (rowsOf T)
   unfolding steppedRows
   over-tree = rw (← sets, by, ← are) (sym (pass-without-old _ (R .sets) 0 atStart rows))
 

@@ -15,7 +15,7 @@ use Rattle.tree.specs.declared.rows.Row.{Row}
 abbrev pub places : ℕ
 places = 2 * maxStates
 
--- the rows of a starting tree: the root alone
+-- the rows of a starting tree: that of the root alone, in front of blank ones
 unfoldable pub startRows : ℕ → List Row
 startRows start = record { depth = 0; label = start; kids = 0; active = 1; old = 0 } ∷ replicate (places - 1) blankRow
 

@@ -1,11 +1,12 @@
 -- One letter from a tree on one side to the next tree on the other: what the contract of `step_rows` cites.
 use mathlib.Core.Path.{_≡_}
 use mathlib.Core.List.{List, []}
-use Prim.Native.Nat.{ℕ, _*_, _-_, _≤_, _<_}
+use Prim.Native.Nat.{ℕ, _-_, _≤_, _<_}
 use lib.ListN.{length, getD, take, drop}
 use Rattle.table.specs.Limits.{maxStates}
 use Rattle.tree.specs.Pass.{SetsFit, Pass}
 use Rattle.tree.specs.PackedRows.{rowsIn}
+use Rattle.tree.specs.RecordRows.{places}
 use Rattle.tree.specs.declared.rows.Row.{Row}
 use Rattle.tree.specs.declared.rows.Stepped.{Stepped}
 
@@ -16,7 +17,7 @@ rowsOn sides side count = take count (rowsIn (getD sides side []))
 -- the arrays: two sides with a place for each row
 pub record TwoSides (sides : List (List ℕ)) : Type 0 where
   pub two : length sides ≡ 2
-  pub long : (side : ℕ) → side < 2 → length (getD sides side []) ≡ 2 * maxStates
+  pub long : (side : ℕ) → side < 2 → length (getD sides side []) ≡ places
 
 -- a letter can be read from the first `count` rows of one of the two sides
 pub record Steppable (sides : List (List ℕ)) (from count : ℕ) : Type 0 where

@@ -1,4 +1,4 @@
-// History trees and the tree judge.
+// History trees: the check of a record, the starting record, and one letter.
 pub mod calls;
 mod checks;
 pub mod packed;

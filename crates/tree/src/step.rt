@@ -17,7 +17,7 @@ ghost use lib.Dec.{ltb};
 ghost use Rattle.table.specs.BitSet.{minus};
 ghost use Rattle.table.specs.Limits.{maxStates, maxSets};
 ghost use Rattle.history.specs.Letter.{nextSet};
-ghost use Rattle.tree.specs.Pass.{blankRow, tableImage, metBy, sproutRow, settledRow, joinedIf};
+ghost use Rattle.tree.specs.Pass.{tableImage, metBy, sproutRow, settledRow, joinedIf};
 ghost use Rattle.tree.specs.Pass.{ByDepth, Entered, steppedRows};
 ghost use Rattle.tree.specs.Sides.{rowsOn, Steppable, Stepping};
 
@@ -143,19 +143,6 @@ fn enter(
     sprout[below] = met.sprout;
     named[below] = name;
     below
-}
-
-// The row of no node.
-pub fn blank_row() -> Row
-    ensures { λ r. ⌜ r ≡ blankRow ⌝ }
-{
-    Row {
-        depth: 0,
-        label: 0,
-        kids: 0,
-        active: 0,
-        old: 0,
-    }
 }
 
 fn stepped(count: usize, accepting: u16, stable: u16) -> Stepped

@@ -6,7 +6,6 @@ use Prim.Native.Nat.{ℕ, _+_, _-_, _≤_, _<_}
 use native.Mathlib.Omega.{arith}
 use native.Mathlib.Decide.{ℕ-discrete}
 use lib.ListN.{take}
-use Rattle.table.specs.Limits.{maxStates}
 use Rattle.table.specs.Rule.{Rule}
 use Rattle.history.specs.Rounds.{readLetters, roundTree}
 use Rattle.history.proofs.TreesOfWalk.{round-next}
@@ -17,15 +16,11 @@ use Rattle.treejudge.specs.SameRows.{sameRows}
 use Rattle.treejudge.specs.Cycles.{AtRound, Ahead, Bracket, Searched}
 use Rattle.treejudge.specs.declared.letters.CountedRows.{CountedRows}
 use Rattle.treejudge.specs.declared.cycle.Cycle.{Cycle}
-use Rattle.treejudge.proofs.RoundsRead.{round-read, rounds-read, both-small, rows-same, rows-differ}
+use Rattle.treejudge.proofs.RoundsRead.{round-read, rounds-read, rows-same, rows-differ}
 
 module _ {R : Rule} {u v : List ℕ} {tables : List (List (List ℕ))} {k entry period place high : ℕ} {x y : CountedRows}
     (N : Bracket R u v tables k entry period place high x y) where
-  -- the two trees can be compared
-  pub trees-small : (x .count ≤ maxStates) × (y .count ≤ maxStates)
-  trees-small = both-small (N .place) (N .ahead)
-
-  -- where they are the same, the place is the entry
+  -- where the two trees are the same, the place is the entry
   pub entry-here : sameRows (take (x .count) (rowsIn (x .rows))) (take (y .count) (rowsIn (y .rows))) ≡ true → place ≡ entry
   entry-here same =
       let F = N .repeat in

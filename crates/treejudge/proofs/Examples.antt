@@ -9,7 +9,7 @@ use lib.Count.{ones, onesIn}
 use lib.Dec.{leb}
 use lib.ListN.{length, replicate}
 use Rattle.table.specs.BitSet.{member, minus, collect, some}
-use Rattle.table.specs.Outcome.{accepted}
+use Rattle.table.specs.Outcome.{refused, accepted}
 use Rattle.table.specs.Rule.{Rule, cellAt, edge, edgeIn, image, successors, successorsIn}
 use Rattle.table.specs.Table.{Every, inRange, startFits, askHeader, readByte, readTransition, readRow, readCell, readMany, readGrid, ended, readBody, readRule}
 use Rattle.table.proofs.Every.{every-weaker}
@@ -25,7 +25,7 @@ use Rattle.history.specs.Finding.{Finding}
 use Rattle.history.proofs.VerdictTest.{verdictTest, verdict-by-test, ruleTest, rule-by-test}
 use Rattle.tree.specs.TreeCalls.{recordRoom, startOutcome, stepOutcome}
 use Rattle.treejudge.specs.JudgeCall.{nameRoom, treeOutcome}
-use Rattle.treejudge.specs.Examples.{Example, starts, steps, judges, Holds, tableA, tableB, tableC, examples}
+use Rattle.treejudge.specs.Examples.{Example, starts, steps, judges, refuses, Holds, tableA, tableB, tableC, examples}
 
 -- is the walk accepted, and are these its entry, its period and the finding?
 rowTest : List ℕ → List ℕ → List ℕ → ℕ → ℕ → Finding → Bool
@@ -56,14 +56,16 @@ abbrev Computes : Example → Type 0
 Computes (starts table bytes) = startOutcome table (replicate recordRoom 0) ≡ accepted bytes
 Computes (steps table a bytes outcome) = stepOutcome table a bytes (replicate recordRoom 0) ≡ outcome
 Computes (judges table u v entry period finding) = rowTest table u v entry period finding ≡ true
+Computes (refuses table u v number) = treeOutcome table u v (replicate nameRoom 0) ≡ refused number
 
 computed-holds : (x : Example) → Computes x → Holds x
 computed-holds (starts table bytes) h = h
 computed-holds (steps table a bytes outcome) h = h
 computed-holds (judges table u v entry period finding) h = row-holds table u v entry period finding h
+computed-holds (refuses table u v number) h = h
 
 -- every row holds
 pub examples-hold : Every Holds examples
-unfolding ones onesIn member minus collect some cellAt edge edgeIn image successors successorsIn inRange startFits askHeader readByte readTransition readRow readCell readMany readGrid ended readBody readRule size change listing namedFrom named names sameNumbers labels disjoint strictlyInside nodesFit isTree startTree begun succeeded youngest child sprouting separated grownLabels nextSet kept pruned survivors nextTree isOld anyOf accepting stable byNumber acceptingMap stableMap hostFrom host membersFrom members marks recordOf rank hostedIn planted decoded isRecord readTree startOutcome stepOutcome rowTest tableA tableB tableC examples
+unfolding ones onesIn member minus collect some cellAt edge edgeIn image successors successorsIn inRange startFits askHeader readByte readTransition readRow readCell readMany readGrid ended readBody readRule size change listing namedFrom named names sameNumbers labels disjoint strictlyInside nodesFit isTree startTree begun succeeded youngest child sprouting separated grownLabels nextSet kept pruned survivors nextTree isOld anyOf accepting stable byNumber acceptingMap stableMap hostFrom host membersFrom members marks recordOf rank hostedIn planted decoded isRecord readTree startOutcome stepOutcome lengthsFit lettersBelow askWalk judgeQuestions treeOutcome rowTest tableA tableB tableC examples
 examples-hold = every-weaker Computes Holds examples computed-holds
-    (refl, (refl, (refl, (refl, (refl, (refl, (refl, (refl, (refl, (refl, (refl, (refl, tt))))))))))))
+    (refl, (refl, (refl, (refl, (refl, (refl, (refl, (refl, (refl, (refl, (refl, (refl, (refl, tt)))))))))))))

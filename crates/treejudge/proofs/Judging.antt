@@ -1,13 +1,13 @@
 -- The judge on a read table: what its calls need, and that its answer is right for every rule that the table holds.
 use mathlib.Core.Path.{_≡_, refl, sym, _∙_, ap}
 use mathlib.Core.Bool.{false, true}
-use mathlib.Core.List.{List, [], _++_, append-nil}
-use Prim.Native.Nat.{ℕ, _+_, _-_, _^_, _<_}
+use mathlib.Core.List.{List, [], append-nil}
+use Prim.Native.Nat.{ℕ, _-_, _<_}
 use native.Mathlib.Omega.{arith}
 use native.Mathlib.Decide.{decLt}
 use lib.ListN.{length, getD, take, length-take}
 use Rattle.table.specs.BitSet.{member}
-use Rattle.table.specs.Limits.{maxStates, maxLetters}
+use Rattle.table.specs.Limits.{maxLetters}
 use Rattle.table.specs.Rule.{Grid, Rule}
 use Rattle.table.specs.Table.{Every}
 use Rattle.table.specs.Storing.{stored}
@@ -19,18 +19,17 @@ use Rattle.table.proofs.Logic.{clash}
 use Rattle.word.specs.Walk.{rounds, lettersLeft}
 use Rattle.history.specs.Forest.{size, names}
 use Rattle.history.specs.Tree.{Tree, startTree}
-use Rattle.history.specs.Rounds.{readLetters, roundTree, FirstRepeat}
+use Rattle.history.specs.Rounds.{roundTree}
 use Rattle.history.specs.Verdict.{FirstWitness}
 use Rattle.history.specs.Finding.{yes-node, no-node}
-use Rattle.history.specs.Following.{acceptedMap}
 use Rattle.history.proofs.TreesKept.{start-is-tree, few-nodes}
 use Rattle.history.proofs.RepeatExists.{repeat-exists}
 use Rattle.history.proofs.CycleVerdict.{member-node, verdict-yes, verdict-no}
 use Rattle.tree.specs.RecordRows.{startRows}
 use Rattle.tree.specs.PackedRows.{rowsIn}
 use Rattle.tree.proofs.StartCall.{start-rows-are}
-use Rattle.treejudge.specs.JudgeCall.{nameRoom, noName, treeAnswer, namesAfter, Judged}
-use Rattle.treejudge.specs.Reading.{occurring, TablesOf, WithinLimits, HoldsTree, Reads, ReadsTo}
+use Rattle.treejudge.specs.JudgeCall.{noName, treeAnswer, namesAfter, Judged}
+use Rattle.treejudge.specs.Reading.{occurring, TablesOf, WithinLimits, Reads, ReadsTo}
 use Rattle.treejudge.specs.Cycles.{AtRound, CycleFound, Searched, EntryFound}
 use Rattle.treejudge.specs.NodeNames.{Lowest, SomeNode, IsName}
 use Rattle.treejudge.specs.declared.letters.CountedRows.{CountedRows}

@@ -74,7 +74,7 @@ unfolding readLetters
 read-more R w at T h = rw (take-suc w at 0 h, read-append)
 
 module _ (tables : List (List (List ℕ))) (k : ℕ) (w : List ℕ) (x : CountedRows) where
-  -- each letter has tables
+  -- each letter has its place in the tables
   pub letter-small : Readable tables k w x → (at : ℕ) → at < length w → getD w at 0 < maxLetters
   unfolding Readable
   letter-small (R, T, reads) at h = omega (arith, every-at (Tabled R tables) w at 0 (reads .tabled) h .below, reads .holds .letters)

@@ -3,21 +3,18 @@
 use mathlib.Core.Path.{_≡_, refl, sym, _∙_, ap}
 use mathlib.Core.Bool.{true, false, and-false}
 use mathlib.Core.List.{List, [], _∷_, _++_, map, append-nil, append-assoc}
-use Prim.Native.Nat.{ℕ, _+_, _*_, _-_, _%_, _^_, _≤_, _<_}
-use native.Mathlib.Nat.{one-mul}
+use Prim.Native.Nat.{ℕ, _+_, _-_, _^_, _≤_, _<_}
 use native.Mathlib.Numerals.{add-one}
 use native.Mathlib.Omega.{arith}
 use lib.Bits.{bitOr, or-zero-r}
 use lib.ListN.{length, getD, take, length-map, List·getD-map}
-use lib.Pow.{shl-exact}
 use lib.Seq.{length-take-le, take-suc, take-all, getD-take}
 use Rattle.table.specs.Limits.{maxStates}
 use Rattle.table.specs.BitSet.{member, collect}
 use Rattle.table.specs.Rule.{Rule}
-use Rattle.table.proofs.BitSet.{member-none, member-lt, empty-set, member-collect, collect-ext}
+use Rattle.table.proofs.BitSet.{member-none, member-lt, empty-set, member-collect, collect-ext, collect-more}
 use Rattle.table.proofs.Every.{every-at}
 use Rattle.table.proofs.Logic.{never}
-use Rattle.table.proofs.LookupSteps.{collect-more}
 use Rattle.history.specs.Tree.{Tree}
 use Rattle.history.specs.Rounds.{readLetters}
 use Rattle.history.specs.OldNumbers.{noNode}
@@ -37,10 +34,6 @@ use Rattle.treejudge.specs.declared.follow.Followed.{Followed}
 use Rattle.treejudge.proofs.LettersRead.{tree-small, letter-ready, letter-steps, letter-holds}
 
 -- A MAP CARRIED TO THE NEW NUMBERS
-
--- the map of one number, within a width
-pub one-shifted : (width j : ℕ) → j < width → 1 * 2 ^ j % 2 ^ width ≡ 2 ^ j
-one-shifted width j h = shl-exact 1 j width (omega arith) (omega arith) ∙ one-mul (2 ^ j)
 
 -- a number past the width is in no map
 pub not-far : (width nodes old : ℕ) → nodes < 2 ^ width → width ≤ old → member nodes old ≡ false

@@ -3,7 +3,7 @@
 use mathlib.Core.Path.{_≡_, refl, sym, _∙_, ap, ap₂}
 use mathlib.Core.Bool.{true, false}
 use mathlib.Core.List.{List, [], _∷_, map}
-use Prim.Native.Nat.{ℕ, suc, _+_, _≤_, _<_}
+use Prim.Native.Nat.{ℕ, suc, _+_, _%_, _^_, _≤_, _<_}
 use native.Mathlib.Omega.{arith}
 use native.Mathlib.Numerals.{add-one}
 use borrow.Author.Tests.{eqb-true, eq-eqb}
@@ -12,15 +12,16 @@ use lib.ListN.{length, getD, take, drop, drop-of-length-le}
 use lib.Seq.{drop-cons, getD-take, length-take-le}
 use Rattle.table.specs.Limits.{maxStates, maxSets}
 use Rattle.table.specs.Rule.{Rule}
-use Rattle.table.proofs.Logic.{never, clash, and-both, and-in}
+use Rattle.table.proofs.Logic.{never, clash, and-both, and-in, bool-ext}
 use Rattle.history.specs.Tree.{Tree}
 use Rattle.history.proofs.QuestionNine.{record-injective}
 use Rattle.tree.specs.Rows.{withoutOld}
 use Rattle.tree.specs.Pass.{blankRow}
 use Rattle.tree.specs.RecordRows.{places}
 use Rattle.tree.specs.declared.rows.Row.{Row}
+use Rattle.tree.proofs.PackedWords.{low-same, same-low}
 use Rattle.tree.proofs.RecordOfRows.{record-of-rows}
-use Rattle.tree.specs.PackedRows.{rowsIn}
+use Rattle.tree.specs.PackedRows.{unpacked, rowsIn}
 use Rattle.treejudge.specs.SameRows.{sameRow, sameRows}
 use Rattle.treejudge.specs.Reading.{HoldsTree}
 use Rattle.treejudge.specs.declared.letters.CountedRows.{CountedRows}
@@ -98,6 +99,11 @@ same-row-in x y e =
     (and-both (eqb (x .kids) (y .kids)) _ (eq-eqb (x .kids) (y .kids) (ap (λ (r : Row). r .kids) e))
     (and-both (eqb (x .depth) (y .depth)) _ (eq-eqb (x .depth) (y .depth) (ap (λ (r : Row). r .depth) e))
     (eq-eqb (x .active) (y .active) (ap (λ (r : Row). r .active) e))))
+
+-- the words tell
+pub same-words : (a b : ℕ) → eqb (a % 2 ^ 56) (b % 2 ^ 56) ≡ sameRow (unpacked a) (unpacked b)
+same-words a b = bool-ext _ _ (λ h. same-row-in (unpacked a) (unpacked b) (low-same a b (eqb-true _ _ h)))
+    (λ h. eq-eqb _ _ (same-low a b (same-row-out (unpacked a) (unpacked b) h)))
 
 same-rows-out : (rows others : List Row) → sameRows rows others ≡ true → map withoutOld rows ≡ map withoutOld others
 unfolding sameRows

@@ -1,6 +1,6 @@
 -- What the tree judge's contract says: its verdict decides whether an endless run goes through every set infinitely often, and the
 -- contract leaves no choice of the answer or of the buffer.
-use mathlib.Core.Path.{_≡_, refl, sym, _∙_, ap, ap₂}
+use mathlib.Core.Path.{_≡_, refl, sym, _∙_, ap}
 use mathlib.Core.Logic.{inl, inr}
 use mathlib.Core.List.{List, []}
 use Prim.Native.Nat.{ℕ, _≤_}

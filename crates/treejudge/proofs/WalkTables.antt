@@ -1,4 +1,4 @@
--- The tables of a walk: the letters that occur in it, and that each of them has its tables.
+-- The tables of a walk: the letters that occur in it, and that each of them has its table.
 use mathlib.Core.Path.{_≡_, refl, sym, _∙_, ap}
 use mathlib.Core.Bool.{true, false}
 use mathlib.Core.List.{List, [], _∷_, _++_}
@@ -69,7 +69,7 @@ module _ (others : ℕ) (w : List ℕ) (at letters : ℕ) (v : OccurringUpTo oth
 
 -- THEIR TABLES
 
--- an array of the tables of those members of a map that are below `letter`
+-- an array with the table of each member of a map that is below `letter`
 pub record TablesUpTo (letters : ℕ) (cells : Grid) (letter : ℕ) (tables : List (List (List ℕ))) : Type 0 where
   pub upto : letter ≤ maxLetters
   pub places : length tables ≡ maxLetters
@@ -81,7 +81,7 @@ pub tables-none : (letters : ℕ) (cells : Grid) (tables : List (List (List ℕ)
 tables-none letters cells tables h = record { upto = omega arith; places = h; made = λ a l. absurd (omega arith) }
 
 module _ (letters : ℕ) (cells : Grid) (letter : ℕ) (tables : List (List (List ℕ))) (v : TablesUpTo letters cells letter tables) where
-  -- one letter more, with its tables
+  -- one letter more, with its table
   pub tables-more : letter < maxLetters → (made : List (List ℕ)) → made ≡ letterTable (getD cells letter [])
       → TablesUpTo letters cells (letter + 1) (set tables letter made)
   tables-more h made is = record {
@@ -111,14 +111,14 @@ module _ (letters : ℕ) (cells : Grid) (letter : ℕ) (tables : List (List (Lis
 
 module _ (R : Rule) (cells : Grid) (is : cells ≡ held (R .grid)) (tables : List (List (List ℕ))) (u v : List ℕ)
     (of : TablesOf (occurring (occurring 0 u) v) cells tables) where
-  has-tables : (a : ℕ) → (a < R .letters) × (member (occurring (occurring 0 u) v) a ≡ true) → Tabled R tables a
+  has-table : (a : ℕ) → (a < R .letters) × (member (occurring (occurring 0 u) v) a ≡ true) → Tabled R tables a
   unfolding TablesOf
-  has-tables a (less, m) = record { below = less; entries = of a m ∙ ap (λ (g : Grid). letterTable (getD g a [])) is }
+  has-table a (less, m) = record { below = less; entries = of a m ∙ ap (λ (g : Grid). letterTable (getD g a [])) is }
 
-  -- those of u have their tables, and those of v
+  -- each of u has its table, and each of v
   pub lead-tabled : Every (λ a. a < R .letters) u → Every (Tabled R tables) u
-  lead-tabled below = every-weaker _ _ u has-tables (every-both _ _ u below
+  lead-tabled below = every-weaker _ _ u has-table (every-both _ _ u below
       (every-weaker _ _ u (λ a m. occurring-keeps (occurring 0 u) v a m) (occurring-all 0 u)))
 
   pub tail-tabled : Every (λ a. a < R .letters) v → Every (Tabled R tables) v
-  tail-tabled below = every-weaker _ _ v has-tables (every-both _ _ v below (occurring-all (occurring 0 u) v))
+  tail-tabled below = every-weaker _ _ v has-table (every-both _ _ v below (occurring-all (occurring 0 u) v))

@@ -18,6 +18,8 @@ pub data Example : Type 0 where
   steps : List ℕ → ℕ → List ℕ → Outcome Moved → Example
   -- table, u, v: entry, period and what the tree judge finds
   judges : List ℕ → List ℕ → List ℕ → ℕ → ℕ → Finding → Example
+  -- table, u, v: the number by which the tree judge refuses them
+  refuses : List ℕ → List ℕ → List ℕ → ℕ → Example
 
 -- what a row says, with a buffer of the length needed. A verdict: the call is accepted, and under the table's rule the walk has that
 -- first repeat and that finding.
@@ -27,6 +29,7 @@ Holds (steps table a bytes outcome) = stepOutcome table a bytes (replicate recor
 Holds (judges table u v entry period finding) =
     (R : Rule) × (treeOutcome table u v (replicate nameRoom 0) ≡ accepted R)
     × FirstRepeat (roundTree R u v) entry period × Found R u v entry period finding
+Holds (refuses table u v number) = treeOutcome table u v (replicate nameRoom 0) ≡ refused number
 
 -- Table A, Table B, Table C
 unfoldable pub tableA : List ℕ
@@ -57,4 +60,5 @@ examples =
     ∷ judges tableB [] (1 ∷ []) 0 1 no-node
     ∷ judges tableC [] (0 ∷ []) 1 1 no-node
     ∷ steps tableA 2 (0x01 ∷ 0x00 ∷ 0x01 ∷ []) (refused 8)
+    ∷ refuses tableA [] (2 ∷ []) 8
     ∷ []

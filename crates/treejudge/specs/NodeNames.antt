@@ -1,7 +1,7 @@
 -- The name of a tree's node: what the contracts of the tree judge's own functions say of it.
 use mathlib.Core.Path.{_≡_}
 use mathlib.Core.Bool.{true, false}
-use mathlib.Core.List.{List, []}
+use mathlib.Core.List.{[]}
 use Prim.Native.Nat.{ℕ, _≤_, _<_}
 use lib.ListN.{getD, take, length}
 use Rattle.table.specs.BitSet.{member}

@@ -27,7 +27,7 @@ occurring others (a ∷ w) = occurring (bitOr others (2 ^ a)) w
 unfoldable pub TablesOf : ℕ → Grid → List (List (List ℕ)) → Type 0
 TablesOf letters cells tables = (a : ℕ) → member letters a ≡ true → getD tables a [] ≡ letterTable (getD cells a [])
 
--- a letter of the rule has its tables
+-- a letter of the rule has its table
 pub record Tabled (R : Rule) (tables : List (List (List ℕ))) (a : ℕ) : Type 0 where
   pub below : a < R .letters
   pub entries : getD tables a [] ≡ letterTable (getD (held (R .grid)) a [])

@@ -1,28 +1,17 @@
 // Are two trees the same? Their rows tell, but for the old numbers.
 use crate::letters::CountedRows;
-use tree::packed::unpack;
-use tree::rows::Row;
 ghost use mathlib.Core.Path.{_≡_};
 ghost use Prim.Native.Nat.{_≤_};
 ghost use lib.ListN.{take};
 ghost use Rattle.table.specs.Limits.{maxStates};
-ghost use Rattle.tree.specs.PackedRows.{rowsIn};
+ghost use Rattle.tree.specs.PackedRows.{unpacked, rowsIn};
 ghost use Rattle.treejudge.specs.SameRows.{sameRow, sameRows};
 
-// One row and another.
-fn same_row(a: Row, b: Row) -> bool
-    ensures { λ r. ⌜ r ≡ sameRow a b ⌝ }
+// One row and another: the old number stands in a word's highest eight bits.
+fn same_row(a: u64, b: u64) -> bool
+    ensures { λ r. ⌜ r ≡ sameRow (unpacked a) (unpacked b) ⌝ }
 {
-    if a.label != b.label {
-        return false;
-    }
-    if a.kids != b.kids {
-        return false;
-    }
-    if a.depth != b.depth {
-        return false;
-    }
-    a.active == b.active
+    a % 72057594037927936 == b % 72057594037927936
 }
 
 // The rows that count, one by one.
@@ -38,7 +27,7 @@ pub fn same_tree(a: CountedRows, b: CountedRows) -> bool
     let count = a.count;
     let mut i = 0usize;
     while i < count {
-        if !same_row(unpack(rows[i]), unpack(others[i])) {
+        if !same_row(rows[i], others[i]) {
             return false;
         }
         i += 1;

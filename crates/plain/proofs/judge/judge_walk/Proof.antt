@@ -3,8 +3,6 @@ use borrow.Author.Needs.{needs}
 use Rattle.plain.proofs.Judging.{judgeable-walkable}
 use Rattle.plain.proofs.judge.judge_walk.Statement.{statement}
 use Rattle.plain.proofs.judge.judge_walk.Tie as tie
-use Rattle.plain.proofs.judge.walk_verdict.Reads as walk-verdict-reads
-use Rattle.plain.proofs.scratch.clear.Reads as clear-reads
 
 walk-verdict-requires : tie.Need-walk-verdict-requires
 walk-verdict-requires c κs = judgeable-walkable (c .before .before .before .pre)

@@ -3,10 +3,6 @@ use native.Mathlib.Omega.{arith}
 use Rattle.plain.proofs.Judging.{walkable-tail, no-loop, verdict-right}
 use Rattle.plain.proofs.judge.walk_verdict.Statement.{statement}
 use Rattle.plain.proofs.judge.walk_verdict.Tie as tie
-use Rattle.plain.proofs.lead.states_after.Reads as states-after-reads
-use Rattle.plain.proofs.rounds.widened_rows.Reads as widened-rows-reads
-use Rattle.plain.proofs.search.some_loop.Reads as some-loop-reads
-use Rattle.plain.proofs.tail.tail_rows.Reads as tail-rows-reads
 
 returns : tie.Need-returns
 returns c = λ R h. no-loop _ (c .before .before .before .args .v .now) h (c .if1 .taken)

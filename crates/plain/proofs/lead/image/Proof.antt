@@ -8,7 +8,6 @@ use Rattle.table.specs.Limits.{maxStates}
 use Rattle.plain.specs.Lead.{imageRow}
 use Rattle.plain.proofs.lead.image.Statement.{statement}
 use Rattle.plain.proofs.lead.image.Tie as tie
-use Rattle.plain.proofs.lead.with_next.Reads as with-next-reads
 
 abbrev Inv-loop : tie.InvT-loop
 Inv-loop square states image₀ state₀ image state = (state ≤ maxStates) × (image ≡ imageRow state square states)

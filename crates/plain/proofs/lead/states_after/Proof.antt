@@ -8,8 +8,6 @@ use Rattle.plain.specs.Lead.{after, startRow}
 use Rattle.plain.proofs.LeadRows.{after-done, after-more}
 use Rattle.plain.proofs.lead.states_after.Statement.{statement}
 use Rattle.plain.proofs.lead.states_after.Tie as tie
-use Rattle.plain.proofs.lead.image.Reads as image-reads
-use Rattle.plain.proofs.lead.start_row.Reads as start-row-reads
 
 abbrev Inv-loop : tie.InvT-loop
 Inv-loop cells start u states₀ at₀ states at = (at ≤ length u) × (after cells (drop at u) states ≡ after cells u (startRow start))

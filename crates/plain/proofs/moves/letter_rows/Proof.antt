@@ -12,7 +12,6 @@ use Rattle.plain.proofs.RowLaws.{rows-blank, rows-ext}
 use Rattle.plain.proofs.LetterSteps.{moved, moved-more, moved-all}
 use Rattle.plain.proofs.moves.letter_rows.Statement.{statement}
 use Rattle.plain.proofs.moves.letter_rows.Tie as tie
-use Rattle.plain.proofs.rows.join.Reads as join-reads
 
 abbrev Inv-loop : tie.InvT-loop
 Inv-loop rows square places count before₀ at₀ before at = (at ≤ count) × (before ≡ rowsOf (moved square rows places at))

@@ -3,7 +3,6 @@ use borrow.Author.Needs.{needs}
 use Rattle.plain.proofs.MoveLists.{lists-more, count-more}
 use Rattle.plain.proofs.moves.list_letter.Statement.{statement}
 use Rattle.plain.proofs.moves.list_letter.Tie as tie
-use Rattle.plain.proofs.moves.list_square.Reads as list-square-reads
 
 mul-if1 : tie.Need-mul-if1
 mul-if1 c = search needs

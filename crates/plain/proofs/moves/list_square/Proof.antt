@@ -8,7 +8,6 @@ use Rattle.plain.specs.Moves.{Listed}
 use Rattle.plain.proofs.MoveLists.{listed-none, rows-more}
 use Rattle.plain.proofs.moves.list_square.Statement.{statement}
 use Rattle.plain.proofs.moves.list_square.Tie as tie
-use Rattle.plain.proofs.moves.list_row.Reads as list-row-reads
 
 abbrev Inv-loop : tie.InvT-loop
 Inv-loop places₀ square count₀ state₀ places count state = (state ≤ maxStates) × Listed square (maxStates * state) count places

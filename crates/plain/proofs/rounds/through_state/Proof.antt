@@ -10,7 +10,6 @@ use Rattle.plain.specs.Rounds.{passing}
 use Rattle.plain.proofs.RoundRows.{passing-row}
 use Rattle.plain.proofs.rounds.through_state.Statement.{statement}
 use Rattle.plain.proofs.rounds.through_state.Tie as tie
-use Rattle.plain.proofs.rows.join.Reads as join-reads
 
 abbrev Inv-loop : tie.InvT-loop
 Inv-loop rows middle behind wide₀ state₀ wide state = Holds (λ s. tabulate maxStates (passing middle (entry rows) s)) maxStates state wide

@@ -8,7 +8,6 @@ use Rattle.plain.specs.Rounds.{widened}
 use Rattle.plain.proofs.RoundRows.{widened-more}
 use Rattle.plain.proofs.rounds.widened_rows.Statement.{statement}
 use Rattle.plain.proofs.rounds.widened_rows.Tie as tie
-use Rattle.plain.proofs.rounds.through_state.Reads as through-state-reads
 
 abbrev Inv-loop : tie.InvT-loop
 Inv-loop n rows₀ middle₀ rows middle = (middle ≤ n) × ((C : ℕ → ℕ → ℕ) → rows₀ ≡ rowsOf C → rows ≡ rowsOf (widened middle C))

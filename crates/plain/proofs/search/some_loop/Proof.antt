@@ -10,7 +10,6 @@ use Rattle.plain.specs.Search.{Reaches}
 use Rattle.plain.proofs.Searching.{decides-yes, decides-no, full-shift}
 use Rattle.plain.proofs.search.some_loop.Statement.{statement}
 use Rattle.plain.proofs.search.some_loop.Tie as tie
-use Rattle.plain.proofs.search.reaches.Reads as reaches-reads
 
 abbrev Inv-loop : tie.InvT-loop
 Inv-loop wide from n k full state₀ state =

@@ -7,7 +7,6 @@ use Rattle.plain.specs.Ways.{rowsOf}
 use Rattle.plain.specs.TailWays.{cellRow}
 use Rattle.plain.proofs.tail.cell_rows.Statement.{statement}
 use Rattle.plain.proofs.tail.cell_rows.Tie as tie
-use Rattle.plain.proofs.tail.cell_row.Reads as cell-row-reads
 
 abbrev Inv-loop : tie.InvT-loop
 Inv-loop square rows₀ state₀ rows state = Holds (cellRow square) maxStates state rows

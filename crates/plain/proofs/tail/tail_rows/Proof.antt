@@ -11,9 +11,6 @@ use Rattle.plain.proofs.MoveLists.{lists-none}
 use Rattle.plain.proofs.TailSteps.{tail-last, tail-more}
 use Rattle.plain.proofs.tail.tail_rows.Statement.{statement}
 use Rattle.plain.proofs.tail.tail_rows.Tie as tie
-use Rattle.plain.proofs.moves.letter_rows.Reads as letter-rows-reads
-use Rattle.plain.proofs.moves.list_letter.Reads as list-letter-reads
-use Rattle.plain.proofs.tail.cell_rows.Reads as cell-rows-reads
 
 abbrev Inv-loop : tie.InvT-loop
 Inv-loop cells v lists₀ counts₀ at₀ rows₀ lists counts at rows = (at < length v) × (rows ≡ rowsOf (tailWays cells (drop at v))) × ListsMade cells lists counts

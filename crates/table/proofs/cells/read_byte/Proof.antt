@@ -4,10 +4,6 @@ use mathlib.Core.Path.{sym, _∙_}
 use Rattle.table.proofs.CellByte.{byte-missing, byte-accepted, byte-refused}
 use Rattle.table.proofs.cells.read_byte.Statement.{statement}
 use Rattle.table.proofs.cells.read_byte.Tie as tie
-use Rattle.table.proofs.cells.read_byte.Reads as reads
-use Rattle.table.proofs.cells.read_byte.Lts as lts
-use Rattle.table.proofs.source.byte_at.Reads as byte-at-reads
-use Rattle.table.proofs.cells.widen.Reads as widen-reads
 
 byte-at-requires : tie.Need-byte-at-requires
 byte-at-requires c κs = search needs

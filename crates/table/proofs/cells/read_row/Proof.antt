@@ -1,5 +1,4 @@
 -- The set bytes of a cell, by the laws of RowReading.
-use Prim.Native.Nat.{_-_}
 use native.Mathlib.Omega.{arith}
 use borrow.Author.Needs.{needs}
 use lib.ListN.{drop}
@@ -8,9 +7,6 @@ use Rattle.table.specs.Table.{readRow}
 use Rattle.table.proofs.RowReading.{RowSoFar, row-start, row-some, row-inside, row-take, row-refused, row-done}
 use Rattle.table.proofs.cells.read_row.Statement.{statement}
 use Rattle.table.proofs.cells.read_row.Tie as tie
-use Rattle.table.proofs.cells.read_row.Reads as reads
-use Rattle.table.proofs.cells.read_row.Lts as lts
-use Rattle.table.proofs.cells.read_byte.Reads as read-byte-reads
 
 abbrev Inv-loop : tie.InvT-loop
 Inv-loop s standing k row₀ at₀ rest₀ left₀ row at rest left =

@@ -3,8 +3,6 @@ use borrow.Author.Needs.{needs}
 use Rattle.tree.proofs.PackedWords.{row-packed}
 use Rattle.tree.proofs.packed.pack.Statement.{statement}
 use Rattle.tree.proofs.packed.pack.Tie as tie
-use Rattle.tree.proofs.packed.pack.Reads as reads
-use Rattle.tree.proofs.packed.pack.Lts as lts
 
 -- src/packed.rt:14:18
 cast-lower : tie.Need-cast-lower

@@ -6,8 +6,6 @@ use borrow.Author.Needs.{needs}
 use Rattle.tree.specs.PackedRows.{unpacked}
 use Rattle.tree.proofs.packed.unpack.Statement.{statement}
 use Rattle.tree.proofs.packed.unpack.Tie as tie
-use Rattle.tree.proofs.packed.unpack.Reads as reads
-use Rattle.tree.proofs.packed.unpack.Lts as lts
 
 -- src/packed.rt:24:16
 cast-t3 : tie.Need-cast-t3

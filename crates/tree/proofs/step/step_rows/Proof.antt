@@ -1,5 +1,5 @@
 -- `step_rows` meets its contract, by the laws of PassLoop: one for each way through the loop's body.
-use mathlib.Core.Path.{_≡_, refl, _∙_}
+use mathlib.Core.Path.{_≡_, refl}
 use mathlib.Core.Logic.{inl, inr, ⊎-elim}
 use Prim.Native.Nat.{_+_, _*_, _-_, _<_}
 use native.Mathlib.Omega.{arith}
@@ -10,7 +10,7 @@ use lib.ListN.{getD}
 use Rattle.tree.specs.Pass.{blankRow, levelsOf}
 use Rattle.tree.specs.PackedRows.{rowsIn}
 use Rattle.tree.proofs.PassLoop.{row-left, set-fits, close-none, close-some, row-skipped, row-removed, row-kept}
-use Rattle.tree.proofs.PassLoop.{OnSides, sides-start, row-read, sides-kept, sides-written, sides-done}
+use Rattle.tree.proofs.PassLoop.{OnSides, sides-start, side-read, sides-kept, sides-written, sides-done}
 use Rattle.tree.proofs.step.step_rows.Statement.{statement}
 use Rattle.tree.proofs.step.step_rows.Tie as tie
 use Rattle.tree.proofs.step.step_rows.Reads as reads
@@ -26,11 +26,11 @@ use Rattle.tree.proofs.step.sprout_row.Reads as sprout-row-reads
 use Rattle.tree.proofs.step.stepped.Reads as stepped-reads
 
 abbrev Inv-loop : tie.InvT-loop
-Inv-loop tables k sides₀ from count to taken₀ sprout₀ named₀ accepting₀ stable₀ top₀ i₀ j₀ sides taken sprout named accepting stable top i j =
-    OnSides tables k count from sides₀ sides taken sprout named accepting stable top i j
+Inv-loop table k sides₀ from count to taken₀ sprout₀ named₀ accepting₀ stable₀ top₀ i₀ j₀ sides taken sprout named accepting stable top i j =
+    OnSides table k count from sides₀ sides taken sprout named accepting stable top i j
 
 abbrev μ-loop : tie.MeasureT-loop
-μ-loop tables k sides₀ from count to taken₀ sprout₀ named₀ accepting₀ stable₀ top₀ i₀ j₀ sides taken sprout named accepting stable top i j =
+μ-loop table k sides₀ from count to taken₀ sprout₀ named₀ accepting₀ stable₀ top₀ i₀ j₀ sides taken sprout named accepting stable top i j =
     2 * (count - i) + top
 
 -- the row that is read
@@ -56,7 +56,7 @@ row : (c : lts.After-unpack (
 ) reads.Pre reads.Post Inv-loop μ-loop)
     → let s = c .before .before .before .before in
     c .unpack .result ≡ getD (rowsIn (getD (s .args .sides .now) (s .args .from) [])) (c .before .before .before .loop .i) blankRow
-row c = row-read _ _ _ _ _ (c .before .before .before .loop .inv) _ (c .unpack .ensures)
+row c = side-read _ _ _ _ _ (c .before .before .before .loop .inv) _ (c .unpack .ensures)
 
 -- where no level is closed, a row is left
 less : (c : lts.Else3 (

@@ -8,8 +8,8 @@ use Prim.Native.Nat.{ℕ, _-_}
 use Rattle.table.specs.Rule.{Rule}
 use Rattle.treejudge.specs.Reading.{Readable}
 use Rattle.treejudge.specs.Cycles.{Bracket, Bracketed, EntryBetween}
-use Rattle.treejudge.proofs.RoundsRead.{round-reads}
-use Rattle.treejudge.proofs.EntrySearch.{trees-small, entry-here, entry-later, bracket-more}
+use Rattle.treejudge.proofs.RoundsRead.{round-reads, both-small}
+use Rattle.treejudge.proofs.EntrySearch.{entry-here, entry-later, bracket-more}
 use Rattle.treejudge.proofs.entry.entry_between.Statement.{statement}
 use Rattle.treejudge.proofs.entry.entry_between.Tie as tie
 
@@ -28,7 +28,8 @@ same-tree-requires : tie.Need-same-tree-requires Inv-loop μ-loop
 unfolding Bracketed
 same-tree-requires c κs =
     let (R, u, entry, period, B) = c .before .before .before .pre in
-    trees-small (c .before .loop .inv R u entry period B)
+    let N = c .before .loop .inv R u entry period B in
+    both-small (N .place) (N .ahead)
 
 returns : tie.Need-returns Inv-loop μ-loop
 unfolding EntryBetween

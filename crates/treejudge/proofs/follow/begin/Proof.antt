@@ -3,7 +3,7 @@ use borrow.Author.Needs.{needs}
 use native.Mathlib.Omega.{arith}
 use lib.Pow.{pow-pos}
 use Rattle.treejudge.specs.Names.{begunAt}
-use Rattle.treejudge.proofs.NamesFollowed.{one-shifted}
+use Rattle.table.proofs.BitSet.{one-shifted}
 use Rattle.treejudge.proofs.follow.begin.Statement.{statement}
 use Rattle.treejudge.proofs.follow.begin.Tie as tie
 

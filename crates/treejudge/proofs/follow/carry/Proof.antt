@@ -10,7 +10,8 @@ use Rattle.table.specs.BitSet.{member}
 use Rattle.tree.specs.PackedRows.{rowsIn}
 use Rattle.tree.specs.RecordRows.{places}
 use Rattle.tree.proofs.PackedWords.{row-read, rows-many}
-use Rattle.treejudge.proofs.NamesFollowed.{one-shifted, not-far, carriedTo, carried-none, carried-start}
+use Rattle.table.proofs.BitSet.{one-shifted}
+use Rattle.treejudge.proofs.NamesFollowed.{not-far, carriedTo, carried-none, carried-start}
 use Rattle.treejudge.proofs.NamesFollowed.{carried-in, carried-out, carried-all}
 use Rattle.treejudge.proofs.follow.carry.Statement.{statement}
 use Rattle.treejudge.proofs.follow.carry.Tie as tie

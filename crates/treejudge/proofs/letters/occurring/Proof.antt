@@ -5,7 +5,7 @@ use native.Mathlib.Omega.{arith}
 use lib.ListN.{length, getD}
 use Rattle.table.specs.Limits.{maxLetters}
 use Rattle.table.proofs.Every.{every-at}
-use Rattle.treejudge.proofs.NamesFollowed.{one-shifted}
+use Rattle.table.proofs.BitSet.{one-shifted}
 use Rattle.treejudge.proofs.WalkTables.{OccurringUpTo, occurring-none, occurring-more, occurring-end}
 use Rattle.treejudge.proofs.letters.occurring.Statement.{statement}
 use Rattle.treejudge.proofs.letters.occurring.Tie as tie

@@ -1,6 +1,6 @@
 -- Row by row, by the laws of SameTrees.
 use borrow.Author.Needs.{needs}
-use mathlib.Core.Path.{_≡_}
+use mathlib.Core.Path.{_≡_, refl}
 use Prim.Native.Nat.{_-_}
 use lib.ListN.{length, length-map}
 use Rattle.tree.specs.PackedRows.{rowsIn}
@@ -32,37 +32,30 @@ returns c =
 loop-holds : tie.Need-loop-holds Inv-loop μ-loop
 loop-holds c = same-start _ _ _
 
-mul-unpack : tie.Need-mul-unpack Inv-loop μ-loop
-mul-unpack c = search needs
+mul-same-row : tie.Need-mul-same-row Inv-loop μ-loop
+mul-same-row c = search needs
 
-array-read-unpack : tie.Need-array-read-unpack Inv-loop μ-loop
-array-read-unpack c = search needs
+array-read-same-row : tie.Need-array-read-same-row Inv-loop μ-loop
+array-read-same-row c = search needs
 
-unpack-requires : tie.Need-unpack-requires Inv-loop μ-loop
-unpack-requires c κs = search needs
+mul-same-row-2 : tie.Need-mul-same-row-2 Inv-loop μ-loop
+mul-same-row-2 c = search needs
 
-mul-unpack-2 : tie.Need-mul-unpack-2 Inv-loop μ-loop
-mul-unpack-2 c = search needs
-
-array-read-unpack-2 : tie.Need-array-read-unpack-2 Inv-loop μ-loop
-array-read-unpack-2 c = search needs
-
-unpack-requires-2 : tie.Need-unpack-requires-2 Inv-loop μ-loop
-unpack-requires-2 c κs = search needs
+array-read-same-row-2 : tie.Need-array-read-same-row-2 Inv-loop μ-loop
+array-read-same-row-2 c = search needs
 
 same-row-requires : tie.Need-same-row-requires Inv-loop μ-loop
 same-row-requires c κs = search needs
 
 returns-2 : tie.Need-returns-2 Inv-loop μ-loop
 returns-2 c =
-    let u = c .before .before .before in
-    let turn = u .before in
+    let turn = c .before .before in
     let counts = turn .before .before .before .before in
     let start = counts .before .before .before in
     let i = turn .before .loop .i in
     rw (← counts .if1 .left)
     (same-not (turn .before .loop .inv) (held start .0) (held start .1) (start .pre .0) (turn .loop-test .taken) _ _
-    (row-read (start .args .a .rows) i (u .unpack .ensures)) (row-read (start .args .b .rows) i (c .before .before .unpack2 .ensures))
+    (row-read (start .args .a .rows) i refl) (row-read (start .args .b .rows) i refl)
     (told-no (c .before .same-row .ensures) (c .if2 .taken)))
 
 add-i : tie.Need-add-i Inv-loop μ-loop
@@ -73,12 +66,11 @@ loop-less c = search needs
 
 loop-again : tie.Need-loop-again Inv-loop μ-loop
 loop-again c =
-    let u = c .before .before .before in
-    let turn = u .before in
+    let turn = c .before .before in
     let start = turn .before .before .before .before .before .before .before in
     let i = turn .before .loop .i in
     same-next (turn .before .loop .inv) (held start .0) (held start .1) (start .pre .0) (turn .loop-test .taken) _ _
-    (row-read (start .args .a .rows) i (u .unpack .ensures)) (row-read (start .args .b .rows) i (c .before .before .unpack2 .ensures))
+    (row-read (start .args .a .rows) i refl) (row-read (start .args .b .rows) i refl)
     (told-yes (c .before .same-row .ensures) (c .if2 .left))
 
 returns-3 : tie.Need-returns-3 Inv-loop μ-loop
@@ -96,12 +88,10 @@ same-tree-spec =
     μ-loop
     returns
     loop-holds
-    mul-unpack
-    array-read-unpack
-    unpack-requires
-    mul-unpack-2
-    array-read-unpack-2
-    unpack-requires-2
+    mul-same-row
+    array-read-same-row
+    mul-same-row-2
+    array-read-same-row-2
     same-row-requires
     returns-2
     add-i
