@@ -53,7 +53,8 @@ fn read(table: &[u8], grid: &mut [u8]) -> Result<ReadAnswer, u8> {
 }
 
 fn write(numbers: Numbers, grid: &[u8], table: &mut [u8]) -> Result<WriteAnswer, u8> {
-    let bytes = Rule::from_grid(numbers, grid)?.table();
+    let rule = Rule::from_grid(numbers, grid)?;
+    let bytes = rule.table();
     put(table, bytes.len(), &bytes)?;
     Ok(WriteAnswer { number: 0, written: bytes.len() })
 }

@@ -30,13 +30,8 @@ fn judged<T: History>(
     }
     successors.close(header.letters);
     let found = judge::search::<T>(&successors, header.sets, header.start, u, v);
-    let mut answer = TreeAnswer {
-        number: 0,
-        verdict: 0,
-        length: 255,
-        entry: found.entry,
-        period: found.period,
-    };
+    let mut answer =
+        TreeAnswer { number: 0, verdict: 0, length: 255, entry: found.entry, period: found.period };
     if let Some(name) = found.node {
         let name = name.get();
         names[..name.len()].copy_from_slice(name);

@@ -1,7 +1,7 @@
 //! The checked examples of document 01, put to the reference.
 
 use super::{job, Reference, NAME_LENGTH, RECORD_LENGTH};
-use crate::answers::{Calls, Judges};
+use crate::answers::{Calls, Judges, Numbers};
 
 const A: [u8; 12] = [2, 2, 1, 1, 1, 0, 0, 3, 0, 0, 2, 1];
 const B: [u8; 8] = [1, 2, 2, 1, 1, 1, 1, 2];
@@ -27,6 +27,20 @@ fn judge(table: &[u8], v: &[u8]) -> (u8, u64, u64, Option<Vec<u8>>) {
 
 fn refusal(table: &[u8], u: &[u8], v: &[u8]) -> u8 {
     Reference.tree_judge(table, u, v, &mut [0; NAME_LENGTH]).number
+}
+
+/// The writer's number and length, and the whole buffer after the call.
+fn write(numbers: [usize; 4], grid: &[u8], length: usize) -> (u8, usize, Vec<u8>) {
+    let [states, letters, sets, start] = numbers;
+    let mut buffer = vec![9; length];
+    let numbers = Numbers { states, letters, sets, start: start as u16 };
+    let answer = Reference.write(numbers, grid, &mut buffer);
+    (answer.number, answer.written, buffer)
+}
+
+/// A refusal of the writer: its number, length 0, the buffer as it was.
+fn unwritten(number: u8, length: usize) -> (u8, usize, Vec<u8>) {
+    (number, 0, vec![9; length])
 }
 
 #[test]
@@ -73,4 +87,61 @@ fn a_whole_job() {
     bytes.extend([0, 0, 1, 0, 1]);
     assert_eq!(job(&bytes), "verdict yes\nentry 2\nperiod 1\nnode 0\nplain yes\n");
     assert_eq!(job(&bytes[1..]), "refused 12\n");
+}
+
+#[test]
+fn tables_read_and_written_again() {
+    let most = [vec![8, 16, 4, 255], [vec![255], vec![15; 8]].concat().repeat(128)].concat();
+    assert_eq!(most.len(), 1_156);
+    for table in [&A[..], &B, &C, &most] {
+        let mut grid = [9; 1_024];
+        let read = Reference.read(table, &mut grid);
+        assert_eq!(read.number, 0);
+        let numbers = [read.states, read.letters, read.sets, read.start.into()];
+        let grid = &grid[..read.letters * read.states * read.states];
+        let exact = (0, table.len(), table.to_vec());
+        assert_eq!(write(numbers, grid, table.len()), exact);
+        let longer = (0, table.len(), [table, &[9, 9, 9]].concat());
+        assert_eq!(write(numbers, grid, table.len() + 3), longer);
+        assert_eq!(write(numbers, grid, table.len() - 1), unwritten(10, table.len() - 1));
+    }
+}
+
+#[test]
+fn grids_written() {
+    let a = [0, 255, 255, 255, 0, 0, 255, 1];
+    // A's cells: 01 00, 00, 03 00 00, 02 01; its map of starting states is 01.
+    assert_eq!(write([2, 2, 1, 1], &a, 13), (0, 12, [&A[..], &[9]].concat()));
+    assert_eq!(write([2, 2, 1, 1], &[255; 8], 8), (0, 8, vec![2, 2, 1, 1, 0, 0, 0, 0]));
+    // Cells of different length, set bytes lowest bit first.
+    let grid = [255, 3, 2, 1, 255, 0, 255, 255, 255];
+    let table = vec![3, 1, 2, 6, 6, 3, 2, 5, 1, 0, 0];
+    assert_eq!(write([3, 1, 2, 6], &grid, 11), (0, 11, table));
+}
+
+#[test]
+fn grids_refused() {
+    let a = [0, 255, 255, 255, 0, 0, 255, 1];
+    assert_eq!(write([2, 2, 1, 1], &a[1..], 12), unwritten(11, 12));
+    assert_eq!(write([2, 2, 1, 1], &[&a[..], &[255]].concat(), 12), unwritten(11, 12));
+    assert_eq!(write([2, 2, 1, 1], &[], 12), unwritten(11, 12));
+    for (sets, limit) in [(1, 2), (2, 4), (3, 8), (4, 16)] {
+        for byte in 0..=255 {
+            let fits = byte < limit || byte == 255;
+            let number = if fits { 0 } else { 11 };
+            assert_eq!(write([1, 1, sets, 1], &[byte], 6).0, number);
+        }
+    }
+    // The order: 2, 3, 11, 10, whatever else is wrong.
+    for numbers in [[0, 1, 1, 0], [9, 1, 1, 0], [1, 0, 1, 0], [1, 17, 1, 0], [1, 1, 0, 0]] {
+        assert_eq!(write(numbers, &[], 0), unwritten(2, 0));
+    }
+    assert_eq!(write([1, 1, 5, 1], &[0], 6), unwritten(2, 6));
+    assert_eq!(write([257, 1, 1, 1], &[0], 6), unwritten(2, 6));
+    assert_eq!(write([usize::MAX; 4], &[0], 6), unwritten(2, 6));
+    assert_eq!(write([1, 1, 1, 0], &[], 0), unwritten(3, 0));
+    assert_eq!(write([1, 1, 1, 2], &[0], 6), unwritten(3, 6));
+    assert_eq!(write([8, 1, 1, 0x101], &[0; 64], 99), unwritten(3, 99));
+    assert_eq!(write([1, 1, 1, 1], &[2], 0), unwritten(11, 0));
+    assert_eq!(write([1, 1, 1, 1], &[1], 5), unwritten(10, 5));
 }

@@ -77,7 +77,7 @@ impl Rule {
         Ok(Rule { states, letters, sets, start: table[3], moves })
     }
 
-    /// Takes a grid. Questions 2, 3 and 11.
+    /// The rule of some numbers and a grid's bytes. Questions 2, 3 and 11.
     pub fn from_grid(numbers: Numbers, grid: &[u8]) -> Result<Rule, u8> {
         check_numbers(numbers)?;
         let Numbers { states, letters, sets, start } = numbers;
@@ -85,10 +85,12 @@ impl Rule {
         if grid.len() != letters * states * states || !grid.iter().all(fits) {
             return Err(11);
         }
-        let place = |byte: &u8| (*byte != NO_TRANSITION).then_some(*byte);
-        let row = |row: &[u8]| row.iter().map(place).collect();
-        let square = |square: &[u8]| square.chunks(states).map(row).collect();
-        let moves = grid.chunks(states * states).map(square).collect();
+        let mut moves = vec![vec![vec![None; states]; states]; letters];
+        for (place, byte) in moves.iter_mut().flatten().flatten().zip(grid) {
+            if *byte != NO_TRANSITION {
+                *place = Some(*byte);
+            }
+        }
         Ok(Rule { states, letters, sets, start: start as u8, moves })
     }
 
@@ -98,12 +100,18 @@ impl Rule {
         places.map(|place| place.unwrap_or(NO_TRANSITION)).collect()
     }
 
-    /// The table's bytes.
+    /// The table's bytes: the four numbers, then for each letter and state
+    /// a cell, that is the map and a set byte for each standing bit.
     pub fn table(&self) -> Vec<u8> {
         let mut bytes = vec![self.states as u8, self.letters as u8, self.sets as u8, self.start];
         for row in self.moves.iter().flatten() {
-            let standing = (0..self.states).filter(|next| row[*next].is_some());
-            bytes.push(standing.map(|next| 1 << next).sum());
+            let mut map = 0;
+            for (next, place) in row.iter().enumerate() {
+                if place.is_some() {
+                    map |= 1 << next;
+                }
+            }
+            bytes.push(map);
             bytes.extend(row.iter().flatten());
         }
         bytes

@@ -73,7 +73,13 @@ pub struct Found {
 /// The whole search. The tree kept for comparing is that of round 2^i - 1,
 /// for 2^i rounds. Since the last of these is on the cycle and the count
 /// began there, the count is right when its tree comes again.
-pub fn search<T: History>(successors: &Successors, sets: usize, start: u8, u: &[u8], v: &[u8]) -> Found {
+pub fn search<T: History>(
+    successors: &Successors,
+    sets: usize,
+    start: u8,
+    u: &[u8],
+    v: &[u8],
+) -> Found {
     let by_letter = &successors.by_letter;
     let mut reader = Reader { by_letter, sets: sets as u64, v, letters: 0 };
     let first = Round { tree: reader.read::<T, false>(T::starting(start), u), number: 0 };

@@ -80,8 +80,7 @@ impl History for Rows {
         let same = |(one, two): (&Node, &Node)| {
             one.depth == two.depth && one.label == two.label && one.active == two.active
         };
-        self.count == other.count
-            && self.nodes[..self.count].iter().zip(&other.nodes).all(same)
+        self.count == other.count && self.nodes[..self.count].iter().zip(&other.nodes).all(same)
     }
 
     fn counting_anew(&self) -> Rows {
