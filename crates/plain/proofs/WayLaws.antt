@@ -9,10 +9,11 @@ use native.Mathlib.Omega.{arith}
 use borrow.Author.Tests.{eqb-true, eqb-false, eq-eqb, ne-eqb}
 use lib.Bits.{bitAnd, bitOr, or-lt, and-mask, and-zero-r}
 use Rattle.table.specs.Limits.{noTransition}
+use Rattle.table.specs.Lookup.{relationsOf}
 use Rattle.table.specs.BitSet.{member}
 use Rattle.table.proofs.Logic.{clash, and-in, or-l, or-r, or-in}
 use Rattle.table.proofs.BitSet.{member-zero, member-suc, member-none, member-union, member-inter}
-use Rattle.plain.specs.Ways.{joined, anyOf, wayOf}
+use Rattle.plain.specs.Ways.{joined, anyOf}
 
 -- JOINED
 
@@ -96,13 +97,13 @@ way-apart c d (suc i) h = ⊎-elim (λ k. inl (way-set c i ∙ k)) (λ k. inr (w
     (or-in (member c i) (member d i) (sym (member-union c d i) ∙ sym (way-set (bitOr c d) i) ∙ h))
 
 -- the way of a transition's byte
-pub way-of : (x : ℕ) → (x ≡ noTransition → ⊥) → wayOf x ≡ 1 + 2 * x
-unfolding wayOf
+pub way-of : (x : ℕ) → (x ≡ noTransition → ⊥) → relationsOf x ≡ 1 + 2 * x
+unfolding relationsOf
 way-of x there = rw (ne-eqb x noTransition there)
 
-pub no-way-of : (x : ℕ) → x ≡ noTransition → wayOf x ≡ 0
-unfolding wayOf
+no-way-of : (x : ℕ) → x ≡ noTransition → relationsOf x ≡ 0
+unfolding relationsOf
 no-way-of x none = rw (eq-eqb x noTransition none)
 
-pub way-there : (x i : ℕ) → member (wayOf x) i ≡ true → x ≡ noTransition → ⊥
+pub way-there : (x i : ℕ) → member (relationsOf x) i ≡ true → x ≡ noTransition → ⊥
 way-there x i h none = clash (member-none i) (rw (no-way-of x none) at h)

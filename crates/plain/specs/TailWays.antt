@@ -5,14 +5,14 @@ use Prim.Native.Nat.{ℕ, _≤_, _<_}
 use lib.Dec.{eqb}
 use lib.ListN.{length, getD}
 use Rattle.table.specs.Limits.{maxStates}
-use Rattle.table.specs.Lookup.{tabulate}
+use Rattle.table.specs.Lookup.{tabulate, relationsOf}
 use Rattle.table.specs.Rule.{Grid}
-use Rattle.plain.specs.Ways.{entry, joined, anyOf, wayOf}
+use Rattle.plain.specs.Ways.{entry, joined, anyOf}
 use Rattle.plain.specs.Lead.{LettersFit}
 
--- one letter, whose square this is: its transition from s to t
+-- one letter, whose square this is: its transition from s to t, as a way of one letter
 unfoldable pub cellWays : List (List ℕ) → ℕ → ℕ → ℕ
-cellWays square s t = wayOf (entry square s t)
+cellWays square s t = relationsOf (entry square s t)
 
 -- its transitions from s
 unfoldable pub cellRow : List (List ℕ) → ℕ → List ℕ

@@ -2,11 +2,10 @@
 -- just if one of the ways takes a transition of set i. A row has such a number for each state that the ways lead to.
 use mathlib.Core.Bool.{_&&_, cond}
 use mathlib.Core.List.{List, []}
-use Prim.Native.Nat.{ℕ, zero, suc, _+_, _*_}
+use Prim.Native.Nat.{ℕ, zero, suc}
 use lib.Bits.{bitOr}
-use lib.Dec.{eqb}
 use lib.ListN.{getD}
-use Rattle.table.specs.Limits.{maxStates, noTransition}
+use Rattle.table.specs.Limits.{maxStates}
 use Rattle.table.specs.BitSet.{member}
 use Rattle.table.specs.Lookup.{tabulate}
 
@@ -26,10 +25,6 @@ joined a b = cond (member a 0 && member b 0) (bitOr a b) 0
 unfoldable pub anyOf : ℕ → (ℕ → ℕ) → ℕ
 anyOf zero f = 0
 anyOf (suc n) f = bitOr (anyOf n f) (f n)
-
--- the way of a transition's byte
-unfoldable pub wayOf : ℕ → ℕ
-wayOf x = cond (eqb x noTransition) 0 (1 + 2 * x)
 
 -- a row with more ways: one of the ways `way`, and behind it one of the row `behind`
 unfoldable pub joinedRow : List ℕ → ℕ → List ℕ → List ℕ

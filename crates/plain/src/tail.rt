@@ -7,30 +7,24 @@ use crate::rows::Row;
 use crate::rows::Rows;
 use table::limits::Cells;
 use table::limits::LETTERS;
-use table::limits::NO_TRANSITION;
 use table::limits::STATES;
 use table::limits::Square;
+use table::lookup::relations_of;
 ghost use mathlib.Core.Path.{_≡_};
 ghost use Prim.Native.Nat.{_<_};
 ghost use Rattle.table.specs.Limits.{maxStates};
 ghost use Rattle.plain.specs.Ways.{rowsOf};
-ghost use Rattle.plain.specs.TailWays.{BytesFit, TailFits, cellRow, cellWays, tailWays};
+ghost use Rattle.plain.specs.TailWays.{TailFits, cellRow, cellWays, tailWays};
 
 // One letter, for one state: its transitions.
 fn cell_row(square: &Square, state: usize) -> Row
-    requires { ⌜ (state < maxStates) × BytesFit (now square) ⌝ }
+    requires { ⌜ state < maxStates ⌝ }
     ensures { λ r. ⌜ r ≡ cellRow (now (square .entry)) state ⌝ }
 {
     let mut row = [0u16; STATES];
     let mut next = 0usize;
     while next < STATES {
-        let sets = square[state][next];
-        let way = if sets == NO_TRANSITION {
-            0u16
-        } else {
-            1 + 2 * (sets as u16)
-        };
-        row[next] = way;
+        row[next] = relations_of(square[state][next]);
         next += 1;
     }
     row
@@ -38,7 +32,6 @@ fn cell_row(square: &Square, state: usize) -> Row
 
 // One letter, for all states.
 fn cell_rows(square: &Square) -> Rows
-    requires { ⌜ BytesFit (now square) ⌝ }
     ensures { λ r. ⌜ r ≡ rowsOf (cellWays (now (square .entry))) ⌝ }
 {
     let mut rows = [[0u16; STATES]; STATES];

@@ -17,8 +17,8 @@ use lib.Seq.{ext-getD, getD-append-add, getD-set-same, getD-set-other}
 use Rattle.table.specs.Limits.{maxStates, maxSets, noTransition}
 use Rattle.table.specs.BitSet.{member, collect, some}
 use Rattle.table.specs.Rule.{cellAt, edge, edgeIn, image}
-use Rattle.table.specs.Lookup.{tabulate, relation, images, letterTable}
-use Rattle.table.specs.LookupSteps.{relationsOf, nextStates, rowMaps, joined, Filled}
+use Rattle.table.specs.Lookup.{relationsOf, tabulate, relation, images, letterTable}
+use Rattle.table.specs.LookupSteps.{nextStates, rowMaps, joined, Filled}
 use Rattle.table.proofs.BitSet.{member-zero, member-suc, member-none, member-single, union-above, collect-ext, collect-more}
 use Rattle.table.proofs.BitSet.{some-in, some-out, image-none, image-union}
 use Rattle.table.proofs.Holding.{any-default}

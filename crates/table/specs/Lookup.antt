@@ -1,11 +1,12 @@
 -- The look-up of a set's successors inside the code: a letter has a table of the images of all sets of states within the
 -- lowest four bits, then of those within the next four. Two entries give the image of any set.
-use mathlib.Core.Bool.{Bool}
+use mathlib.Core.Bool.{Bool, cond}
 use mathlib.Core.List.{List, [], _∷_, _++_}
 use Prim.Native.Nat.{ℕ, zero, suc, _+_, _*_, _/_, _%_}
 use lib.Bits.{bitOr}
+use lib.Dec.{eqb}
 use lib.ListN.{getD}
-use Rattle.table.specs.Limits.{maxStates, maxSets}
+use Rattle.table.specs.Limits.{maxStates, maxSets, noTransition}
 use Rattle.table.specs.Rule.{edge, edgeIn, image}
 
 -- f 0, f 1, .., f (n−1)
@@ -17,6 +18,10 @@ tabulate (suc n) f = f 0 ∷ tabulate n (λ i. f (suc i))
 unfoldable pub relation : List (List ℕ) → ℕ → ℕ → ℕ → Bool
 relation square zero q r = edge (square ∷ []) 0 q r
 relation square (suc i) q r = edgeIn (square ∷ []) (suc i) 0 q r
+
+-- the relations that a grid's byte stands in, as a map: 0 for all transitions, i for those of set i
+unfoldable pub relationsOf : ℕ → ℕ
+relationsOf x = cond (eqb x noTransition) 0 (1 + 2 * x)
 
 -- the images of s: under all transitions, then by those of each set
 unfoldable pub images : List (List ℕ) → ℕ → List ℕ

@@ -1,18 +1,12 @@
 -- The steps by which the code makes a letter's look-up table. Only contracts of private functions cite these.
 use mathlib.Core.Path.{_≡_}
-use mathlib.Core.Bool.{cond}
 use mathlib.Core.List.{List, []}
 use Prim.Native.Nat.{ℕ, suc, _+_, _*_, _<_}
 use lib.Bits.{bitOr}
-use lib.Dec.{eqb}
 use lib.ListN.{length, getD}
 use Rattle.table.specs.Limits.{maxStates, maxSets, noTransition}
 use Rattle.table.specs.BitSet.{member, collect}
-use Rattle.table.specs.Lookup.{tabulate, images}
-
--- the relations that a grid's byte stands in, as a map: 0 for all transitions, i for those of set i
-unfoldable pub relationsOf : ℕ → ℕ
-relationsOf x = cond (eqb x noTransition) 0 (1 + 2 * x)
+use Rattle.table.specs.Lookup.{tabulate, relationsOf, images}
 
 -- the map of the next states below w of a row, by relation i
 unfoldable pub nextStates : ℕ → List ℕ → ℕ → ℕ

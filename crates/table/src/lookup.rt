@@ -8,14 +8,17 @@ use crate::limits::Square;
 ghost use mathlib.Core.Path.{_≡_};
 ghost use Prim.Native.Nat.{suc, _^_, _<_, _≤_};
 ghost use Rattle.table.specs.Limits.{maxStates, maxSets};
-ghost use Rattle.table.specs.Lookup.{letterTable, lookUp};
-ghost use Rattle.table.specs.LookupSteps.{relationsOf, nextStates, rowMaps, joined, Filled};
+ghost use Rattle.table.specs.Lookup.{relationsOf, letterTable, lookUp};
+ghost use Rattle.table.specs.LookupSteps.{nextStates, rowMaps, joined, Filled};
 
 // The images of one set of states: under all transitions of a letter, then by those of each set.
 pub type Images = [u16; SETS + 1];
 
 // The table of a letter: the images of the sets within the lowest four states, then of those within the next four.
-pub type LetterTable = [Images; 32];
+pub type LetterTable = [Images; ENTRIES];
+
+// Sixteen sets in each half.
+pub const ENTRIES: usize = 32;
 
 // The image of a set of states: under all transitions for relation 0, by those of set i for relation i.
 pub fn look_up(table: &LetterTable, relation: usize, set: u16) -> u16
@@ -27,7 +30,7 @@ pub fn look_up(table: &LetterTable, relation: usize, set: u16) -> u16
 }
 
 // The relations of a grid's byte: bit 0 for all transitions, bit i for set i.
-fn relations_of(sets: u8) -> u16
+pub fn relations_of(sets: u8) -> u16
     ensures { λ r. ⌜ r ≡ relationsOf sets ⌝ }
 {
     if sets == NO_TRANSITION {

@@ -13,7 +13,8 @@ use lib.Dec.{eqb, ltb}
 use lib.ListN.{length, getD, set, take, drop, length-set, length-take, drop-of-length-le}
 use lib.Seq.{drop-cons, getD-take, getD-set-same, getD-set-other, take-suc-set, drop-drop, drop-set-lt, length-take-le}
 use Rattle.table.specs.Limits.{maxStates, maxSets}
-use Rattle.tree.specs.Pass.{blankRow, SetsFit, tableImage, metBy, sproutRow, settledRow, written, joinedIf, Level, outermost, deepest}
+use Rattle.table.specs.Lookup.{lookUp}
+use Rattle.tree.specs.Pass.{blankRow, SetsFit, metBy, sproutRow, settledRow, written, joinedIf, Level, outermost, deepest}
 use Rattle.tree.specs.Pass.{Pass, metRow, passOver, atStart, steppedRows, levelsOf, ByDepth, Entered}
 use Rattle.tree.specs.PackedRows.{unpacked, rowsIn}
 use Rattle.tree.specs.RecordRows.{places}
@@ -72,7 +73,7 @@ passAt out taken sprout named accepting stable top j =
 module _ (table : List (List ℕ)) (k count : ℕ) (rows : List Row) where
   -- the pass over all rows
   abbrev whole : Pass
-  whole = passOver (tableImage table) k 0 atStart (take count rows)
+  whole = passOver (lookUp table) k 0 atStart (take count rows)
 
   -- the loop's variables: rows read, levels open and rows written keep within bounds; and the pass from here over the rows left
   -- is the pass over all rows
@@ -84,8 +85,8 @@ module _ (table : List (List ℕ)) (k count : ℕ) (rows : List Row) where
     pub fewer : j + top ≤ 2 * i
     pub by-depth : ByDepth taken sprout named
     pub size : length out ≡ places
-    pub rest : passOver (tableImage table) k i (passAt out taken sprout named accepting stable top j) (drop i (take count rows))
-        ≡ passOver (tableImage table) k 0 atStart (take count rows)
+    pub rest : passOver (lookUp table) k i (passAt out taken sprout named accepting stable top j) (drop i (take count rows))
+        ≡ passOver (lookUp table) k 0 atStart (take count rows)
 
   module _ {out : List Row} {taken sprout : List ℕ} {named : List Bool} {accepting stable top i j : ℕ}
       (v : Reading out taken sprout named accepting stable top i j)
@@ -100,7 +101,7 @@ module _ (table : List (List ℕ)) (k count : ℕ) (rows : List Row) where
 
     -- what is left of the pass then
     closed : depth < top
-        → passOver (tableImage table) k i (record {
+        → passOver (lookUp table) k i (record {
           levels = levelsOf top taken sprout named;
           rows = take j out ++ written (sproutRow top (getD sprout top 0) (getD taken top 0));
           accepting = accepting;
@@ -109,7 +110,7 @@ module _ (table : List (List ℕ)) (k count : ℕ) (rows : List Row) where
     unfolding levelsOf sproutOfLevel
     closed h =
         let n : length (levelsOf top taken sprout named) ≡ top = levels-length top taken sprout named in
-        rw n at (sym (pass-closes (tableImage table) k i _ (levelsOf top taken sprout named) (take j out) accepting stable
+        rw n at (sym (pass-closes (lookUp table) k i _ (levelsOf top taken sprout named) (take j out) accepting stable
         (drop i (take count rows)) (rw n (closes h))) ∙ v .rest)
 
     module _ (h : depth < top) (s : Row) (made : s ≡ sproutRow top (getD sprout top 0) (getD taken top 0)) where
@@ -158,7 +159,7 @@ module _ (table : List (List ℕ)) (k count : ℕ) (rows : List Row) where
       depth-is : depth ≡ x .depth
       depth-is = is ∙ rw (lt-ltb i count less)
 
-      opened : passOver (tableImage table) k i now (x ∷ behind) ≡ whole
+      opened : passOver (lookUp table) k i now (x ∷ behind) ≡ whole
       opened = rw (← left-some rows count i less (omega (arith, v .few, v .long))) (v .rest)
 
       -- a row below a node without descendants is passed over
@@ -171,18 +172,18 @@ module _ (table : List (List ℕ)) (k count : ℕ) (rows : List Row) where
         fewer = omega (arith, v .fewer);
         by-depth = v .by-depth;
         size = v .size;
-        rest = rw (add-one i) (sym (pass-skips (tableImage table) k i now x behind
+        rest = rw (add-one i) (sym (pass-skips (lookUp table) k i now x behind
             (rw (levels-length (suc top) taken sprout named) (omega arith))) ∙ opened);
       }
 
-      module _ (here : depth ≡ top) (m : Met) (met : m ≡ metBy (tableImage table) x (getD taken top 0))
+      module _ (here : depth ≡ top) (m : Met) (met : m ≡ metBy (lookUp table) x (getD taken top 0))
           {next : ℕ} {taken′ sprout′ : List ℕ} {named′ : List Bool}
           (in-arrays : Entered m top taken sprout named next taken′ sprout′ named′) where
         -- a row of the deepest level is met,
-        met-pass : passOver (tableImage table) k (suc i) (metRow k i x m now) behind ≡ whole
+        met-pass : passOver (lookUp table) k (suc i) (metRow k i x m now) behind ≡ whole
         met-pass = let d = depth-is in
             rw (met, ← ap (λ (l : Level). l .taken) (deepest-is top taken sprout named))
-            (sym (pass-meets (tableImage table) k i now x behind (levels-length (suc top) taken sprout named ∙ omega arith)) ∙ opened)
+            (sym (pass-meets (lookUp table) k i now x behind (levels-length (suc top) taken sprout named ∙ omega arith)) ∙ opened)
 
         -- and its node is removed,
         pub row-removed : m .label ≡ 0 → Reading out taken′ sprout′ named′ accepting stable next (i + 1) j
@@ -321,7 +322,7 @@ module _ (table : List (List ℕ)) (k count from : ℕ) (before : List (List ℕ
         let p = pass-over table k count (rowsIn (getD before from [])) (v .reading) end bottom in
         let out : List Row = rowsIn (getD sides (1 - from) []) in
         let r = v .reading in
-        let front : take j out ≡ passOver (tableImage table) k 0 atStart (rowsOn before from count) .rows = ap (λ (q : Pass). q .rows) p in
+        let front : take j out ≡ passOver (lookUp table) k 0 atStart (rowsOn before from count) .rows = ap (λ (q : Pass). q .rows) p in
         record {
           arrays = v .arrays;
           rows = front;

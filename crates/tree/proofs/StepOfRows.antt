@@ -14,7 +14,7 @@ use lib.Pow.{pow-pos}
 use Rattle.table.specs.Limits.{maxStates, maxSets}
 use Rattle.table.specs.Rule.{Rule}
 use Rattle.table.specs.Table.{WellFormed}
-use Rattle.table.specs.Lookup.{letterTable}
+use Rattle.table.specs.Lookup.{letterTable, lookUp}
 use Rattle.table.specs.Held.{held}
 use Rattle.table.proofs.LookupTable.{look-up-successors, look-up-successors-in}
 use Rattle.history.specs.Forest.{nil, node, size}
@@ -22,7 +22,7 @@ use Rattle.history.specs.Tree.{Tree, isTree}
 use Rattle.history.specs.Letter.{sprouted, survivors, nextTree}
 use Rattle.history.specs.OldNumbers.{noNode, oldNumber, oldNumbers}
 use Rattle.tree.specs.Rows.{rowsFrom, rowsOf, withoutOld, AreRows, StepsTo}
-use Rattle.tree.specs.Pass.{tableImage, metBy, joinedIf, settledRow, deepest, Pass, closedTo, metRow, readRow, passOver, atStart}
+use Rattle.tree.specs.Pass.{metBy, joinedIf, settledRow, deepest, Pass, closedTo, metRow, readRow, passOver, atStart}
 use Rattle.tree.specs.Pass.{blankRow, SetsFit, steppedRows}
 use Rattle.tree.specs.Sides.{rowsOn, Steppable, Stepping}
 use Rattle.tree.specs.declared.rows.Row.{Row}
@@ -122,7 +122,7 @@ sets-fit n k rows T h tree are i = go (decLt i (length rows))
 module _ (R : Rule) (well : WellFormed R) (few-states : R .states ≤ maxStates) (few-sets : R .sets ≤ maxSets)
     (a : ℕ) (T : Tree) (tree : isTree (R .states) (R .sets) T ≡ true) where
   abbrev E : ℕ → ℕ → ℕ
-  E = tableImage (letterTable (getD (held (R .grid)) a []))
+  E = lookUp (letterTable (getD (held (R .grid)) a []))
 
   abbrev whole : Pass
   whole = passOver E (R .sets) 0 atStart (rowsOf T)
@@ -137,7 +137,6 @@ module _ (R : Rule) (well : WellFormed R) (few-states : R .states ≤ maxStates)
 
   -- the pass gives the nodes after the letter
   gives : Gives (oldNumber T) whole (survivors R a T)
-  unfolding tableImage
   gives = let t = tree-out (R .states) (R .sets) T tree in go T none (t .one-root) (t .fits) few
     where
       go : (F : Tree) → oldNumber F sprouted ≡ noNode → OneRoot F → Fits (R .sets) F → size F < noNode
@@ -174,7 +173,7 @@ module _ (table : List (List ℕ)) (k from : ℕ) (rows : List Row) (before afte
     (sets : R .sets ≡ k) (tree : isTree (R .states) (R .sets) T ≡ true) (by : table ≡ letterTable (getD (held (R .grid)) a []))
     (are : AreRows rows T) where
   -- the pass over the rows of a tree
-  over-tree : steppedRows table k rows ≡ passOver (tableImage (letterTable (getD (held (R .grid)) a []))) (R .sets) 0 atStart (rowsOf T)
+  over-tree : steppedRows table k rows ≡ passOver (lookUp (letterTable (getD (held (R .grid)) a []))) (R .sets) 0 atStart (rowsOf T)
   unfolding steppedRows
   over-tree = rw (← sets, by, ← are) (sym (pass-without-old _ (R .sets) 0 atStart rows))
 

@@ -23,10 +23,6 @@ blankRow = record { depth = 0; label = 0; kids = 0; active = 0; old = 0 }
 abbrev pub SetsFit : List Row → Type 0
 SetsFit rows = (i : ℕ) → getD rows i blankRow .active ≤ maxSets
 
--- the image of a set of states under relation i of a letter: all transitions at 0, those of set i at i
-unfoldable pub tableImage : List (List ℕ) → ℕ → ℕ → ℕ
-tableImage table i s = lookUp table i s
-
 -- STEPS 1 TO 3 AT A ROW
 
 -- the states of a row's node that older nodes have not taken, those of its children, and those of its sprouted child
@@ -146,7 +142,7 @@ atStart = record { levels = outermost ∷ []; rows = []; accepting = 0; stable =
 
 -- one letter over rows, by the letter's table; there are k sets
 unfoldable pub steppedRows : List (List ℕ) → ℕ → List Row → Pass
-steppedRows table k rows = passOver (tableImage table) k 0 atStart rows
+steppedRows table k rows = passOver (lookUp table) k 0 atStart rows
 
 -- THE LEVELS IN ARRAYS
 

@@ -16,8 +16,9 @@ ghost use Prim.Native.Nat.{_≤_, _<_};
 ghost use lib.Dec.{ltb};
 ghost use Rattle.table.specs.BitSet.{minus};
 ghost use Rattle.table.specs.Limits.{maxStates, maxSets};
+ghost use Rattle.table.specs.Lookup.{lookUp};
 ghost use Rattle.history.specs.Letter.{nextSet};
-ghost use Rattle.tree.specs.Pass.{tableImage, metBy, sproutRow, settledRow, joinedIf};
+ghost use Rattle.tree.specs.Pass.{metBy, sproutRow, settledRow, joinedIf};
 ghost use Rattle.tree.specs.Pass.{ByDepth, Entered, steppedRows};
 ghost use Rattle.tree.specs.Sides.{rowsOn, Steppable, Stepping};
 
@@ -41,7 +42,7 @@ fn minus(a: u16, b: u16) -> u16
 // Steps 1 to 3 at a row, where older siblings of its node and of its ancestors have taken the states `taken`.
 fn meet(table: &LetterTable, x: Row, taken: u16) -> Met
     requires { ⌜ x .active ≤ maxSets ⌝ }
-    ensures { λ r. ⌜ r ≡ metBy (tableImage (now (table .entry))) x taken ⌝ }
+    ensures { λ r. ⌜ r ≡ metBy (lookUp (now (table .entry))) x taken ⌝ }
 {
     let active = x.active as usize;
     let label = look_up(table, 0, x.label);

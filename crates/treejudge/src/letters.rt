@@ -2,6 +2,7 @@
 use table::limits::Cells;
 use table::limits::LETTERS;
 use table::limits::SETS;
+use table::lookup::ENTRIES;
 use table::lookup::LetterTable;
 use table::lookup::fill_table;
 use tree::packed::Rows;
@@ -40,7 +41,7 @@ pub fn occurring(w: &[u8], others: u16) -> u16
 pub fn tables_of(cells: &Cells, letters: u16) -> AllTables
     ensures { λ r. ⌜ TablesOf letters (now (cells .entry)) r ⌝ }
 {
-    let mut tables = [[[0u16; SETS + 1]; 32]; LETTERS];
+    let mut tables = [[[0u16; SETS + 1]; ENTRIES]; LETTERS];
     let mut letter = 0usize;
     while letter < LETTERS {
         if (letters >> letter) % 2 == 1 {

@@ -40,8 +40,7 @@ index-1-cell-rows c =
     omega (arith, start .pre .letters (length (start .args .v .now) - 1) (omega (arith, start .pre .some)))
 
 cell-rows-requires : tie.Need-cell-rows-requires Inv-loop μ-loop
-cell-rows-requires c κs =
-    c .before .before .before .pre .bytes _
+cell-rows-requires c κs = search needs
 
 loop-holds : tie.Need-loop-holds Inv-loop μ-loop
 loop-holds c =

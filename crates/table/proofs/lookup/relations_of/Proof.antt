@@ -1,7 +1,7 @@
 -- `relations_of` meets its contract.
 use borrow.Author.Needs.{needs}
 use borrow.Author.Tests.{eq-eqb, ne-eqb}
-use Rattle.table.specs.LookupSteps.{relationsOf}
+use Rattle.table.specs.Lookup.{relationsOf}
 use Rattle.table.proofs.lookup.relations_of.Statement.{statement}
 use Rattle.table.proofs.lookup.relations_of.Tie as tie
 

@@ -1,6 +1,6 @@
 -- `meet` meets its contract: three look-ups and two differences.
 use borrow.Author.Needs.{needs}
-use Rattle.tree.specs.Pass.{metBy, tableImage}
+use Rattle.tree.specs.Pass.{metBy}
 use Rattle.tree.proofs.step.meet.Statement.{statement}
 use Rattle.tree.proofs.step.meet.Tie as tie
 
@@ -23,7 +23,7 @@ minus-requires-2 : tie.Need-minus-requires-2
 minus-requires-2 c κs = search needs
 
 returns : tie.Need-returns
-unfolding metBy tableImage
+unfolding metBy
 returns c =
     rw (
       c .minus2 .ensures,
