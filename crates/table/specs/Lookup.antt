@@ -27,10 +27,14 @@ relationsOf x = cond (eqb x noTransition) 0 (1 + 2 * x)
 unfoldable pub images : List (List ℕ) → ℕ → List ℕ
 images square s = tabulate (suc maxSets) (λ i. image maxStates (relation square i) s)
 
+-- a letter's table: the images of some sets, one entry each
+abbrev pub LetterTable : Type 0
+LetterTable = List (List ℕ)
+
 -- the table of a letter: the images of the sets 0 to 15, then of their multiples by 16
-unfoldable pub letterTable : List (List ℕ) → List (List ℕ)
+unfoldable pub letterTable : List (List ℕ) → LetterTable
 letterTable square = tabulate 16 (λ j. images square j) ++ tabulate 16 (λ j. images square (16 * j))
 
 -- the image of s by a table: under all transitions at i = 0, by those of set i at i
-unfoldable pub lookUp : List (List ℕ) → ℕ → ℕ → ℕ
+unfoldable pub lookUp : LetterTable → ℕ → ℕ → ℕ
 lookUp table i s = bitOr (getD (getD table (s % 16) []) i 0) (getD (getD table (16 + s / 16 % 16) []) i 0)

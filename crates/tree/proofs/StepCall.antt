@@ -9,7 +9,7 @@ use borrow.Author.Tests.{le-leb, lt-leb, le-ltb, lt-ltb}
 use lib.ListN.{length, getD, take}
 use Rattle.table.specs.Held.{held}
 use Rattle.table.specs.Limits.{maxStates, maxLetters, maxSets}
-use Rattle.table.specs.Lookup.{letterTable}
+use Rattle.table.specs.Lookup.{LetterTable, letterTable}
 use Rattle.table.specs.Outcome.{Outcome, refused, accepted, ask}
 use Rattle.table.specs.Rule.{Grid}
 use Rattle.table.specs.Storing.{stored}
@@ -126,7 +126,7 @@ module _ (table : List ℕ) (a : ℕ) (bytes before : List ℕ) (header : Header
       }
 
       -- and its table is the rule's: so the next tree is on the second
-      module _ (table′ : List (List ℕ)) (sides after : List (List ℕ)) (r : Stepped) (by : table′ ≡ letterTable (getD cells a []))
+      module _ (table′ : LetterTable) (sides after : List (List ℕ)) (r : Stepped) (by : table′ ≡ letterTable (getD cells a []))
           (step : Stepping (steppedRows table′ (header .sets) (take count (rowsIn words))) 0 sides r after) where
         sets : v .rule .sets ≡ header .sets
         sets = ap (λ (x : Header). x .sets) (sym (v .numbers))

@@ -14,7 +14,7 @@ use lib.Pow.{pow-pos}
 use Rattle.table.specs.Limits.{maxStates, maxSets}
 use Rattle.table.specs.Rule.{Rule}
 use Rattle.table.specs.Table.{WellFormed}
-use Rattle.table.specs.Lookup.{letterTable, lookUp}
+use Rattle.table.specs.Lookup.{LetterTable, letterTable, lookUp}
 use Rattle.table.specs.Held.{held}
 use Rattle.table.proofs.LookupTable.{look-up-successors, look-up-successors-in}
 use Rattle.history.specs.Forest.{nil, node, size}
@@ -167,7 +167,7 @@ module _ (R : Rule) (well : WellFormed R) (few-states : R .states ≤ maxStates)
     stable = keeps ∙ gives .stable ∙ stable-map R a T one few (rw (gives .stable) at (maps-below .1));
   }
 
-module _ (table : List (List ℕ)) (k from : ℕ) (rows : List Row) (before after : List (List ℕ)) (r : Stepped)
+module _ (table : LetterTable) (k from : ℕ) (rows : List Row) (before after : List (List ℕ)) (r : Stepped)
     (step : Stepping (steppedRows table k rows) from before r after)
     (R : Rule) (a : ℕ) (T : Tree) (well : WellFormed R) (few-states : R .states ≤ maxStates) (few-sets : R .sets ≤ maxSets)
     (sets : R .sets ≡ k) (tree : isTree (R .states) (R .sets) T ≡ true) (by : table ≡ letterTable (getD (held (R .grid)) a []))

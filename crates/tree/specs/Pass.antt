@@ -9,7 +9,7 @@ use lib.Dec.{eqb, ltb}
 use lib.ListN.{length, getD}
 use Rattle.table.specs.BitSet.{minus}
 use Rattle.table.specs.Limits.{maxStates, maxSets}
-use Rattle.table.specs.Lookup.{lookUp}
+use Rattle.table.specs.Lookup.{LetterTable, lookUp}
 use Rattle.history.specs.Letter.{nextSet}
 use Rattle.history.specs.OldNumbers.{noNode}
 use Rattle.tree.specs.declared.rows.Row.{Row}
@@ -141,7 +141,7 @@ abbrev pub atStart : Pass
 atStart = record { levels = outermost ∷ []; rows = []; accepting = 0; stable = 0 }
 
 -- one letter over rows, by the letter's table; there are k sets
-unfoldable pub steppedRows : List (List ℕ) → ℕ → List Row → Pass
+unfoldable pub steppedRows : LetterTable → ℕ → List Row → Pass
 steppedRows table k rows = passOver (lookUp table) k 0 atStart rows
 
 -- THE LEVELS IN ARRAYS

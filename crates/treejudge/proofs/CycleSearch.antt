@@ -16,6 +16,7 @@ use Rattle.history.proofs.CycleVerdict.{read-rounds}
 use Rattle.history.proofs.CycleFinding.{BrentSoFar, Skips, brent-start, none-skips, brent-more, brent-reset, reset-skips}
 use Rattle.history.proofs.CycleFinding.{brent-found, lam-steps, power-doubles, brent-measure}
 use Rattle.tree.specs.PackedRows.{rowsIn}
+use Rattle.treejudge.specs.Reading.{Tables}
 use Rattle.treejudge.specs.Names.{Follows, FollowsOn, FollowsTo, begunAt}
 use Rattle.treejudge.specs.SameRows.{sameRows}
 use Rattle.treejudge.specs.Cycles.{AtRound, CycleOf}
@@ -29,7 +30,7 @@ rounds-more : (r : ℕ) (v : List ℕ) → rounds (r + 1) v ≡ rounds r v ++ v
 rounds-more r v = rounds-add r 1 v ∙ ap (rounds r v ++_) (rounds-one v)
 
 -- at the head of the loop: x is t(power − 1), y is t(half − 1), and lam rounds were followed from x on
-pub record Searching (R : Rule) (u v : List ℕ) (tables : List (List (List ℕ))) (k : ℕ) (x y : CountedRows) (half power lam : ℕ)
+pub record Searching (R : Rule) (u v : List ℕ) (tables : Tables) (k : ℕ) (x y : CountedRows) (half power lam : ℕ)
     (now : Followed) : Type 0 where
   pub held : AtRound R u v tables k (power - 1) x
   pub before : AtRound R u v tables k (half - 1) y
@@ -39,7 +40,7 @@ pub record Searching (R : Rule) (u v : List ℕ) (tables : List (List (List ℕ)
   pub follows : Follows R (roundTree R u v (power - 1)) (rounds lam v) now
 
 -- t(0) is held first
-pub search-start : {R : Rule} {u v : List ℕ} {tables : List (List (List ℕ))} {k : ℕ} {first : CountedRows}
+pub search-start : {R : Rule} {u v : List ℕ} {tables : Tables} {k : ℕ} {first : CountedRows}
     → AtRound R u v tables k 0 first → Searching R u v tables k first first 0 1 0 (begunAt first)
 unfolding rounds
 search-start {R} {u} {v} A = record {
@@ -51,7 +52,7 @@ search-start {R} {u} {v} A = record {
   follows = begun-follows R _ _ (A .tree);
 }
 
-module _ {R : Rule} {u v : List ℕ} {tables : List (List (List ℕ))} {k : ℕ} {x y : CountedRows} {half power lam : ℕ} {now : Followed}
+module _ {R : Rule} {u v : List ℕ} {tables : Tables} {k : ℕ} {x y : CountedRows} {half power lam : ℕ} {now : Followed}
     (S : Searching R u v tables k x y half power lam now) where
   -- a round is followed from there
   pub search-follows : FollowsOn R (roundTree R u v (power - 1)) (rounds lam v) tables k v now

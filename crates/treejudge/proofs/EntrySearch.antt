@@ -11,14 +11,14 @@ use Rattle.history.specs.Rounds.{readLetters, roundTree}
 use Rattle.history.proofs.TreesOfWalk.{round-next}
 use Rattle.history.proofs.FirstRepeats.{repeat-only}
 use Rattle.tree.specs.PackedRows.{rowsIn}
-use Rattle.treejudge.specs.Reading.{ReadsTo}
+use Rattle.treejudge.specs.Reading.{Tables, ReadsTo}
 use Rattle.treejudge.specs.SameRows.{sameRows}
 use Rattle.treejudge.specs.Cycles.{AtRound, Ahead, Bracket, Searched}
 use Rattle.treejudge.specs.declared.letters.CountedRows.{CountedRows}
 use Rattle.treejudge.specs.declared.cycle.Cycle.{Cycle}
 use Rattle.treejudge.proofs.RoundsRead.{round-read, rounds-read, rows-same, rows-differ}
 
-module _ {R : Rule} {u v : List ℕ} {tables : List (List (List ℕ))} {k entry period place high : ℕ} {x y : CountedRows}
+module _ {R : Rule} {u v : List ℕ} {tables : Tables} {k entry period place high : ℕ} {x y : CountedRows}
     (N : Bracket R u v tables k entry period place high x y) where
   -- where the two trees are the same, the place is the entry
   pub entry-here : sameRows (take (x .count) (rowsIn (x .rows))) (take (y .count) (rowsIn (y .rows))) ≡ true → place ≡ entry
@@ -52,7 +52,7 @@ module _ {R : Rule} {u v : List ℕ} {tables : List (List (List ℕ))} {k entry 
 
 -- WHERE THE SEARCH BEGINS
 
-module _ {R : Rule} {u v : List ℕ} {tables : List (List (List ℕ))} {k entry period : ℕ} {first : CountedRows} {c : Cycle}
+module _ {R : Rule} {u v : List ℕ} {tables : Tables} {k entry period : ℕ} {first : CountedRows} {c : Cycle}
     (S : Searched R u v tables k entry period first c) where
   -- the tree that was held before
   pub before-place : AtRound R u v tables k (c .half - 1) (c .before)

@@ -29,7 +29,7 @@ use Rattle.tree.specs.RecordRows.{startRows}
 use Rattle.tree.specs.PackedRows.{rowsIn}
 use Rattle.tree.proofs.StartCall.{start-rows-are}
 use Rattle.treejudge.specs.JudgeCall.{noName, treeAnswer, namesAfter, Judged}
-use Rattle.treejudge.specs.Reading.{occurring, TablesOf, WithinLimits, Reads, ReadsTo}
+use Rattle.treejudge.specs.Reading.{Tables, occurring, TablesOf, WithinLimits, Reads, ReadsTo}
 use Rattle.treejudge.specs.Cycles.{AtRound, CycleFound, Searched, EntryFound}
 use Rattle.treejudge.specs.NodeNames.{Lowest, SomeNode, IsName}
 use Rattle.treejudge.specs.declared.letters.CountedRows.{CountedRows}
@@ -74,7 +74,7 @@ module _ (R : Rule) (header : Header) (cells : Grid) (h : HoldsRule R header cel
 
   module _ (rows : List ℕ) (made : rowsIn rows ≡ startRows (header .start)) (u v w : List ℕ) (left : w ≡ lettersLeft false u v 0)
       (lead : Every (λ a. a < header .letters) u) (lead-letters letters : ℕ) (lead-is : lead-letters ≡ occurring 0 u)
-      (letters-are : letters ≡ occurring lead-letters v) (tables : List (List (List ℕ))) (of : TablesOf letters cells tables) where
+      (letters-are : letters ≡ occurring lead-letters v) (tables : Tables) (of : TablesOf letters cells tables) where
     -- the tables are those of the walk's letters
     walk-tables : TablesOf (occurring (occurring 0 u) v) cells tables
     walk-tables = rw (letters-are, lead-is) at of
@@ -103,7 +103,7 @@ module _ (R : Rule) (header : Header) (cells : Grid) (h : HoldsRule R header cel
     }
 
 -- the search is done for the first repeat
-pub searched : (R : Rule) (u v : List ℕ) (tables : List (List (List ℕ))) (k : ℕ) (first : CountedRows) → AtRound R u v tables k 0 first
+pub searched : (R : Rule) (u v : List ℕ) (tables : Tables) (k : ℕ) (first : CountedRows) → AtRound R u v tables k 0 first
     → (cycle : Cycle) → CycleFound tables k v first cycle
     → (entry : ℕ) × (period : ℕ) × Searched R u v tables k entry period first cycle
 unfolding CycleFound
@@ -112,7 +112,7 @@ searched R u v tables k first at cycle found =
     let (e, p, F, _) = repeat-exists R (t .well) (t .some-set) (t .states) (t .sets) u v in
     (e, p, record { place = at; repeat = F; cycle = found R u e p at F })
 
-module _ (R : Rule) (u v : List ℕ) (tables : List (List (List ℕ))) (k : ℕ) (first : CountedRows) (cycle : Cycle) (e p : ℕ)
+module _ (R : Rule) (u v : List ℕ) (tables : Tables) (k : ℕ) (first : CountedRows) (cycle : Cycle) (e p : ℕ)
     (S : Searched R u v tables k e p first cycle) (entry : ℕ) (entered : EntryFound tables k v first cycle entry) (before : List ℕ) where
   entry-is : entry ≡ e
   unfolding EntryFound

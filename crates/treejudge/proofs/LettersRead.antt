@@ -21,7 +21,7 @@ use Rattle.tree.specs.Sides.{rowsOn, TwoSides, Steppable, Stepping}
 use Rattle.tree.specs.declared.rows.Stepped.{Stepped}
 use Rattle.tree.proofs.PassLoop.{two-sides}
 use Rattle.tree.proofs.StepOfRows.{rows-are-nodes, sets-fit, steps-to}
-use Rattle.treejudge.specs.Reading.{Tabled, WithinLimits, HoldsTree, Reads, Readable, ReadsTo}
+use Rattle.treejudge.specs.Reading.{Tables, Tabled, WithinLimits, HoldsTree, Reads, Readable, ReadsTo}
 use Rattle.treejudge.specs.declared.letters.CountedRows.{CountedRows}
 
 -- A TREE'S ROWS
@@ -30,7 +30,7 @@ use Rattle.treejudge.specs.declared.letters.CountedRows.{CountedRows}
 pub tree-small : (R : Rule) (T : Tree) (x : CountedRows) → R .states ≤ maxStates → HoldsTree R T x → x .count ≤ maxStates
 tree-small R T x h tree = omega (arith, tree .nodes, few-nodes (R .states) (R .sets) T (tree .fits))
 
-module _ (R : Rule) (T : Tree) (tables : List (List (List ℕ))) (k : ℕ) (holds : WithinLimits R k)
+module _ (R : Rule) (T : Tree) (tables : Tables) (k : ℕ) (holds : WithinLimits R k)
     (sides : List (List ℕ)) (from count : ℕ) (tree : HoldsTree R T (record { rows = getD sides from []; count = count })) where
   -- a letter can be read from them
   pub letter-ready : TwoSides sides → from < 2 → Steppable sides from count
@@ -59,7 +59,7 @@ module _ (R : Rule) (T : Tree) (tables : List (List (List ℕ))) (k : ℕ) (hold
 -- LETTER BY LETTER
 
 -- the rows on a side after the first `at` letters of w, read from the rows x
-pub record ReadUpTo (tables : List (List (List ℕ))) (k : ℕ) (w : List ℕ) (x : CountedRows) (at : ℕ)
+pub record ReadUpTo (tables : Tables) (k : ℕ) (w : List ℕ) (x : CountedRows) (at : ℕ)
     (sides : List (List ℕ)) (side count : ℕ) : Type 0 where
   pub upto : at ≤ length w
   pub arrays : TwoSides sides
@@ -73,7 +73,7 @@ read-more : (R : Rule) (w : List ℕ) (at : ℕ) (T : Tree) → at < length w
 unfolding readLetters
 read-more R w at T h = rw (take-suc w at 0 h, read-append)
 
-module _ (tables : List (List (List ℕ))) (k : ℕ) (w : List ℕ) (x : CountedRows) where
+module _ (tables : Tables) (k : ℕ) (w : List ℕ) (x : CountedRows) where
   -- each letter has its place in the tables
   pub letter-small : Readable tables k w x → (at : ℕ) → at < length w → getD w at 0 < maxLetters
   unfolding Readable

@@ -27,7 +27,7 @@ use Rattle.tree.specs.Sides.{rowsOn, TwoSides, Steppable, Stepping}
 use Rattle.tree.proofs.PassLoop.{two-sides}
 use Rattle.tree.specs.declared.rows.Row.{Row}
 use Rattle.tree.specs.declared.rows.Stepped.{Stepped}
-use Rattle.treejudge.specs.Reading.{Tabled, WithinLimits, HoldsTree, Readable}
+use Rattle.treejudge.specs.Reading.{Tables, Tabled, WithinLimits, HoldsTree, Readable}
 use Rattle.treejudge.specs.Names.{followedBy, begunAt, Follows, FollowsOn, Followable, FollowsTo}
 use Rattle.treejudge.specs.declared.letters.CountedRows.{CountedRows}
 use Rattle.treejudge.specs.declared.follow.Followed.{Followed}
@@ -89,7 +89,7 @@ begun-follows R T x tree = let (kept, accepted) = follow-none R T in record {
 
 -- ONE LETTER
 
-module _ (R : Rule) (T : Tree) (before : List ℕ) (tables : List (List (List ℕ))) (k : ℕ) (holds : WithinLimits R k)
+module _ (R : Rule) (T : Tree) (before : List ℕ) (tables : Tables) (k : ℕ) (holds : WithinLimits R k)
     (sides : List (List ℕ)) (side count kept accepted : ℕ)
     (v : Follows R T before (record { rows = getD sides side []; count = count; kept = kept; accepted = accepted }))
     (a : ℕ) (has : Tabled R tables a) (next : Stepped) (after : List (List ℕ))
@@ -116,7 +116,7 @@ module _ (R : Rule) (T : Tree) (before : List ℕ) (tables : List (List (List �
 -- LETTER BY LETTER
 
 -- the followed nodes on a side after the first `at` letters of w, read from x on
-pub record FollowedUpTo (tables : List (List (List ℕ))) (k : ℕ) (w : List ℕ) (x : Followed) (at : ℕ)
+pub record FollowedUpTo (tables : Tables) (k : ℕ) (w : List ℕ) (x : Followed) (at : ℕ)
     (sides : List (List ℕ)) (side count kept accepted : ℕ) : Type 0 where
   pub upto : at ≤ length w
   pub arrays : TwoSides sides
@@ -124,7 +124,7 @@ pub record FollowedUpTo (tables : List (List (List ℕ))) (k : ℕ) (w : List �
   pub names : (R : Rule) (T : Tree) (before : List ℕ) → FollowsOn R T before tables k w x → Follows R T (before ++ take at w)
       (record { rows = getD sides side []; count = count; kept = kept; accepted = accepted })
 
-module _ (tables : List (List (List ℕ))) (k : ℕ) (w : List ℕ) (x : Followed) where
+module _ (tables : Tables) (k : ℕ) (w : List ℕ) (x : Followed) where
   -- the letters can be read
   pub followed-reads : Followable tables k w x → Readable tables k w (record { rows = x .rows; count = x .count })
   unfolding Followable Readable

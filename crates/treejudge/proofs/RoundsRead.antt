@@ -11,14 +11,14 @@ use Rattle.table.proofs.Logic.{clash}
 use Rattle.history.specs.Rounds.{roundTree}
 use Rattle.history.proofs.TreesOfWalk.{round-next}
 use Rattle.tree.specs.PackedRows.{rowsIn}
-use Rattle.treejudge.specs.Reading.{Reads, ReadsTo}
+use Rattle.treejudge.specs.Reading.{Tables, Reads, ReadsTo}
 use Rattle.treejudge.specs.SameRows.{sameRows}
 use Rattle.treejudge.specs.Cycles.{AtRound, Ahead}
 use Rattle.treejudge.specs.declared.letters.CountedRows.{CountedRows}
 use Rattle.treejudge.proofs.LettersRead.{tree-small}
 use Rattle.treejudge.proofs.SameTrees.{same-rows-same, same-trees-same}
 
-module _ {R : Rule} {u v : List ℕ} {tables : List (List (List ℕ))} {k i : ℕ} {x : CountedRows} (X : AtRound R u v tables k i x) where
+module _ {R : Rule} {u v : List ℕ} {tables : Tables} {k i : ℕ} {x : CountedRows} (X : AtRound R u v tables k i x) where
   -- the tail is read from a round's tree
   pub round-reads : Reads R (roundTree R u v i) tables k v x
   round-reads = record { holds = X .holds; tabled = X .tabled; tree = X .tree }

@@ -15,11 +15,11 @@ use Rattle.table.specs.BitSet.{member}
 use Rattle.table.specs.Rule.{Grid, Rule}
 use Rattle.table.specs.Table.{Every}
 use Rattle.table.specs.Held.{held}
-use Rattle.table.specs.Lookup.{letterTable}
+use Rattle.table.specs.Lookup.{LetterTable, letterTable}
 use Rattle.table.proofs.BitSet.{member-union, member-single, member-lt}
 use Rattle.table.proofs.Every.{every-weaker, every-both}
 use Rattle.table.proofs.Logic.{clash, or-l, or-r}
-use Rattle.treejudge.specs.Reading.{occurring, TablesOf, Tabled}
+use Rattle.treejudge.specs.Reading.{Tables, occurring, TablesOf, Tabled}
 
 -- THE LETTERS THAT OCCUR
 
@@ -70,19 +70,19 @@ module _ (others : ℕ) (w : List ℕ) (at letters : ℕ) (v : OccurringUpTo oth
 -- THEIR TABLES
 
 -- an array with the table of each member of a map that is below `letter`
-pub record TablesUpTo (letters : ℕ) (cells : Grid) (letter : ℕ) (tables : List (List (List ℕ))) : Type 0 where
+pub record TablesUpTo (letters : ℕ) (cells : Grid) (letter : ℕ) (tables : Tables) : Type 0 where
   pub upto : letter ≤ maxLetters
   pub places : length tables ≡ maxLetters
   pub made : (a : ℕ) → a < letter → member letters a ≡ true → getD tables a [] ≡ letterTable (getD cells a [])
 
 -- at the start
-pub tables-none : (letters : ℕ) (cells : Grid) (tables : List (List (List ℕ))) → length tables ≡ maxLetters
+pub tables-none : (letters : ℕ) (cells : Grid) (tables : Tables) → length tables ≡ maxLetters
     → TablesUpTo letters cells 0 tables
 tables-none letters cells tables h = record { upto = omega arith; places = h; made = λ a l. absurd (omega arith) }
 
-module _ (letters : ℕ) (cells : Grid) (letter : ℕ) (tables : List (List (List ℕ))) (v : TablesUpTo letters cells letter tables) where
+module _ (letters : ℕ) (cells : Grid) (letter : ℕ) (tables : Tables) (v : TablesUpTo letters cells letter tables) where
   -- one letter more, with its table
-  pub tables-more : letter < maxLetters → (made : List (List ℕ)) → made ≡ letterTable (getD cells letter [])
+  pub tables-more : letter < maxLetters → (made : LetterTable) → made ≡ letterTable (getD cells letter [])
       → TablesUpTo letters cells (letter + 1) (set tables letter made)
   tables-more h made is = record {
     upto = omega arith;
@@ -109,7 +109,7 @@ module _ (letters : ℕ) (cells : Grid) (letter : ℕ) (tables : List (List (Lis
 
 -- THE LETTERS OF A WALK
 
-module _ (R : Rule) (cells : Grid) (is : cells ≡ held (R .grid)) (tables : List (List (List ℕ))) (u v : List ℕ)
+module _ (R : Rule) (cells : Grid) (is : cells ≡ held (R .grid)) (tables : Tables) (u v : List ℕ)
     (of : TablesOf (occurring (occurring 0 u) v) cells tables) where
   has-table : (a : ℕ) → (a < R .letters) × (member (occurring (occurring 0 u) v) a ≡ true) → Tabled R tables a
   unfolding TablesOf

@@ -12,7 +12,7 @@ use Rattle.history.specs.Rounds.{readLetters}
 use Rattle.history.specs.Following.{carried, keptMap, acceptedMap}
 use Rattle.tree.specs.PackedRows.{rowsIn}
 use Rattle.tree.specs.declared.rows.Stepped.{Stepped}
-use Rattle.treejudge.specs.Reading.{Tabled, WithinLimits, HoldsTree}
+use Rattle.treejudge.specs.Reading.{Tables, Tabled, WithinLimits, HoldsTree}
 use Rattle.treejudge.specs.declared.letters.CountedRows.{CountedRows}
 use Rattle.treejudge.specs.declared.follow.Followed.{Followed}
 
@@ -39,14 +39,14 @@ pub record Follows (R : Rule) (T : Tree) (w : List ℕ) (x : Followed) : Type 0 
   pub accepted : x .accepted ≡ acceptedMap R T w
 
 -- the letters w are read on, behind others
-pub record FollowsOn (R : Rule) (T : Tree) (before : List ℕ) (tables : List (List (List ℕ))) (k : ℕ) (w : List ℕ) (x : Followed) : Type 0 where
+pub record FollowsOn (R : Rule) (T : Tree) (before : List ℕ) (tables : Tables) (k : ℕ) (w : List ℕ) (x : Followed) : Type 0 where
   pub holds : WithinLimits R k
   pub tabled : Every (Tabled R tables) w
   pub follows : Follows R T before x
 
-unfoldable pub Followable : List (List (List ℕ)) → ℕ → List ℕ → Followed → Type 0
+unfoldable pub Followable : Tables → ℕ → List ℕ → Followed → Type 0
 Followable tables k w x = (R : Rule) × (T : Tree) × (before : List ℕ) × FollowsOn R T before tables k w x
 
-unfoldable pub FollowsTo : List (List (List ℕ)) → ℕ → List ℕ → Followed → Followed → Type 0
+unfoldable pub FollowsTo : Tables → ℕ → List ℕ → Followed → Followed → Type 0
 FollowsTo tables k w x r =
     (R : Rule) (T : Tree) (before : List ℕ) → FollowsOn R T before tables k w x → Follows R T (before ++ w) r

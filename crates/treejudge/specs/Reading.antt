@@ -10,7 +10,7 @@ use Rattle.table.specs.Limits.{maxStates, maxLetters, maxSets}
 use Rattle.table.specs.Rule.{Grid, Rule}
 use Rattle.table.specs.Table.{Every, WellFormed}
 use Rattle.table.specs.Held.{held}
-use Rattle.table.specs.Lookup.{letterTable}
+use Rattle.table.specs.Lookup.{LetterTable, letterTable}
 use Rattle.history.specs.Forest.{size}
 use Rattle.history.specs.Tree.{Tree, isTree}
 use Rattle.history.specs.Rounds.{readLetters}
@@ -18,17 +18,21 @@ use Rattle.tree.specs.PackedRows.{rowsIn}
 use Rattle.tree.specs.Rows.{AreRows}
 use Rattle.treejudge.specs.declared.letters.CountedRows.{CountedRows}
 
+-- the tables of the letters
+abbrev pub Tables : Type 0
+Tables = List LetterTable
+
 -- the map of the letters of a word, joined to a map of letters
 unfoldable pub occurring : ℕ → List ℕ → ℕ
 occurring others [] = others
 occurring others (a ∷ w) = occurring (bitOr others (2 ^ a)) w
 
 -- the tables of a map of letters
-unfoldable pub TablesOf : ℕ → Grid → List (List (List ℕ)) → Type 0
+unfoldable pub TablesOf : ℕ → Grid → Tables → Type 0
 TablesOf letters cells tables = (a : ℕ) → member letters a ≡ true → getD tables a [] ≡ letterTable (getD cells a [])
 
 -- a letter of the rule has its table
-pub record Tabled (R : Rule) (tables : List (List (List ℕ))) (a : ℕ) : Type 0 where
+pub record Tabled (R : Rule) (tables : Tables) (a : ℕ) : Type 0 where
   pub below : a < R .letters
   pub entries : getD tables a [] ≡ letterTable (getD (held (R .grid)) a [])
 
@@ -48,14 +52,14 @@ pub record HoldsTree (R : Rule) (T : Tree) (x : CountedRows) : Type 0 where
   pub are : AreRows (take (x .count) (rowsIn (x .rows))) T
 
 -- the letters w are read from T
-pub record Reads (R : Rule) (T : Tree) (tables : List (List (List ℕ))) (k : ℕ) (w : List ℕ) (x : CountedRows) : Type 0 where
+pub record Reads (R : Rule) (T : Tree) (tables : Tables) (k : ℕ) (w : List ℕ) (x : CountedRows) : Type 0 where
   pub holds : WithinLimits R k
   pub tabled : Every (Tabled R tables) w
   pub tree : HoldsTree R T x
 
-unfoldable pub Readable : List (List (List ℕ)) → ℕ → List ℕ → CountedRows → Type 0
+unfoldable pub Readable : Tables → ℕ → List ℕ → CountedRows → Type 0
 Readable tables k w x = (R : Rule) × (T : Tree) × Reads R T tables k w x
 
 -- and lead to the tree after them
-unfoldable pub ReadsTo : List (List (List ℕ)) → ℕ → List ℕ → CountedRows → CountedRows → Type 0
+unfoldable pub ReadsTo : Tables → ℕ → List ℕ → CountedRows → CountedRows → Type 0
 ReadsTo tables k w x r = (R : Rule) (T : Tree) → Reads R T tables k w x → HoldsTree R (readLetters R w T) r
