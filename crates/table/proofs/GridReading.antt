@@ -71,7 +71,7 @@ read-holds r = record {
   sets = r .range .sets;
 }
 
-module _ (table : List ℕ) (before after : Grid) (kept : after ≡ cellsAfter (readRule table) before) where
+module _ (table : List ℕ) (cells : Grid) (kept : cells ≡ cellsAfter (readRule table)) where
   pub reading-refused : (number : ℕ) → Refused number ≡ readingOf (readRule table) → readRule table ≡ refused number
   unfolding readingOf
   reading-refused number e = go (readRule table) refl
@@ -84,11 +84,11 @@ module _ (table : List ℕ) (before after : Grid) (kept : after ≡ cellsAfter (
           let same : Refused number ≡ Reading·Rule (record { states = R .states; letters = R .letters; sets = R .sets; start = R .start }) = e ∙ ap readingOf is in
           let z : _≡_ {A = ℕ} 0 1 = cc in absurd (omega arith)
 
-  pub reading-rule : (header : Header) → Reading·Rule header ≡ readingOf (readRule table) → RuleRead table header after
+  pub reading-rule : (header : Header) → Reading·Rule header ≡ readingOf (readRule table) → RuleRead table header cells
   unfolding readingOf cellsAfter
   reading-rule header e = go (readRule table) refl
     where
-      go : (o : Outcome Rule) → readRule table ≡ o → RuleRead table header after
+      go : (o : Outcome Rule) → readRule table ≡ o → RuleRead table header cells
       go (refused number) is =
           let same : Reading·Rule header ≡ Refused number = e ∙ ap readingOf is in
           let z : _≡_ {A = ℕ} 0 1 = cc in absurd (omega arith)
@@ -99,7 +99,7 @@ module _ (table : List ℕ) (before after : Grid) (kept : after ≡ cellsAfter (
             rule = R;
             reads = is;
             numbers = cc;
-            holds = kept ∙ ap (λ (o : Outcome Rule). cellsAfter o before) is;
+            holds = kept ∙ ap cellsAfter is;
             well = well;
             range = in-range range;
           }

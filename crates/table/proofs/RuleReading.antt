@@ -12,7 +12,7 @@ use Rattle.table.specs.Outcome.{Outcome, refused, accepted, ask}
 use Rattle.table.specs.Rule.{Grid, Rule}
 use Rattle.table.specs.Table.{Read, inRange, startFits, askHeader, readGrid, ended, readBody, readRule}
 use Rattle.table.specs.Header.{headerNumber}
-use Rattle.table.specs.Held.{held}
+use Rattle.table.specs.Held.{blankCells, held}
 use Rattle.table.specs.Cursor.{readHeld}
 use Rattle.table.specs.ReadCall.{readingOf, cellsAfter}
 use Rattle.table.specs.declared.reader.Reading.{Reading}
@@ -20,8 +20,8 @@ use Rattle.table.specs.declared.reader.Reading.the-variants.{Refused, Ru
 use Rattle.table.proofs.HeldReading.{grid-held}
 
 -- what a call says and leaves in the arrays
-abbrev Says : Outcome Rule → Reading → Grid → Grid → Type 0
-Says o answer before after = (answer ≡ readingOf o) × (after ≡ cellsAfter o before)
+abbrev Says : Outcome Rule → Reading → Grid → Type 0
+Says o answer cells = (answer ≡ readingOf o) × (cells ≡ cellsAfter o)
 
 -- question 6: is anything left?
 not-ended : (s : List ℕ) (at : ℕ) → at < length s → ended (drop at s) ≡ false
@@ -32,13 +32,13 @@ all-ended : (s : List ℕ) (at : ℕ) → length s ≤ at → ended (drop at s) 
 unfolding ended
 all-ended s at h = rw (drop-of-length-le s h)
 
-module _ (n m k start : ℕ) (bytes : List ℕ) (before : Grid) (le : n ≤ maxStates) where
+module _ (n m k start : ℕ) (bytes : List ℕ) (le : n ≤ maxStates) where
   -- question 4 or 5 failed
-  pub body-refused : (number : ℕ) → refused number ≡ readHeld n m k bytes → Says (readBody n m k start bytes) (Refused number) before before
+  pub body-refused : (number : ℕ) → refused number ≡ readHeld n m k bytes → Says (readBody n m k start bytes) (Refused number) blankCells
   unfolding readBody readingOf cellsAfter
   body-refused number e = go (readGrid n m k bytes) refl
     where
-      go : (o : Read Grid) → readGrid n m k bytes ≡ o → Says (readBody n m k start bytes) (Refused number) before before
+      go : (o : Read Grid) → readGrid n m k bytes ≡ o → Says (readBody n m k start bytes) (Refused number) blankCells
       go (refused other) is =
           let same : _≡_ {A = Read Grid} (refused number) (refused other) = e ∙ grid-held n m k bytes le ∙ rw is in
           let z : number ≡ other = cc in
@@ -62,13 +62,13 @@ module _ (n m k start : ℕ) (bytes : List ℕ) (before : Grid) (le : n ≤ maxS
             (x .0, is ∙ ap (λ (r : List ℕ). accepted (x .0, r)) (sym (ap (λ (p : Grid × List ℕ). p .1) pair)), sym (ap (λ (p : Grid × List ℕ). p .0) pair))
 
     -- question 6 failed
-    pub body-unended : at < length s → Says (readBody n m k start bytes) (Refused 6) before before
+    pub body-unended : at < length s → Says (readBody n m k start bytes) (Refused 6) blankCells
     unfolding readBody readingOf cellsAfter
     body-unended h = let (grid, is, same) = grid-read in rw (is, not-ended s at h) (refl, refl)
 
     -- the rule
     pub body-read : length s ≤ at
-        → Says (readBody n m k start bytes) (Reading·Rule (record { states = n; letters = m; sets = k; start = start })) before cells
+        → Says (readBody n m k start bytes) (Reading·Rule (record { states = n; letters = m; sets = k; start = start })) cells
     unfolding readBody readingOf cellsAfter
     body-read h = let (grid, is, same) = grid-read in rw (is, all-ended s at h) (refl, sym same)
 
@@ -99,9 +99,9 @@ header-accepted n m k start h = go (inRange n m k) (startFits n start) h
 
 module _ (table : List ℕ) where
   -- question 1 failed
-  pub rule-short : (before : Grid) → length table < 4 → Says (readRule table) (Refused 1) before before
+  pub rule-short : length table < 4 → Says (readRule table) (Refused 1) blankCells
   unfolding readRule readingOf cellsAfter
-  rule-short before h = rw (lt-leb 4 (length table) h) (refl, refl)
+  rule-short h = rw (lt-leb 4 (length table) h) (refl, refl)
 
   abbrev n : ℕ
   n = getD table 0 0
@@ -117,9 +117,9 @@ module _ (table : List ℕ) where
 
   module _ (long : 4 ≤ length table) where
     -- question 2 or 3 failed
-    pub rule-header : (before : Grid) (number : ℕ) → number ≡ headerNumber n m k start → (number ≡ 0 → ⊥) → Says (readRule table) (Refused number) before before
+    pub rule-header : (number : ℕ) → number ≡ headerNumber n m k start → (number ≡ 0 → ⊥) → Says (readRule table) (Refused number) blankCells
     unfolding readRule readingOf cellsAfter
-    rule-header before number e h =
+    rule-header number e h =
         rw (le-leb 4 (length table) long, header-refused n m k start (readBody n m k start (drop 4 table)) (λ z. h (e ∙ z)), e) (refl, refl)
 
     -- the cells are still to be read

@@ -7,7 +7,7 @@ use Rattle.table.specs.Outcome.{Outcome, refused, accepted, ask, _then_}
 use Rattle.table.specs.Rule.{Grid, Rule}
 use Rattle.table.specs.Table.{readRule, gridBytes}
 use Rattle.table.specs.Storing.{stored}
-use Rattle.table.specs.Held.{held}
+use Rattle.table.specs.Held.{blankCells, held}
 use Rattle.table.specs.declared.reader.Reading.{Reading}
 use Rattle.table.specs.declared.reader.Reading.the-variants.{Refused, Rule as Reading·Rule}
 use Rattle.table.specs.declared.reader.ReadAnswer.{ReadAnswer}
@@ -38,7 +38,7 @@ unfoldable pub readingOf : Outcome Rule → Reading
 readingOf (refused number) = Refused number
 readingOf (accepted R) = Reading·Rule (record { states = R .states; letters = R .letters; sets = R .sets; start = R .start })
 
--- the arrays afterwards
-unfoldable pub cellsAfter : Outcome Rule → Grid → Grid
-cellsAfter (refused number) cells = cells
-cellsAfter (accepted R) cells = held (R .grid)
+-- the arrays afterwards: the rule's grid; on a refusal no transition anywhere
+unfoldable pub cellsAfter : Outcome Rule → Grid
+cellsAfter (refused number) = blankCells
+cellsAfter (accepted R) = held (R .grid)

@@ -14,6 +14,7 @@ ghost use Prim.Native.Nat.{_<_, _≤_};
 ghost use lib.ListN.{drop};
 ghost use Rattle.table.specs.Limits.{maxLetters, maxStates};
 ghost use Rattle.table.specs.Outcome.{refused};
+ghost use Rattle.table.specs.Held.{blankCells};
 ghost use Rattle.table.specs.Table.{readBody, readRule};
 ghost use Rattle.table.specs.ReadCall.{cellsAfter, gridAfter, readAnswer, readOutcome, readingOf};
 
@@ -33,37 +34,48 @@ pub struct ReadAnswer {
     pub start: u16,
 }
 
+// No transition anywhere.
+fn blank(cells: &mut Cells)
+    ensures { λ _. ⌜ now (cells .exit) ≡ blankCells ⌝ }
+{
+    *cells = [[[NO_TRANSITION; STATES]; STATES]; LETTERS];
+}
+
 // Questions 4, 5 and 6: the cells behind the header, and the end of the table.
 fn read_body(table: &[u8], header: Header, cells: &mut Cells) -> Reading
     requires { ⌜ (header .states ≤ maxStates) × ((header .letters ≤ maxLetters) × (header .sets < 16)) ⌝ }
     ensures { λ r. ⌜ (r ≡ readingOf (readBody (header .states) (header .letters) (header .sets) (header .start) (drop 4 (now (table .entry)))))
-        × (now (cells .exit) ≡ cellsAfter (readBody (header .states) (header .letters) (header .sets) (header .start) (drop 4 (now (table .entry)))) (now (cells .entry))) ⌝ }
+        × (now (cells .exit) ≡ cellsAfter (readBody (header .states) (header .letters) (header .sets) (header .start) (drop 4 (now (table .entry))))) ⌝ }
 {
-    let mut read = [[[NO_TRANSITION; STATES]; STATES]; LETTERS];
+    blank(cells);
     match read_cells(
         table,
         Cursor { at: 4 },
         header.states,
         header.letters,
         header.sets,
-        &mut read,
+        cells,
     ) {
-        Progress::Refused(number) => Reading::Refused(number),
+        Progress::Refused(number) => {
+            blank(cells);
+            Reading::Refused(number)
+        }
         Progress::At(end) => {
             if end.at < table.len() {
+                blank(cells);
                 return Reading::Refused(6);
             }
-            *cells = read;
             Reading::Rule(header)
         }
     }
 }
 
-// Questions 1 to 6. On yes the arrays hold the rule's grid; on no they are as they were.
+// Questions 1 to 6. On yes the arrays hold the rule's grid; on no they are blank.
 pub fn read_rule(table: &[u8], cells: &mut Cells) -> Reading
-    ensures { λ r. ⌜ (r ≡ readingOf (readRule (now (table .entry)))) × (now (cells .exit) ≡ cellsAfter (readRule (now (table .entry))) (now (cells .entry))) ⌝ }
+    ensures { λ r. ⌜ (r ≡ readingOf (readRule (now (table .entry)))) × (now (cells .exit) ≡ cellsAfter (readRule (now (table .entry)))) ⌝ }
 {
     if table.len() < 4 {
+        blank(cells);
         return Reading::Refused(1);
     }
     let header = Header {
@@ -74,6 +86,7 @@ pub fn read_rule(table: &[u8], cells: &mut Cells) -> Reading
     };
     let number = header_number(header.states, header.letters, header.sets, header.start);
     if number != 0 {
+        blank(cells);
         return Reading::Refused(number);
     }
     read_body(table, header, cells)

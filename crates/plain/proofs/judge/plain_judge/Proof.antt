@@ -26,7 +26,7 @@ returns c =
     let walk = c .before in
     let told = walk .before .before in
     let read = told .before .before .read-rule .ensures in
-    let r = reading-rule _ _ _ (read .1) _ (sym (told .header .given .1) ∙ read .0) in
+    let r = reading-rule _ _ (read .1) _ (sym (told .header .given .1) ∙ read .0) in
     plain-refused _ _ _ _ _ (walk-no _ _ _ _ _ _ _ r _ (walk .walk-number .ensures) (c .if1 .taken))
 
 returns-2 : tie.Need-returns-2
@@ -34,7 +34,7 @@ returns-2 c =
     let walk = c .before .before in
     let told = walk .before .before in
     let read = told .before .before .read-rule .ensures in
-    let r = reading-rule _ _ _ (read .1) _ (sym (told .header .given .1) ∙ read .0) in
+    let r = reading-rule _ _ (read .1) _ (sym (told .header .given .1) ∙ read .0) in
     plain-refused _ _ _ _ _
     (room-no _ _ _ _ _ _ _ r _ (walk .walk-number .ensures) (c .before .if1 .left) (omega (arith, c .if2 .taken, scratch-length)))
 
@@ -43,7 +43,7 @@ judge-walk-requires c κs =
     let walk = c .before .before .before .before in
     let told = walk .before .before in
     let read = told .before .before .read-rule .ensures in
-    let r = reading-rule _ _ _ (read .1) _ (sym (told .header .given .1) ∙ read .0) in
+    let r = reading-rule _ _ (read .1) _ (sym (told .header .given .1) ∙ read .0) in
     read-judgeable _ _ _ _ _ _ _ r _ (walk .walk-number .ensures) (c .before .before .before .if1 .left)
     (omega (arith, c .before .before .if2 .left, scratch-length))
 
@@ -51,7 +51,7 @@ returns-3 : tie.Need-returns-3
 returns-3 c =
     let read = c .before .before .before .read-rule .ensures in
     plain-refused _ _ _ _ _
-    (table-no _ _ _ _ _ _ (reading-refused _ _ _ (read .1) _ (sym (c .before .number .given .1) ∙ read .0)))
+    (table-no _ _ _ _ _ _ (reading-refused _ _ (read .1) _ (sym (c .before .number .given .1) ∙ read .0)))
 
 same-length : tie.Need-same-length
 same-length c = search needs
@@ -61,7 +61,7 @@ returns-4 c =
     let walk = c .before .before .before .before .before .before .before in
     let told = walk .before .before in
     let read = told .before .before .read-rule .ensures in
-    let r = reading-rule _ _ _ (read .1) _ (sym (told .header .given .1) ∙ read .0) in
+    let r = reading-rule _ _ (read .1) _ (sym (told .header .given .1) ∙ read .0) in
     let judge = c .before .before .judge-walk .ensures in
     let room = c .before .before .before .before .before in
     plain-judged _ _ _ _ _

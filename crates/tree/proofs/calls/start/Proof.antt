@@ -26,7 +26,7 @@ returns : tie.Need-returns
 returns c =
     let h = c .before .before .before in
     let r = h .before .before in
-    let v = reading-rule _ _ _ (r .read-rule .ensures .1) _ (sym (h .header .given .1) ∙ r .read-rule .ensures .0) in
+    let v = reading-rule _ _ (r .read-rule .ensures .1) _ (sym (h .header .given .1) ∙ r .read-rule .ensures .0) in
     start-no-room _ _ _ _ v (c .before .if1 .taken) _ (c .start-refusal2 .ensures)
 
 start-requires : tie.Need-start-requires
@@ -37,13 +37,13 @@ put-record-requires c κs =
     let made = c .before .before .before in
     let h = made .before .before .before in
     let r = h .before .before in
-    let v = reading-rule _ _ _ (r .read-rule .ensures .1) _ (sym (h .header .given .1) ∙ r .read-rule .ensures .0) in
+    let v = reading-rule _ _ (r .read-rule .ensures .1) _ (sym (h .header .given .1) ∙ r .read-rule .ensures .0) in
     (start-recordable _ [] _ _ v _ (made .start .ensures), made .before .if1 .left, search needs)
 
 returns-2 : tie.Need-returns-2
 returns-2 c =
     let r = c .before .before .before .before in
-    let no = reading-refused _ _ _ (r .read-rule .ensures .1) _ (sym (c .before .before .number .given .1) ∙ r .read-rule .ensures .0) in
+    let no = reading-refused _ _ (r .read-rule .ensures .1) _ (sym (c .before .before .number .given .1) ∙ r .read-rule .ensures .0) in
     start-refused _ _ _ no _ (c .start-refusal .ensures)
 
 same-length : tie.Need-same-length
@@ -55,7 +55,7 @@ returns-3 c =
     let made = put .before .before .before .before in
     let h = made .before .before .before in
     let r = h .before .before in
-    let v = reading-rule _ _ _ (r .read-rule .ensures .1) _ (sym (h .header .given .1) ∙ r .read-rule .ensures .0) in
+    let v = reading-rule _ _ (r .read-rule .ensures .1) _ (sym (h .header .given .1) ∙ r .read-rule .ensures .0) in
     start-done _ _ _ _ v _ (made .start .ensures) (made .before .if1 .left) _ _ (put .put-record .ensures .0) (put .put-record .ensures .1)
 
 pub start-spec : {M : Type 1} → statement M

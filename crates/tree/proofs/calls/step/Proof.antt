@@ -14,7 +14,7 @@ use Rattle.tree.proofs.calls.step.Tie as tie
 -- the rule that was read
 rule : (c : tie.After-header) → let r = c .before .before in
     RuleRead (r .before .before .before .before .before .args .table .now) (c .header .given .0 .0) (r .read-rule .last .1 .0)
-rule c = let r = c .before .before in reading-rule _ _ _ (r .read-rule .ensures .1) _ (sym (c .header .given .1) ∙ r .read-rule .ensures .0)
+rule c = let r = c .before .before in reading-rule _ _ (r .read-rule .ensures .1) _ (sym (c .header .given .1) ∙ r .read-rule .ensures .0)
 
 -- the tree that was read
 tree : (c : tie.After-nodes) → let k = c .before .before .before in let h = k .before .before .before .before in
@@ -117,7 +117,7 @@ put-record-requires c κs =
 returns-4 : tie.Need-returns-4
 returns-4 c =
     let r = c .before .before .before .before in
-    let no = reading-refused _ _ _ (r .read-rule .ensures .1) _ (sym (c .before .before .number .given .1) ∙ r .read-rule .ensures .0) in
+    let no = reading-refused _ _ (r .read-rule .ensures .1) _ (sym (c .before .before .number .given .1) ∙ r .read-rule .ensures .0) in
     step-refused _ _ _ _ _ no _ (c .step-refusal .ensures)
 
 same-length : tie.Need-same-length

@@ -30,7 +30,7 @@ returns c =
     let walk = c .before .before in
     let told = walk .before .before in
     let read = told .before .before .read-rule .ensures in
-    let r = reading-rule _ _ _ (read .1) _ (sym (told .header .given .1) ∙ read .0) in
+    let r = reading-rule _ _ (read .1) _ (sym (told .header .given .1) ∙ read .0) in
     tree-refused _ _ _ _ _ (walk-no _ _ _ _ _ _ _ r _ (walk .walk-number .ensures) (c .before .if1 .taken)) _ (c .tree-refusal2 .ensures)
 
 tree-refusal-requires-3 : tie.Need-tree-refusal-requires-3
@@ -41,7 +41,7 @@ returns-2 c =
     let walk = c .before .before .before in
     let told = walk .before .before in
     let read = told .before .before .read-rule .ensures in
-    let r = reading-rule _ _ _ (read .1) _ (sym (told .header .given .1) ∙ read .0) in
+    let r = reading-rule _ _ (read .1) _ (sym (told .header .given .1) ∙ read .0) in
     tree-refused _ _ _ _ _
     (room-no _ _ _ _ _ _ _ r _ (walk .walk-number .ensures) (c .before .before .if1 .left) (c .before .if2 .taken)) _ (c .tree-refusal3 .ensures)
 
@@ -50,14 +50,14 @@ judge-walk-requires c κs =
     let walk = c .before .before .before .before in
     let told = walk .before .before in
     let read = told .before .before .read-rule .ensures in
-    let r = reading-rule _ _ _ (read .1) _ (sym (told .header .given .1) ∙ read .0) in
+    let r = reading-rule _ _ (read .1) _ (sym (told .header .given .1) ∙ read .0) in
     read-judgeable _ _ _ _ _ _ _ r _ (walk .walk-number .ensures) (c .before .before .before .if1 .left) (c .before .before .if2 .left)
 
 returns-3 : tie.Need-returns-3
 returns-3 c =
     let read = c .before .before .before .before .read-rule .ensures in
     tree-refused _ _ _ _ _
-    (table-no _ _ _ _ _ _ (reading-refused _ _ _ (read .1) _ (sym (c .before .before .number .given .1) ∙ read .0))) _ (c .tree-refusal .ensures)
+    (table-no _ _ _ _ _ _ (reading-refused _ _ (read .1) _ (sym (c .before .before .number .given .1) ∙ read .0))) _ (c .tree-refusal .ensures)
 
 same-length : tie.Need-same-length
 same-length c = search needs
@@ -67,7 +67,7 @@ returns-4 c =
     let walk = c .before .before .before .before .before .before .before in
     let told = walk .before .before in
     let read = told .before .before .read-rule .ensures in
-    let r = reading-rule _ _ _ (read .1) _ (sym (told .header .given .1) ∙ read .0) in
+    let r = reading-rule _ _ (read .1) _ (sym (told .header .given .1) ∙ read .0) in
     let room = c .before .before .before .before .before in
     tree-judged _ _ _ _ _ (all-yes _ _ _ _ _ _ _ r _ (walk .walk-number .ensures) (room .before .if1 .left) (room .if2 .left)) _ _
     (c .before .before .judge-walk .ensures (r .rule) (read-holds r))
