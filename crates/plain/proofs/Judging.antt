@@ -12,13 +12,13 @@ use Rattle.table.specs.HeldRule.{HoldsRule}
 use Rattle.table.specs.declared.header.Header.{Header}
 use Rattle.table.proofs.Logic.{clash}
 use Rattle.table.proofs.BitSet.{member-none}
-use Rattle.table.proofs.Every.{every-at}
+use Rattle.table.proofs.Every.{every-weaker}
 use Rattle.word.specs.Walk.{rounds}
 use Rattle.word.specs.Judging.{Judgeable}
 use Rattle.word.specs.Loop.{Loop}
 use Rattle.word.specs.Verdict.{Decides}
 use Rattle.plain.specs.Ways.{entry, rowsOf}
-use Rattle.plain.specs.Lead.{startRow, after, LettersFit}
+use Rattle.plain.specs.Lead.{startRow, after}
 use Rattle.plain.specs.TailWays.{TailFits, tailWays}
 use Rattle.plain.specs.Rounds.{widened}
 use Rattle.plain.specs.Search.{SomeLoop}
@@ -45,8 +45,8 @@ judgeable-walkable {header} {cells} {u} {v} j = record {
     few : header .letters ≤ maxLetters
     few = rw (h .numbers) (h .letters)
 
-    below : (w : List ℕ) → Every (λ a. a < header .letters) w → LettersFit w
-    below w all i small = omega (arith, every-at (λ a. a < header .letters) w i 0 all small, few)
+    below : (w : List ℕ) → Every (λ a. a < header .letters) w → Every (λ a. a < maxLetters) w
+    below w all = every-weaker _ _ w (λ a less. omega (arith, few)) all
 
 -- and so can its tail
 pub walkable-tail : {header : Header} {cells : Grid} {u v : List ℕ} → Walkable header cells u v → 1 ≤ length v → TailFits cells v

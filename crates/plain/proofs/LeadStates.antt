@@ -13,14 +13,14 @@ use lib.ListN.{getD, getD-replicate}
 use Rattle.table.specs.Limits.{maxStates, maxLetters, maxSets, noTransition}
 use Rattle.table.specs.BitSet.{member}
 use Rattle.table.specs.Rule.{Grid, Rule}
-use Rattle.table.specs.Table.{WellFormed}
+use Rattle.table.specs.Table.{Every, WellFormed}
 use Rattle.table.specs.Held.{held}
 use Rattle.table.proofs.Edges.{edge-inside}
 use Rattle.table.proofs.Tabulate.{getD-tabulate}
 use Rattle.word.specs.Loop.{Leads}
 use Rattle.plain.specs.Ways.{entry}
-use Rattle.plain.specs.Lead.{startRow, nextRow, imageRow, after, LettersFit}
-use Rattle.plain.proofs.WaysLead.{fit-first, fit-rest, edge-there, there-edge}
+use Rattle.plain.specs.Lead.{startRow, nextRow, imageRow, after}
+use Rattle.plain.proofs.WaysLead.{edge-there, there-edge}
 
 -- a state is in a row
 abbrev pub In : List ℕ → ℕ → Type 0
@@ -101,14 +101,14 @@ module _ (square : List (List ℕ)) (states : List ℕ) where
 
 module _ (R : Rule) (well : WellFormed R) (states : R .states ≤ maxStates) (letters : R .letters ≤ maxLetters) (sets : R .sets ≤ maxSets)
     (cells : Grid) (holds : cells ≡ held (R .grid)) where
-  pub after-leads : (u row : List ℕ) (t : ℕ) → LettersFit u → t < maxStates → In (after cells u row) t
+  pub after-leads : (u row : List ℕ) (t : ℕ) → Every (λ a. a < maxLetters) u → t < maxStates → In (after cells u row) t
       → (s : ℕ) × (s < maxStates) × (c : ℕ) × In row s × Leads R u s c t
   unfolding after Next
   after-leads [] row t fit t-lt h = (t, t-lt, 0, h, (refl, refl))
   after-leads (a ∷ u) row t fit t-lt h =
-      let (r, r-lt, d, i, p) = after-leads u (imageRow maxStates (getD cells a []) row) t (fit-rest a u fit) t-lt h in
+      let (r, r-lt, d, i, p) = after-leads u (imageRow maxStates (getD cells a []) row) t (fit .1) t-lt h in
       let (s, s-lt, there, k) = image-out (getD cells a []) row maxStates r r-lt i in
-      (s, s-lt, _, k, (r, d, edge-there R well states letters sets cells holds a s r (fit-first a u fit) s-lt r-lt there, p, refl))
+      (s, s-lt, _, k, (r, d, edge-there R well states letters sets cells holds a s r (fit .0) s-lt r-lt there, p, refl))
 
   pub leads-after : (u row : List ℕ) (s c t : ℕ) → In row s → Leads R u s c t → In (after cells u row) t
   unfolding after

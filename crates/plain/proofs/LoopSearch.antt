@@ -14,7 +14,7 @@ use lib.Pow.{pow-pos, ones-lt}
 use Rattle.table.specs.Limits.{maxStates, maxLetters, maxSets}
 use Rattle.table.specs.BitSet.{member}
 use Rattle.table.specs.Rule.{Grid, Rule}
-use Rattle.table.specs.Table.{WellFormed}
+use Rattle.table.specs.Table.{Every, WellFormed}
 use Rattle.table.specs.Held.{held}
 use Rattle.table.proofs.Logic.{clash, or-l, or-r}
 use Rattle.table.proofs.BitSet.{member-zero, member-suc, member-none, member-union, member-lt, lt-member, some-member, set-ext-below}
@@ -22,7 +22,7 @@ use Rattle.table.proofs.Ranges.{start-fits}
 use Rattle.word.specs.Walk.{rounds}
 use Rattle.word.specs.Loop.{Leads, Loop}
 use Rattle.word.proofs.Paths.{leads-append, leads-rounds, leads-split, leads-inside, leads-sets-lt}
-use Rattle.plain.specs.Lead.{startRow, after, LettersFit}
+use Rattle.plain.specs.Lead.{startRow, after}
 use Rattle.plain.specs.Search.{Reaches, SomeLoop}
 use Rattle.plain.proofs.WayLaws.{way-first, way-set}
 use Rattle.plain.proofs.LeadStates.{In, start-out, start-in, after-leads, leads-after}
@@ -45,7 +45,7 @@ full-only : (k c : ℕ) → c < 2 ^ k → ((i : ℕ) → i < k → member c i �
 full-only k c small all = set-ext-below k c (2 ^ k - 1) small (ones-lt k) (λ i h. all i h ∙ sym (full-has k i h))
 
 module _ (R : Rule) (well : WellFormed R) (states : R .states ≤ maxStates) (letters : R .letters ≤ maxLetters) (sets : R .sets ≤ maxSets)
-    (cells : Grid) (holds : cells ≡ held (R .grid)) (u v : List ℕ) (fit : LettersFit u) (C : ℕ → ℕ → ℕ) (ways : RoundsWays R v C) where
+    (cells : Grid) (holds : cells ≡ held (R .grid)) (u v : List ℕ) (fit : Every (λ a. a < maxLetters) u) (C : ℕ → ℕ → ℕ) (ways : RoundsWays R v C) where
   abbrev n : ℕ
   n = R .states
 

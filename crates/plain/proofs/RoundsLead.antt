@@ -10,12 +10,11 @@ use lib.Bits.{bitOr}
 use Rattle.table.specs.Limits.{maxStates, maxLetters, maxSets}
 use Rattle.table.specs.BitSet.{member}
 use Rattle.table.specs.Rule.{Grid, Rule}
-use Rattle.table.specs.Table.{WellFormed}
+use Rattle.table.specs.Table.{Every, WellFormed}
 use Rattle.table.specs.Held.{held}
 use Rattle.word.specs.Walk.{rounds}
 use Rattle.word.specs.Loop.{Leads}
 use Rattle.word.proofs.Paths.{rounds-one, leads-rounds, leads-rounds-split, leads-inside}
-use Rattle.plain.specs.Lead.{LettersFit}
 use Rattle.plain.specs.TailWays.{tailWays}
 use Rattle.plain.specs.Rounds.{widened}
 use Rattle.plain.proofs.WayLaws.{way-first, way-union, way-apart}
@@ -32,7 +31,7 @@ pub record RoundsWays (R : Rule) (v : List ℕ) (C : ℕ → ℕ → ℕ) : Type
   pub complete : (s c t j i : ℕ) → s < R .states → Leads R (rounds (suc j) v) s c t → member (1 + 2 * c) i ≡ true → member (C s t) i ≡ true
 
 module _ (R : Rule) (well : WellFormed R) (states : R .states ≤ maxStates) (letters : R .letters ≤ maxLetters) (sets : R .sets ≤ maxSets)
-    (cells : Grid) (holds : cells ≡ held (R .grid)) (v : List ℕ) (fit : LettersFit v) where
+    (cells : Grid) (holds : cells ≡ held (R .grid)) (v : List ℕ) (fit : Every (λ a. a < maxLetters) v) where
   abbrev W : ℕ → ℕ → ℕ
   W = widened (R .states) (tailWays cells v)
 

@@ -10,13 +10,14 @@ use borrow.Author.Tests.{eqb-true, eq-eqb, ne-eqb}
 use lib.Dec.{eqb}
 use lib.ListN.{length, getD, drop}
 use lib.Seq.{drop-cons, drop-length}
-use Rattle.table.specs.Limits.{maxStates}
+use Rattle.table.specs.Limits.{maxStates, maxLetters}
 use Rattle.table.specs.BitSet.{member}
 use Rattle.table.specs.Rule.{Grid}
 use Rattle.table.proofs.Logic.{clash, bool-ext}
+use Rattle.table.proofs.Every.{every-at}
 use Rattle.table.proofs.BitSet.{member-none, member-single, set-ext}
 use Rattle.plain.specs.Ways.{entry, joined, rowsOf}
-use Rattle.plain.specs.TailWays.{cellWays, letterWays, tailWays}
+use Rattle.plain.specs.TailWays.{TailFits, cellWays, letterWays, tailWays}
 use Rattle.plain.proofs.WayLaws.{joined-in, joined-out, any-in, any-out, any-ext, way-of, way-first, way-there}
 use Rattle.plain.proofs.RowLaws.{rows-ext, rows-at}
 
@@ -24,6 +25,10 @@ use Rattle.plain.proofs.RowLaws.{rows-ext, rows-at}
 cell-whole : (square : List (List ℕ)) (s r i : ℕ) → member (cellWays square s r) i ≡ true → member (cellWays square s r) 0 ≡ true
 unfolding cellWays
 cell-whole square s r i h = let x = entry square s r in rw (way-of x (way-there x i h)) (way-first x)
+
+-- each letter is within the limit
+pub tail-letter : (cells : Grid) (v : List ℕ) → TailFits cells v → (i : ℕ) → i < length v → getD v i 0 < maxLetters
+tail-letter cells v fits i small = every-at (λ a. a < maxLetters) v i 0 (fits .letters) small
 
 -- ONE LETTER
 

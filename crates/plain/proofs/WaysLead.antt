@@ -4,7 +4,7 @@ use mathlib.Core.Path.{_≡_, refl, sym, _∙_, ap, subst}
 use mathlib.Core.Logic.{⊎-elim, inl, inr}
 use mathlib.Core.Bool.{true}
 use mathlib.Core.List.{List, [], _∷_}
-use Prim.Native.Nat.{ℕ, suc, _+_, _*_, _≤_, _<_}
+use Prim.Native.Nat.{ℕ, _+_, _*_, _≤_, _<_}
 use native.Mathlib.Omega.{arith}
 use borrow.Author.Tests.{eqb-false, eq-eqb, ne-eqb}
 use lib.Bits.{bitOr}
@@ -12,24 +12,16 @@ use lib.ListN.{getD}
 use Rattle.table.specs.Limits.{maxStates, maxLetters, maxSets, noTransition}
 use Rattle.table.specs.BitSet.{member}
 use Rattle.table.specs.Rule.{Grid, Rule, cellAt, edge}
-use Rattle.table.specs.Table.{WellFormed}
+use Rattle.table.specs.Table.{Every, WellFormed}
 use Rattle.table.specs.Held.{held}
 use Rattle.table.proofs.Logic.{not-out, not-in}
 use Rattle.table.proofs.Edges.{edge-inside}
 use Rattle.word.specs.Loop.{Leads}
 use Rattle.plain.specs.Ways.{entry, joined}
-use Rattle.plain.specs.Lead.{LettersFit}
 use Rattle.plain.specs.TailWays.{cellWays, letterWays, tailWays}
 use Rattle.plain.proofs.WayLaws.{joined-in, joined-out, any-in, any-out, way-of, way-there, way-first, way-union, way-apart}
 use Rattle.plain.proofs.TailSteps.{stay-in, stay-out}
 use Rattle.plain.proofs.HeldBytes.{byte-at}
-
--- the first letter, and those behind it
-pub fit-first : (a : ℕ) (w : List ℕ) → LettersFit (a ∷ w) → a < maxLetters
-fit-first a w fit = fit 0 (omega arith)
-
-pub fit-rest : (a : ℕ) (w : List ℕ) → LettersFit (a ∷ w) → LettersFit w
-fit-rest a w fit i small = fit (suc i) (omega arith)
 
 -- where a bit stands, bit 0 stands
 pub ways-whole : (cells : Grid) (w : List ℕ) (s t i : ℕ) → member (tailWays cells w s t) i ≡ true → member (tailWays cells w s t) 0 ≡ true
@@ -71,7 +63,7 @@ module _ (R : Rule) (well : WellFormed R) (states : R .states ≤ maxStates) (le
     way-edge i h = edge-there (way-there byte i h)
 
   -- what stands is a path
-  pub ways-lead : (w : List ℕ) (s t i : ℕ) → LettersFit w → s < maxStates → member (tailWays cells w s t) i ≡ true
+  pub ways-lead : (w : List ℕ) (s t i : ℕ) → Every (λ a. a < maxLetters) w → s < maxStates → member (tailWays cells w s t) i ≡ true
       → (c : ℕ) × Leads R w s c t × (member (1 + 2 * c) i ≡ true)
   unfolding tailWays letterWays
   ways-lead [] s t i fit s-lt h =
@@ -81,11 +73,11 @@ module _ (R : Rule) (well : WellFormed R) (states : R .states ≤ maxStates) (le
       let W : ℕ → ℕ = λ r. cellWays (getD cells a []) s r in
       let (r, r-lt, m) = any-out maxStates (λ r. joined (W r) (tailWays cells w r t)) i h in
       let (first, second, either) = joined-out (W r) (tailWays cells w r t) i m in
-      let a-lt = fit-first a w fit in
+      let (a-lt, fit′) = fit in
       let e = way-edge a s r a-lt s-lt r-lt 0 first in
       let x = cellAt (R .grid) a s r in
       let behind : (i : ℕ) → member (tailWays cells w r t) i ≡ true → (d : ℕ) × Leads R w r d t × (member (1 + 2 * d) i ≡ true) =
-      λ i. ways-lead w r t i (fit-rest a w fit) r-lt in
+      λ i. ways-lead w r t i fit′ r-lt in
       ⊎-elim
       (λ k. let (d, p, _) = behind 0 second in
       (bitOr x d, (r, d, e, p, refl), way-union x d i (inl (rw (edge-way a s r a-lt s-lt r-lt e) at k))))

@@ -1,11 +1,11 @@
 -- The states that the lead-in leads to, inside the plain judge: a row that has 1 for each of them, and 0 for the others.
 use mathlib.Core.Bool.{cond}
 use mathlib.Core.List.{List, [], _∷_}
-use Prim.Native.Nat.{ℕ, zero, suc, _/_, _%_, _^_, _<_}
+use Prim.Native.Nat.{ℕ, zero, suc, _/_, _%_, _^_}
 use lib.Bits.{bitOr}
 use lib.Dec.{eqb}
-use lib.ListN.{length, getD, replicate}
-use Rattle.table.specs.Limits.{maxStates, maxLetters, noTransition}
+use lib.ListN.{getD, replicate}
+use Rattle.table.specs.Limits.{maxStates, noTransition}
 use Rattle.table.specs.Lookup.{tabulate}
 use Rattle.table.specs.Rule.{Grid}
 use Rattle.plain.specs.Ways.{entry}
@@ -28,7 +28,3 @@ imageRow (suc n) square states = nextRow square n (getD states n 0) (imageRow n 
 unfoldable pub after : Grid → List ℕ → List ℕ → List ℕ
 after cells [] states = states
 after cells (a ∷ w) states = after cells w (imageRow maxStates (getD cells a []) states)
-
--- the letters w are within the limit
-abbrev pub LettersFit : List ℕ → Type 0
-LettersFit w = (i : ℕ) → i < length w → getD w i 0 < maxLetters

@@ -4,11 +4,11 @@ use mathlib.Core.List.{List, [], _∷_}
 use Prim.Native.Nat.{ℕ, _≤_, _<_}
 use lib.Dec.{eqb}
 use lib.ListN.{length, getD}
-use Rattle.table.specs.Limits.{maxStates}
+use Rattle.table.specs.Limits.{maxStates, maxLetters}
 use Rattle.table.specs.Lookup.{tabulate, relationsOf}
 use Rattle.table.specs.Rule.{Grid}
+use Rattle.table.specs.Table.{Every}
 use Rattle.plain.specs.Ways.{entry, joined, anyOf}
-use Rattle.plain.specs.Lead.{LettersFit}
 
 -- one letter, whose square this is: its transition from s to t, as a way of one letter
 unfoldable pub cellWays : List (List ℕ) → ℕ → ℕ → ℕ
@@ -34,5 +34,5 @@ BytesFit square = (s r : ℕ) → entry square s r < 256
 -- what the code asks of the arrays and of a tail before it takes the tail's ways
 pub record TailFits (cells : Grid) (v : List ℕ) : Type 0 where
   pub some : 1 ≤ length v
-  pub letters : LettersFit v
+  pub letters : Every (λ a. a < maxLetters) v
   pub bytes : (a : ℕ) → BytesFit (getD cells a [])

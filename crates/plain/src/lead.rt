@@ -6,8 +6,9 @@ use table::limits::STATES;
 use table::limits::Square;
 ghost use mathlib.Core.Path.{_≡_};
 ghost use Prim.Native.Nat.{_<_};
-ghost use Rattle.table.specs.Limits.{maxStates};
-ghost use Rattle.plain.specs.Lead.{LettersFit, after, imageRow, nextRow, startRow};
+ghost use Rattle.table.specs.Limits.{maxLetters, maxStates};
+ghost use Rattle.table.specs.Table.{Every};
+ghost use Rattle.plain.specs.Lead.{after, imageRow, nextRow, startRow};
 
 // The starting states.
 fn start_row(start: u16) -> Row
@@ -57,7 +58,7 @@ fn image(square: &Square, states: Row) -> Row
 
 // The states that the lead-in leads to.
 pub fn states_after(cells: &Cells, start: u16, u: &[u8]) -> Row
-    requires { ⌜ LettersFit (now u) ⌝ }
+    requires { ⌜ Every (λ a. a < maxLetters) (now u) ⌝ }
     ensures { λ r. ⌜ r ≡ after (now (cells .entry)) (now (u .entry)) (startRow start) ⌝ }
 {
     let first = start_row(start);

@@ -2,8 +2,10 @@
 use borrow.Author.Needs.{needs}
 use native.Mathlib.Omega.{arith}
 use mathlib.Core.Path.{_≡_, sym, _∙_, ap}
-use Prim.Native.Nat.{_-_, _≤_}
+use Prim.Native.Nat.{_-_, _≤_, _<_}
 use lib.ListN.{length, drop}
+use Rattle.table.specs.Limits.{maxLetters}
+use Rattle.table.proofs.Every.{every-at}
 use Rattle.plain.specs.Lead.{after, startRow}
 use Rattle.plain.proofs.LeadRows.{after-done, after-more}
 use Rattle.plain.proofs.lead.states_after.Statement.{statement}
@@ -24,20 +26,15 @@ loop-holds c = (omega arith, ap (after _ _) (c .start-row .ensures))
 shared-slice-read-image : tie.Need-shared-slice-read-image Inv-loop μ-loop
 shared-slice-read-image c = search needs
 
+index-1-image : tie.Need-index-1-image Inv-loop μ-loop
+index-1-image c = let start = c .before .before .before .before .before in
+    every-at (λ a. a < maxLetters) (start .args .u .now) _ 0 (start .pre) (c .before .loop-test .taken)
+
 cast-image : tie.Need-cast-image Inv-loop μ-loop
-cast-image c =
-    let at = c .before .before in
-    omega (arith, at .before .before .before .pre (at .loop .at) (omega arith))
+cast-image c = omega (arith, index-1-image c)
 
 mul-image : tie.Need-mul-image Inv-loop μ-loop
-mul-image c =
-    let at = c .before .before in
-    omega (arith, at .before .before .before .pre (at .loop .at) (omega arith))
-
-index-1-image : tie.Need-index-1-image Inv-loop μ-loop
-index-1-image c =
-    let at = c .before .before in
-    omega (arith, at .before .before .before .pre (at .loop .at) (omega arith))
+mul-image c = omega (arith, index-1-image c)
 
 image-requires : tie.Need-image-requires Inv-loop μ-loop
 image-requires c κs = search needs

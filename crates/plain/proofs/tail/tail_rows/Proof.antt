@@ -2,13 +2,13 @@
 use borrow.Author.Needs.{needs}
 use native.Mathlib.Omega.{arith}
 use mathlib.Core.Path.{_≡_}
-use Prim.Native.Nat.{_-_, _<_}
+use Prim.Native.Nat.{_<_}
 use lib.ListN.{length, drop}
 use Rattle.plain.specs.Ways.{rowsOf}
 use Rattle.plain.specs.TailWays.{tailWays}
 use Rattle.plain.specs.Moves.{ListsMade}
 use Rattle.plain.proofs.MoveLists.{lists-none}
-use Rattle.plain.proofs.TailSteps.{tail-last, tail-more}
+use Rattle.plain.proofs.TailSteps.{tail-letter, tail-last, tail-more}
 use Rattle.plain.proofs.tail.tail_rows.Statement.{statement}
 use Rattle.plain.proofs.tail.tail_rows.Tie as tie
 
@@ -24,20 +24,14 @@ sub-at c = omega (arith, c .before .pre .some)
 shared-slice-read-cell-rows : tie.Need-shared-slice-read-cell-rows Inv-loop μ-loop
 shared-slice-read-cell-rows c = omega (arith, c .before .before .pre .some)
 
+index-1-cell-rows : tie.Need-index-1-cell-rows Inv-loop μ-loop
+index-1-cell-rows c = let start = c .before .before in tail-letter _ _ (start .pre) _ (shared-slice-read-cell-rows c)
+
 cast-cell-rows : tie.Need-cast-cell-rows Inv-loop μ-loop
-cast-cell-rows c =
-    let start = c .before .before in
-    omega (arith, start .pre .letters (length (start .args .v .now) - 1) (omega (arith, start .pre .some)))
+cast-cell-rows c = omega (arith, index-1-cell-rows c)
 
 mul-cell-rows : tie.Need-mul-cell-rows Inv-loop μ-loop
-mul-cell-rows c =
-    let start = c .before .before in
-    omega (arith, start .pre .letters (length (start .args .v .now) - 1) (omega (arith, start .pre .some)))
-
-index-1-cell-rows : tie.Need-index-1-cell-rows Inv-loop μ-loop
-index-1-cell-rows c =
-    let start = c .before .before in
-    omega (arith, start .pre .letters (length (start .args .v .now) - 1) (omega (arith, start .pre .some)))
+mul-cell-rows c = omega (arith, index-1-cell-rows c)
 
 cell-rows-requires : tie.Need-cell-rows-requires Inv-loop μ-loop
 cell-rows-requires c κs = search needs
@@ -56,52 +50,40 @@ shared-slice-read-letter c = omega (arith, c .before .before .loop .inv .0)
 cast-letter : tie.Need-cast-letter Inv-loop μ-loop
 cast-letter c =
     let at = c .before .before in
-    omega (arith, at .before .before .before .before .before .pre .letters (at .loop .at - 1) (omega (arith, at .loop .inv .0)))
+    omega (arith, tail-letter _ _ (at .before .before .before .before .before .pre) _ (shared-slice-read-letter c))
 
 list-letter-requires : tie.Need-list-letter-requires Inv-loop μ-loop
 list-letter-requires c κs =
     let at = c .before .before .before .before in
-    let start = at .before .before .before .before .before in
-    (start .pre .letters (at .loop .at - 1) (omega (arith, at .loop .inv .0)), at .loop .inv .2)
-
-mul-letter-rows : tie.Need-mul-letter-rows Inv-loop μ-loop
-mul-letter-rows c =
-    let at = c .before .before .before .before .before .before in
-    omega (arith, at .before .before .before .before .before .pre .letters (at .loop .at - 1) (omega (arith, at .loop .inv .0)))
+    (tail-letter _ _ (at .before .before .before .before .before .pre) _ (shared-slice-read-letter (c .before .before)), at .loop .inv .2)
 
 index-1-letter-rows : tie.Need-index-1-letter-rows Inv-loop μ-loop
 index-1-letter-rows c =
     let at = c .before .before .before .before .before .before in
-    omega (arith, at .before .before .before .before .before .pre .letters (at .loop .at - 1) (omega (arith, at .loop .inv .0)))
+    tail-letter _ _ (at .before .before .before .before .before .pre) _ (shared-slice-read-letter (c .before .before .before .before))
 
-mul-letter-rows-2 : tie.Need-mul-letter-rows-2 Inv-loop μ-loop
-mul-letter-rows-2 c =
-    let at = c .before .before .before .before .before .before .before in
-    omega (arith, at .before .before .before .before .before .pre .letters (at .loop .at - 1) (omega (arith, at .loop .inv .0)))
+mul-letter-rows : tie.Need-mul-letter-rows Inv-loop μ-loop
+mul-letter-rows c = omega (arith, index-1-letter-rows c)
 
 index-1-letter-rows-2 : tie.Need-index-1-letter-rows-2 Inv-loop μ-loop
-index-1-letter-rows-2 c =
-    let at = c .before .before .before .before .before .before .before in
-    omega (arith, at .before .before .before .before .before .pre .letters (at .loop .at - 1) (omega (arith, at .loop .inv .0)))
+index-1-letter-rows-2 c = index-1-letter-rows (c .before)
 
-mul-letter-rows-3 : tie.Need-mul-letter-rows-3 Inv-loop μ-loop
-mul-letter-rows-3 c =
-    let at = c .before .before .before .before .before .before .before .before in
-    omega (arith, at .before .before .before .before .before .pre .letters (at .loop .at - 1) (omega (arith, at .loop .inv .0)))
+mul-letter-rows-2 : tie.Need-mul-letter-rows-2 Inv-loop μ-loop
+mul-letter-rows-2 c = omega (arith, index-1-letter-rows-2 c)
 
 array-read-letter-rows : tie.Need-array-read-letter-rows Inv-loop μ-loop
-array-read-letter-rows c =
-    let at = c .before .before .before .before .before .before .before .before in
-    omega (arith, at .before .before .before .before .before .pre .letters (at .loop .at - 1) (omega (arith, at .loop .inv .0)))
+array-read-letter-rows c = index-1-letter-rows-2 (c .before)
+
+mul-letter-rows-3 : tie.Need-mul-letter-rows-3 Inv-loop μ-loop
+mul-letter-rows-3 c = omega (arith, array-read-letter-rows c)
 
 letter-rows-requires : tie.Need-letter-rows-requires Inv-loop μ-loop
 letter-rows-requires c κs =
     let made = c .before .before .before in
     let at = made .before .before .before .before .before in
     let start = at .before .before .before .before .before in
-    let small = start .pre .letters (at .loop .at - 1) (omega (arith, at .loop .inv .0)) in
     let (lists, few) = made .list-letter .ensures in
-    (start .pre .bytes _, lists .made _ small few)
+    (start .pre .bytes _, lists .made _ (array-read-letter-rows c) few)
 
 loop-less : tie.Need-loop-less Inv-loop μ-loop
 loop-less c = search needs
