@@ -125,6 +125,15 @@ module _ (R : Rule) (u v p : List ℕ) where
       (λ e. or-l (acceptingOnce R (roundTree R u v r) v p) _ (once-in R p (roundTree R u v r) v i (l .within) (rw (← e) at h)))
       (λ k. or-r (acceptingOnce R (roundTree R u v r) v p) _ (rounds-once-in m (suc r) s i k h)) (place-cases l)
 
+  -- so a witness of these rounds is a name that is stable through all their letters and accepting at one
+  pub witness-through : (m r : ℕ) → Witness R u v r m p
+      ↔ (stableThrough R (roundTree R u v r) (rounds m v) p ≡ true) × (acceptingOnce R (roundTree R u v r) (rounds m v) p ≡ true)
+  witness-through m r = (
+    λ W. (rounds-through-in m r (W .stays), rounds-once-in m r (W .round) (W .place) (W .there) (W .accepts)),
+    λ (stays, once). let (s, i, there, accepts) = rounds-once-out m r once in
+        record { stays = rounds-through-out m r stays; round = s; place = i; there = there; accepts = accepts },
+  )
+
 -- m rounds lead from t(r) to t(r + m)
 pub read-rounds : (R : Rule) (u v : List ℕ) (m r : ℕ) → readLetters R (rounds m v) (roundTree R u v r) ≡ roundTree R u v (r + m)
 unfolding rounds readLetters
@@ -161,14 +170,11 @@ module _ (R : Rule) (u v : List ℕ) (entry period : ℕ) (F : FirstRepeat (roun
       → member (acceptedMap R (roundTree R u v start) (rounds period v)) j ≡ true
       ↔ Witness R u v start period (getD (names (roundTree R u v start)) j [])
   member-witness j h = (
-    λ m.
-        let (_, both) = and-in (ltb j (size (roundTree R u v start))) _ (sym (member-followed j) ∙ m) in
-        let (stays, once) = and-in (stableThrough R (roundTree R u v start) (rounds period v) w) _ both in
-        let (r, i, there, accepts) = rounds-once-out R u v w period start once in
-        record { stays = rounds-through-out R u v w period start stays; round = r; place = i; there = there; accepts = accepts },
-    λ W. member-followed j ∙ and-both (ltb j (size (roundTree R u v start))) _ (lt-ltb j _ h)
-        (and-both (stableThrough R (roundTree R u v start) (rounds period v) w) _ (rounds-through-in R u v w period start (W .stays))
-        (rounds-once-in R u v w period start (W .round) (W .place) (W .there) (W .accepts))),
+    λ m. witness-through R u v w period start .1 (and-in (stableThrough R (roundTree R u v start) (rounds period v) w) _
+        (and-in (ltb j (size (roundTree R u v start))) _ (sym (member-followed j) ∙ m) .1)),
+    λ W. let (stays, once) = witness-through R u v w period start .0 W in
+        member-followed j ∙ and-both (ltb j (size (roundTree R u v start))) _ (lt-ltb j _ h)
+        (and-both (stableThrough R (roundTree R u v start) (rounds period v) w) _ stays once),
   )
     where
       w : List ℕ

@@ -45,6 +45,7 @@ pub mod OriginsDistinct
 pub mod OldNumberLaws
 pub mod FollowingLaws
 pub mod CycleVerdict
+pub mod CutCycle
 pub mod CycleFinding
 pub mod NamesByDepth
 -- Verdicts by computation, and the examples of document 01.

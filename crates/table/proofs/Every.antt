@@ -17,7 +17,7 @@ module _ {A : Type 0} (P : A → Type 0) where
   every-append [] r h g = g
   every-append (x ∷ l) r h g = (h .0, every-append l r (h .1) g)
 
-  append-every : (l r : List A) → Every P (l ++ r) → Every P l × Every P r
+  pub append-every : (l r : List A) → Every P (l ++ r) → Every P l × Every P r
   append-every [] r h = (tt, h)
   append-every (x ∷ l) r h = let both = append-every l r (h .1) in ((h .0, both .0), both .1)
 

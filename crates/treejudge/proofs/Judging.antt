@@ -2,12 +2,12 @@
 use mathlib.Core.Path.{_≡_, refl, sym, _∙_, ap}
 use mathlib.Core.Bool.{false, true}
 use mathlib.Core.List.{List, [], append-nil}
-use Prim.Native.Nat.{ℕ, _-_, _<_}
+use Prim.Native.Nat.{ℕ, _≤_, _<_}
 use native.Mathlib.Omega.{arith}
 use native.Mathlib.Decide.{decLt}
 use lib.ListN.{length, getD, take, length-take}
 use Rattle.table.specs.BitSet.{member}
-use Rattle.table.specs.Limits.{maxLetters}
+use Rattle.table.specs.Limits.{maxStates, maxLetters}
 use Rattle.table.specs.Rule.{Grid, Rule}
 use Rattle.table.specs.Table.{Every}
 use Rattle.table.specs.Storing.{stored}
@@ -23,17 +23,16 @@ use Rattle.history.specs.Rounds.{roundTree}
 use Rattle.history.specs.Verdict.{FirstWitness}
 use Rattle.history.specs.Finding.{yes-node, no-node}
 use Rattle.history.proofs.TreesKept.{start-is-tree, few-nodes}
-use Rattle.history.proofs.RepeatExists.{repeat-exists}
-use Rattle.history.proofs.CycleVerdict.{member-node, verdict-yes, verdict-no}
 use Rattle.tree.specs.RecordRows.{startRows}
 use Rattle.tree.specs.PackedRows.{rowsIn}
 use Rattle.tree.proofs.StartCall.{start-rows-are}
 use Rattle.treejudge.specs.JudgeCall.{noName, treeAnswer, namesAfter, Judged}
 use Rattle.treejudge.specs.Reading.{Tables, occurring, TablesOf, WithinLimits, Reads, ReadsTo}
-use Rattle.treejudge.specs.Cycles.{AtRound, CycleFound, Searched, EntryFound}
+use Rattle.treejudge.specs.Cycles.{AtRound}
+use Rattle.treejudge.specs.Repeats.{RepeatOf}
 use Rattle.treejudge.specs.NodeNames.{Lowest, SomeNode, IsName}
 use Rattle.treejudge.specs.declared.letters.CountedRows.{CountedRows}
-use Rattle.treejudge.specs.declared.cycle.Cycle.{Cycle}
+use Rattle.treejudge.specs.declared.repeat.Repeat.{Repeat}
 use Rattle.treejudge.specs.declared.name.Name.{Name}
 use Rattle.treejudge.specs.declared.judge.TreeAnswer.{TreeAnswer}
 use Rattle.treejudge.proofs.WalkTables.{lead-tabled, tail-tabled}
@@ -102,82 +101,58 @@ module _ (R : Rule) (header : Header) (cells : Grid) (h : HoldsRule R header cel
       tree = rw (append-nil u, lead-left u v w left) (to R (startTree R) lead-reads);
     }
 
--- the search is done for the first repeat
-pub searched : (R : Rule) (u v : List ℕ) (tables : Tables) (k : ℕ) (first : CountedRows) → AtRound R u v tables k 0 first
-    → (cycle : Cycle) → CycleFound tables k v first cycle
-    → (entry : ℕ) × (period : ℕ) × Searched R u v tables k entry period first cycle
-unfolding CycleFound
-searched R u v tables k first at cycle found =
-    let t = at .holds in
-    let (e, p, F, _) = repeat-exists R (t .well) (t .some-set) (t .states) (t .sets) u v in
-    (e, p, record { place = at; repeat = F; cycle = found R u e p at F })
-
-module _ (R : Rule) (u v : List ℕ) (tables : Tables) (k : ℕ) (first : CountedRows) (cycle : Cycle) (e p : ℕ)
-    (S : Searched R u v tables k e p first cycle) (entry : ℕ) (entered : EntryFound tables k v first cycle entry) (before : List ℕ) where
-  entry-is : entry ≡ e
-  unfolding EntryFound
-  entry-is = entered R u e p S
-
+module _ (R : Rule) (u v : List ℕ) (r : Repeat) (S : RepeatOf R u v r) (before : List ℕ) where
   -- no followed node was accepting
-  pub says-no : cycle .accepted ≡ 0
-      → Judged R u v before (record { number = 0; verdict = 0; entry = entry; period = cycle .period; length = noName }) before
+  pub says-no : r .accepted ≡ 0
+      → Judged R u v before (record { number = 0; verdict = 0; entry = r .entry; period = r .period; length = noName }) before
   unfolding treeAnswer namesAfter
-  says-no none = let C = S .cycle in let t = S .place .holds in record {
-    entry = e;
-    period = p;
+  says-no none = record {
+    entry = r .entry;
+    period = r .period;
     repeat = S .repeat;
     finding = no-node;
-    found = verdict-no R u v e p (S .repeat) (cycle .power - 1) (C .late) (t .well) (t .some-set) (sym (C .accepted) ∙ none);
-    answers = λ i. record { number = 0; verdict = 0; entry = entry-is i; period = C .back i; length = noName };
+    found = S .none none;
+    answers = refl;
     leaves = refl;
   }
 
-  module _ (some : cycle .accepted ≡ 0 → ⊥) (j : ℕ) (lowest : Lowest (cycle .accepted) j) where
-    abbrev T : Tree
-    T = roundTree R u v (cycle .power - 1)
-
+  module _ (limits : R .states ≤ maxStates) (some : r .accepted ≡ 0 → ⊥) (j : ℕ) (lowest : Lowest (r .accepted) j) where
     -- the lowest number is that of a node
-    node-there : j < size T
-    node-there = let (i, m) = some-member (cycle .accepted) some in go i m (decLt i j)
+    node-there : j < size (S .tree)
+    node-there = let (i, m) = some-member (r .accepted) some in go i m (decLt i j)
       where
-        go : (i : ℕ) → member (cycle .accepted) i ≡ true → Dec (i < j) → j < size T
-        go i m (yes before) = clash (lowest .none-before i before) m
-        go i m (no later) = omega (
-          arith,
-          member-node R u v e p (S .repeat) (cycle .power - 1) (S .cycle .late) i (rw (S .cycle .accepted) at m),
-        )
+        go : (i : ℕ) → member (r .accepted) i ≡ true → Dec (i < j) → j < size (S .tree)
+        go i m (yes earlier) = clash (lowest .none-before i earlier) m
+        go i m (no later) = omega (arith, S .node i m)
 
-    pub some-node : SomeNode (cycle .held) j
+    pub some-node : SomeNode (r .tree) j
     some-node = record {
       rule = R;
-      tree = T;
-      states = S .place .holds .states;
-      holds = S .cycle .held;
-      node = omega (arith, node-there, S .cycle .held .nodes);
+      tree = S .tree;
+      states = limits;
+      holds = S .holds;
+      node = omega (arith, node-there, S .holds .nodes);
     }
 
     -- and the first witness
-    first-witness : FirstWitness R u v e p (getD (names T) j [])
+    first-witness : FirstWitness R u v (r .entry) (r .period) (getD (names (S .tree)) j [])
     first-witness =
-        let t = S .place .holds in
-        let few = few-nodes (R .states) (R .sets) T (S .cycle .held .fits) in
-        verdict-yes R u v e p (S .repeat) (cycle .power - 1) (S .cycle .late) (t .well) (t .some-set) j node-there
-        (rw (S .cycle .accepted) at (lowest .here (omega (arith, node-there, t .states, few))))
-        (rw (S .cycle .accepted) at (lowest .none-before))
+        let few = few-nodes (R .states) (R .sets) (S .tree) (S .holds .fits) in
+        S .lowest j (lowest .here (omega (arith, node-there, few))) (lowest .none-before)
 
-    pub says-yes : (name : Name) → IsName (cycle .held) j name → (after : List ℕ)
+    pub says-yes : (name : Name) → IsName (r .tree) j name → (after : List ℕ)
         → after ≡ stored 0 (take (name .length) (name .numbers)) before
-        → Judged R u v before (record { number = 0; verdict = 1; entry = entry; period = cycle .period; length = name .length }) after
+        → Judged R u v before (record { number = 0; verdict = 1; entry = r .entry; period = r .period; length = name .length }) after
     unfolding treeAnswer namesAfter
     says-yes name is after stores =
-        let w : take (name .length) (name .numbers) ≡ getD (names T) j [] = is .numbers R T (S .cycle .held) in
-        let l : name .length ≡ length (getD (names T) j []) =
+        let w : take (name .length) (name .numbers) ≡ getD (names (S .tree)) j [] = is .numbers R (S .tree) (S .holds) in
+        let l : name .length ≡ length (getD (names (S .tree)) j []) =
         omega (arith, length-take (name .length) (name .numbers), is .places, is .short, ap length w) in record {
-          entry = e;
-          period = p;
+          entry = r .entry;
+          period = r .period;
           repeat = S .repeat;
-          finding = yes-node (getD (names T) j []);
+          finding = yes-node (getD (names (S .tree)) j []);
           found = first-witness;
-          answers = λ i. record { number = 0; verdict = 1; entry = entry-is i; period = S .cycle .back i; length = l i };
+          answers = λ i. record { number = 0; verdict = 1; entry = r .entry; period = r .period; length = l i };
           leaves = stores ∙ ap (λ (x : List ℕ). stored 0 x before) w;
         }

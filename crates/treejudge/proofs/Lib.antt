@@ -7,10 +7,11 @@ pub mod Judging
 pub mod WalkTables
 pub mod LettersRead
 pub mod NamesFollowed
--- Finding the first repeat: rounds read and compared, the search for the period, the search for the entry.
+-- Finding the first repeat: rounds read and compared, the search for the period, the search for the entry, and what they find.
 pub mod SameTrees
 pub mod RoundsRead
 pub mod CycleSearch
 pub mod EntrySearch
+pub mod RepeatSearch
 -- The name of a node.
 pub mod NodeNames

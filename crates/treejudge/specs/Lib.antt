@@ -6,4 +6,5 @@ pub mod Reading
 pub mod Names
 pub mod SameRows
 pub mod Cycles
+pub mod Repeats
 pub mod NodeNames

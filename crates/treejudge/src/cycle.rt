@@ -22,7 +22,7 @@ pub struct Cycle {
 }
 
 // The tree of the followed nodes.
-fn tree_of(now: Followed) -> CountedRows
+pub fn tree_of(now: Followed) -> CountedRows
     ensures { λ r. ⌜ r ≡ record { rows = now .rows; count = now .count } ⌝ }
 {
     let rows = now.rows;

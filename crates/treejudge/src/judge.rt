@@ -1,6 +1,4 @@
 // The tree judge: entry and period of the first repeated tree at a round end, and the verdict with its node.
-use crate::cycle::find_cycle;
-use crate::entry::find_entry;
 use crate::letters::CountedRows;
 use crate::letters::occurring;
 use crate::letters::read_letters;
@@ -8,6 +6,7 @@ use crate::letters::tables_of;
 use crate::name::first_node;
 use crate::name::node_name;
 use crate::name::store_name;
+use crate::repeat::find_repeat;
 use table::header::Header;
 use table::limits::Cells;
 use table::limits::LETTERS;
@@ -64,24 +63,23 @@ fn judge_walk<'a>(
     // t(0) follows u; then the rounds, each the whole tail
     let first = read_letters(&tables, k, letters_left(u, v, false, 0), start);
     let tail = letters_left(u, v, true, 0);
-    let cycle = find_cycle(&tables, k, tail, first);
-    let entry = find_entry(&tables, k, tail, first, cycle);
-    if cycle.accepted == 0 {
+    let found = find_repeat(&tables, k, tail, first);
+    if found.accepted == 0 {
         return TreeAnswer {
             number: 0,
             verdict: 0,
-            entry: entry,
-            period: cycle.period,
+            entry: found.entry,
+            period: found.period,
             length: NO_NAME,
         };
     }
-    let name = node_name(cycle.held, first_node(cycle.accepted));
+    let name = node_name(found.tree, first_node(found.accepted));
     store_name(name, names);
     TreeAnswer {
         number: 0,
         verdict: 1,
-        entry: entry,
-        period: cycle.period,
+        entry: found.entry,
+        period: found.period,
         length: name.length as u8,
     }
 }

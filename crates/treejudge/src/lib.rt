@@ -5,4 +5,5 @@ mod follow;
 pub mod judge;
 mod letters;
 mod name;
+mod repeat;
 mod same;

@@ -8,8 +8,9 @@ use Rattle.word.specs.Judging.{Judgeable}
 use Rattle.history.specs.Tree.{startTree}
 use Rattle.treejudge.specs.JudgeCall.{nameRoom}
 use Rattle.treejudge.specs.Reading.{Readable}
-use Rattle.treejudge.specs.Cycles.{AtRound, FirstRound, SearchDone}
-use Rattle.treejudge.proofs.Judging.{sets-small, letters-small, judged-tail, lead-reads, first-round, searched, says-no, some-node, says-yes}
+use Rattle.treejudge.specs.Cycles.{AtRound, FirstRound}
+use Rattle.treejudge.specs.Repeats.{RepeatFound}
+use Rattle.treejudge.proofs.Judging.{sets-small, letters-small, judged-tail, lead-reads, first-round, says-no, some-node, says-yes}
 use Rattle.treejudge.proofs.judge.judge_walk.Statement.{statement}
 use Rattle.treejudge.proofs.judge.judge_walk.Tie as tie
 
@@ -75,61 +76,52 @@ read-letters-requires c κs =
 letters-left-requires-2 : tie.Need-letters-left-requires-2
 letters-left-requires-2 c κs = search needs
 
-find-cycle-requires : tie.Need-find-cycle-requires
+find-repeat-requires : tie.Need-find-repeat-requires
 unfolding FirstRound
-find-cycle-requires c κs = let pre = known (c .before) in (pre .rule, _, first-place (c .before) (pre .rule) (pre .holds))
-
-find-entry-requires : tie.Need-find-entry-requires
-unfolding SearchDone
-find-entry-requires c κs =
-    let cycle = c .before in
-    let tail = cycle .before .before in
-    let R = known tail .rule in
-    let (e, p, S) = searched R _ _ _ _ _ (first-place tail R (known tail .holds)) _ (cycle .find-cycle .ensures) in
-    (R, _, e, p, S)
+find-repeat-requires c κs = let pre = known (c .before) in (pre .rule, _, first-place (c .before) (pre .rule) (pre .holds))
 
 returns : tie.Need-returns
+unfolding RepeatFound
 returns c R holds =
-    let cycle = c .before .before .before .before in
-    let tail = cycle .before .before in
-    let (e, p, S) = searched R _ _ _ _ _ (first-place tail R holds) _ (cycle .find-cycle .ensures) in
+    let found = c .before .before in
+    let tail = found .before .before in
     judged-tail R _ _ _ _ _ _ (tail .letters-left2 .ensures)
-    (says-no R _ _ _ _ _ _ e p S _ (c .before .before .find-entry .ensures) _ (c .if1 .taken))
+    (says-no R _ _ _ (found .find-repeat .ensures R _ (first-place tail R holds)) _ (c .if1 .taken))
 
 first-node-requires : tie.Need-first-node-requires
 first-node-requires c κs = search needs
 
 node-name-requires : tie.Need-node-name-requires
+unfolding RepeatFound
 node-name-requires c κs =
-    let cycle = c .before .before .before .before .before in
-    let tail = cycle .before .before in
+    let found = c .before .before .before in
+    let tail = found .before .before in
     let R = known tail .rule in
-    let (e, p, S) = searched R _ _ _ _ _ (first-place tail R (known tail .holds)) _ (cycle .find-cycle .ensures) in
-    some-node R _ _ _ _ _ _ e p S _ (c .before .before .before .find-entry .ensures) [] (c .before .if1 .left) _ (c .first-node .ensures)
+    some-node R _ _ _ (found .find-repeat .ensures R _ (first-place tail R (known tail .holds))) [] (known tail .holds .states)
+    (c .before .if1 .left) _ (c .first-node .ensures)
 
 store-name-requires : tie.Need-store-name-requires
 store-name-requires c κs =
-    let tail = c .before .before .before .before .before .before .before .before .before in
+    let tail = c .before .before .before .before .before .before .before in
     (c .before .node-name .ensures .short, known tail .room)
 
-cast-t28 : tie.Need-cast-t28
-cast-t28 c = search needs
+cast-t26 : tie.Need-cast-t26
+cast-t26 c = search needs
 
 same-length : tie.Need-same-length
 same-length c = search needs
 
 returns-2 : tie.Need-returns-2
+unfolding RepeatFound
 returns-2 c R holds =
     let stored = c .before .before .before in
     let named = stored .before .before in
     let told = named .before in
-    let entry = told .before .before .before in
-    let cycle = entry .before .before in
-    let tail = cycle .before .before in
-    let (e, p, S) = searched R _ _ _ _ _ (first-place tail R holds) _ (cycle .find-cycle .ensures) in
+    let found = told .before .before .before in
+    let tail = found .before .before in
     judged-tail R _ _ _ _ _ _ (tail .letters-left2 .ensures)
-    (says-yes R _ _ _ _ _ _ e p S _ (entry .find-entry .ensures) _ (told .before .if1 .left) _ (told .first-node .ensures)
-    _ (named .node-name .ensures) _ (stored .store-name .ensures))
+    (says-yes R _ _ _ (found .find-repeat .ensures R _ (first-place tail R holds)) _ (holds .states) (told .before .if1 .left)
+    _ (told .first-node .ensures) _ (named .node-name .ensures) _ (stored .store-name .ensures))
 
 pub judge-walk-spec : {M : Type 1} → statement M
 judge-walk-spec =
@@ -143,12 +135,11 @@ judge-walk-spec =
     letters-left-requires
     read-letters-requires
     letters-left-requires-2
-    find-cycle-requires
-    find-entry-requires
+    find-repeat-requires
     returns
     first-node-requires
     node-name-requires
     store-name-requires
-    cast-t28
+    cast-t26
     same-length
     returns-2)

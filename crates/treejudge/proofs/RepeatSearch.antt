@@ -1,0 +1,170 @@
+-- The first repeat is found: by the search for period and entry, or at the cut of a long tail, where t(0) and t(1) have led to the same
+-- tree.
+use mathlib.Core.Path.{_≡_, refl, sym, _∙_, ap}
+use mathlib.Core.Bool.{Bool, true, false, not, cond}
+use mathlib.Core.List.{List, [], _++_}
+use Prim.Native.Nat.{ℕ, _-_, _≤_, _<_}
+use native.Mathlib.Omega.{arith}
+use lib.ListN.{length, take, drop, take-append-drop}
+use Rattle.table.specs.BitSet.{member}
+use Rattle.table.specs.Rule.{Rule}
+use Rattle.table.specs.Table.{Every}
+use Rattle.table.proofs.Every.{append-every}
+use Rattle.table.proofs.Logic.{clash}
+use Rattle.table.proofs.Parts.{to-end}
+use Rattle.word.specs.Walk.{rounds}
+use Rattle.word.proofs.Paths.{rounds-one}
+use Rattle.history.specs.Forest.{size}
+use Rattle.history.specs.Tree.{Tree}
+use Rattle.history.specs.Rounds.{readLetters, roundTree, FirstRepeat}
+use Rattle.history.specs.Following.{acceptedMap}
+use Rattle.history.proofs.TreesOfWalk.{round-next}
+use Rattle.history.proofs.RepeatExists.{repeat-exists}
+use Rattle.history.proofs.CycleVerdict.{member-node, verdict-yes, verdict-no}
+use Rattle.history.proofs.CutCycle.{cut-round, cut-rest, repeat-first, repeat-second, cut-repeat, cut-first, cut-none}
+use Rattle.tree.specs.PackedRows.{rowsIn}
+use Rattle.treejudge.specs.Reading.{Tables, Tabled, HoldsTree, Reads, ReadsTo}
+use Rattle.treejudge.specs.Names.{begunAt, Follows, FollowsOn, FollowsTo}
+use Rattle.treejudge.specs.SameRows.{sameRows}
+use Rattle.treejudge.specs.Cycles.{AtRound, CycleFound, Searched, EntryFound}
+use Rattle.treejudge.specs.Repeats.{RepeatOf}
+use Rattle.treejudge.specs.declared.letters.CountedRows.{CountedRows}
+use Rattle.treejudge.specs.declared.follow.Followed.{Followed}
+use Rattle.treejudge.specs.declared.cycle.Cycle.{Cycle}
+use Rattle.treejudge.proofs.NamesFollowed.{begun-follows}
+use Rattle.treejudge.proofs.SameTrees.{same-rows-same, same-trees-same}
+
+-- BY THE SEARCH
+
+-- it is done for the first repeat
+pub searched : (R : Rule) (u v : List ℕ) (tables : Tables) (k : ℕ) (first : CountedRows) → AtRound R u v tables k 0 first
+    → (cycle : Cycle) → CycleFound tables k v first cycle
+    → (entry : ℕ) × (period : ℕ) × Searched R u v tables k entry period first cycle
+unfolding CycleFound
+searched R u v tables k first at cycle found =
+    let t = at .holds in
+    let (e, p, F, _) = repeat-exists R (t .well) (t .some-set) (t .states) (t .sets) u v in
+    (e, p, record { place = at; repeat = F; cycle = found R u e p at F })
+
+module _ (R : Rule) (u v : List ℕ) (tables : Tables) (k e p : ℕ) (first : CountedRows) (cycle : Cycle)
+    (S : Searched R u v tables k e p first cycle) where
+  -- a number in the map is that of a node
+  node-of : (j : ℕ) → member (cycle .accepted) j ≡ true → j < size (roundTree R u v (cycle .power - 1))
+  node-of j m = member-node R u v e p (S .repeat) (cycle .power - 1) (S .cycle .late) j (rw (S .cycle .accepted) at m)
+
+  -- the tree that was held has the witnesses in the map
+  pub repeat-searched : (entry : ℕ) → EntryFound tables k v first cycle entry
+      → RepeatOf R u v (record { tree = cycle .held; accepted = cycle .accepted; entry = entry; period = cycle .period })
+  unfolding EntryFound
+  repeat-searched entry entered =
+      let C = S .cycle in
+      let t = S .place .holds in
+      let is : entry ≡ e = entered R u e p S in
+      record {
+        repeat = rw (is, C .back) (S .repeat);
+        tree = roundTree R u v (cycle .power - 1);
+        holds = C .held;
+        node = node-of;
+        lowest = λ j m low. rw (is, C .back) (verdict-yes R u v e p (S .repeat) (cycle .power - 1) (C .late) (t .well) (t .some-set)
+            j (node-of j m) (rw (C .accepted) at m) (rw (C .accepted) at low));
+        none = λ empty w W. verdict-no R u v e p (S .repeat) (cycle .power - 1) (C .late) (t .well) (t .some-set)
+            (sym (C .accepted) ∙ empty) w (rw (is, C .back) at W);
+      }
+
+-- AT THE CUT
+
+-- the two parts of a list that is cut
+pub two-parts : (cut : ℕ) (v : List ℕ) → take (cut - 0) v ++ take (length v - cut) (drop cut v) ≡ v
+two-parts cut v = let e : cut - 0 ≡ cut = omega arith in
+    rw (e, to-end cut v) (take-append-drop cut v)
+
+module _ (R : Rule) (u head rest : List ℕ) (tables : Tables) (k : ℕ) (first : CountedRows)
+    (A : AtRound R u (head ++ rest) tables k 0 first) where
+  abbrev t : ℕ → Tree
+  t = roundTree R u (head ++ rest)
+
+  -- the trees at the cut
+  abbrev s : ℕ → Tree
+  s = roundTree R (u ++ head) (rest ++ head)
+
+  -- the tables are those of the letters on both sides of the cut
+  parts : Every (Tabled R tables) head × Every (Tabled R tables) rest
+  parts = append-every (Tabled R tables) head rest (A .tabled)
+
+  -- the letters up to the cut are read from t(0)
+  pub head-reads : Reads R (t 0) tables k head first
+  head-reads = record { holds = A .holds; tabled = parts .0; tree = A .tree }
+
+  module _ (cut : CountedRows) (to : ReadsTo tables k head first cut) where
+    pub cut-holds : HoldsTree R (s 0) cut
+    unfolding ReadsTo
+    cut-holds = rw (cut-round R u head rest 0) (to R (t 0) head-reads)
+
+    -- the others are followed from there
+    module _ (begun : Followed) (is : begun ≡ begunAt cut) where
+      pub rest-follows : FollowsOn R (s 0) [] tables k rest begun
+      rest-follows = record { holds = A .holds; tabled = parts .1; follows = rw is (begun-follows R (s 0) cut cut-holds) }
+
+      module _ (second : Followed) (on : FollowsTo tables k rest begun second) where
+        -- to t(1)
+        at-second : Follows R (s 0) rest second
+        unfolding FollowsTo
+        at-second = on R (s 0) [] rest-follows
+
+        pub second-holds : HoldsTree R (t 1) (record { rows = second .rows; count = second .count })
+        second-holds = rw (← cut-rest R u head rest 0) (at-second .tree)
+
+        -- and on to the cut
+        pub head-follows : FollowsOn R (s 0) rest tables k head second
+        head-follows = record { holds = A .holds; tabled = parts .0; follows = at-second }
+
+        module _ (again : Followed) (back : FollowsTo tables k head second again) where
+          at-again : Follows R (s 0) (rest ++ head) again
+          unfolding FollowsTo
+          at-again = back R (s 0) rest head-follows
+
+          pub again-holds : HoldsTree R (s 1) (record { rows = again .rows; count = again .count })
+          again-holds = rw (round-next R (u ++ head) (rest ++ head) 0) (at-again .tree)
+
+          accepted-is : again .accepted ≡ acceptedMap R (s 0) (rounds 1 (rest ++ head))
+          accepted-is = at-again .accepted ∙ ap (acceptedMap R (s 0)) (sym (rounds-one (rest ++ head)))
+
+          -- where the two trees at the cut are the same, the repeat is that of t(0) or of t(1)
+          module _ (meet : s 0 ≡ s 1) where
+            repeat-at : (entry : ℕ) → FirstRepeat t entry 1 → entry ≤ 1
+                → RepeatOf R u (head ++ rest) (record { tree = cut; accepted = again .accepted; entry = entry; period = 1 })
+            repeat-at entry F late =
+                let h = A .holds in
+                let G = cut-repeat R u head rest meet in
+                let node : (j : ℕ) → member (again .accepted) j ≡ true → j < size (s 0) =
+                λ j m. member-node R (u ++ head) (rest ++ head) 0 1 G 0 (omega arith) j (rw accepted-is at m) in
+                record {
+                  repeat = F;
+                  tree = s 0;
+                  holds = cut-holds;
+                  node = node;
+                  lowest = λ j m low. cut-first R u head rest meet entry F late _
+                      (verdict-yes R (u ++ head) (rest ++ head) 0 1 G 0 (omega arith) (h .well) (h .some-set) j (node j m)
+                      (rw accepted-is at m) (rw accepted-is at low));
+                  none = λ empty. cut-none R u head rest meet entry F late
+                      (verdict-no R (u ++ head) (rest ++ head) 0 1 G 0 (omega arith) (h .well) (h .some-set) (sym accepted-is ∙ empty));
+                }
+
+            -- as the comparison of t(0) and t(1) says
+            repeat-told : (still : Bool)
+                → still ≡ sameRows (take (first .count) (rowsIn (first .rows))) (take (second .count) (rowsIn (second .rows)))
+                → RepeatOf R u (head ++ rest) (record { tree = cut; accepted = again .accepted; entry = cond (not still) 1 0; period = 1 })
+            repeat-told true is = repeat-at 0 (repeat-first R u head rest meet
+                (same-rows-same R (t 0) (t 1) first _ (A .holds .sets) (A .tree) second-holds (sym is))) (omega arith)
+            repeat-told false is = repeat-at 1 (repeat-second R u head rest meet
+                (λ e. clash (sym is) (same-trees-same R (t 1) first _ (rw e at (A .tree)) second-holds))) (omega arith)
+
+          -- the answer, by the two comparisons
+          pub repeat-early : (met still : Bool) (entry period : ℕ)
+              → met ≡ sameRows (take (cut .count) (rowsIn (cut .rows))) (take (again .count) (rowsIn (again .rows)))
+              → still ≡ sameRows (take (first .count) (rowsIn (first .rows))) (take (second .count) (rowsIn (second .rows)))
+              → entry ≡ cond (not still) 1 0 → period ≡ cond met 1 0 → period ≡ 1
+              → RepeatOf R u (head ++ rest) (record { tree = cut; accepted = again .accepted; entry = entry; period = period })
+          repeat-early false still entry period m q e none one = absurd (omega arith)
+          repeat-early true still entry period m q e some one = rw (e, one) (repeat-told
+              (same-rows-same R (s 0) (s 1) cut _ (A .holds .sets) cut-holds again-holds (sym m)) still q)
