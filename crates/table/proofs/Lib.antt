@@ -29,5 +29,6 @@ pub mod TableWriting
 pub mod WriteOutcome
 -- The look-up.
 pub mod Tabulate
+pub mod ByRelation
 pub mod LookupSteps
 pub mod LookupTable

@@ -1,48 +1,87 @@
 -- The steps by which the code makes a letter's table (specs/LookupSteps.antt) give the table of specs/Lookup.antt.
 use mathlib.Core.Path.{_≡_, refl, sym, _∙_, ap, ap₂}
-use mathlib.Core.Logic.{_⊎_, inl, inr}
-use mathlib.Core.Bool.{Bool, true, false, not, _&&_, cond}
+use mathlib.Core.Bool.{Bool, true, false, not, _&&_, _||_, cond, or-false}
 use mathlib.Core.List.{List, [], _++_}
 use Prim.Native.Nat.{ℕ, zero, suc, _+_, _*_, _-_, _/_, _%_, _^_, _<_}
 use native.Mathlib.Decide.{decLt, ℕ-discrete}
-use native.Mathlib.Nat.{pow-suc, one-mul, zero-mul}
-use native.Mathlib.Numerals.{add-one}
+use native.Mathlib.Nat.{pow-suc}
 use native.Mathlib.Omega.{arith}
-use borrow.Author.Tests.{eqb-true, eqb-false, eq-eqb}
-use lib.Bits.{bitOr}
-use lib.Dec.{eqb}
-use lib.ListN.{length, getD, set, replicate, length-append, length-set, List·getD-append}
-use lib.Pow.{pow-add, pow-mono, shl-exact}
+use borrow.Author.Tests.{eqb-true, eq-eqb, ne-eqb, lt-ltb, le-ltb}
+use lib.Bits.{bitAnd, bitOr}
+use lib.Dec.{eqb, ltb}
+use lib.ListN.{length, getD, set, length-append, length-set, List·getD-append}
+use lib.Pow.{pow-add, pow-mono}
 use lib.Seq.{ext-getD, getD-append-add, getD-set-same, getD-set-other}
-use Rattle.table.specs.Limits.{maxStates, maxSets, noTransition}
+use Rattle.table.specs.Limits.{maxStates, noTransition}
 use Rattle.table.specs.BitSet.{member, collect, some}
 use Rattle.table.specs.Rule.{cellAt, edge, edgeIn, image}
-use Rattle.table.specs.Lookup.{relationsOf, tabulate, relation, images, letterTable}
-use Rattle.table.specs.LookupSteps.{nextStates, rowMaps, joined, Filled}
-use Rattle.table.proofs.BitSet.{member-zero, member-suc, member-none, member-single, union-above, collect-ext, collect-more}
-use Rattle.table.proofs.BitSet.{some-in, some-out, image-none, image-union}
+use Rattle.table.specs.Lookup.{relationsOf, tabulate, relation, byRelation, images, LetterTable, letterTable}
+use Rattle.table.specs.LookupSteps.{spread, rowWord, Filled}
+use Rattle.table.proofs.BitSet.{member-zero, member-suc, member-none, member-single, member-mod, union-above, member-collect, collect-ext}
+use Rattle.table.proofs.BitSet.{some-in, some-out, image-none}
+use Rattle.table.proofs.ByRelation.{relations-ext, relations-none, relations-union}
 use Rattle.table.proofs.Holding.{any-default}
-use Rattle.table.proofs.Logic.{look, and-in, and-both, bool-ext}
-use Rattle.table.proofs.Tabulate.{length-tabulate, getD-tabulate, tabulate-ext}
+use Rattle.table.proofs.Logic.{clash, and-in, and-both, not-out, bool-ext}
+use Rattle.table.proofs.LookupTable.{images-union}
+use Rattle.table.proofs.Tabulate.{length-tabulate, getD-tabulate}
 
 -- A ROW
 
--- what the code computes for one relation: bit i of the relations, moved to place r
-bit-at : (relations i r : ℕ) → r < 16 → relations / 2 ^ i % 2 * 2 ^ r % 2 ^ 16 ≡ cond (member relations i) (2 ^ r) 0
-unfolding member
-bit-at relations i r h = shl-exact {a = relations / 2 ^ i % 2} 1 r 16 (omega arith) (omega arith) ∙ go (look (member relations i))
+-- values of two functions that a test below n finds the same
+same-below : (n : ℕ) (f g : ℕ → ℕ) → some n (λ x. not (eqb (f x) (g x))) ≡ false → (x : ℕ) → x < n → f x ≡ g x
+same-below n f g none x l = eqb-true (f x) (g x) (go (eqb (f x) (g x)) refl)
   where
-    go : (member relations i ≡ true) ⊎ (member relations i ≡ false) → relations / 2 ^ i % 2 * 2 ^ r ≡ cond (member relations i) (2 ^ r) 0
-    go (inl e) = rw (eqb-true (relations / 2 ^ i % 2) 1 e) (one-mul (2 ^ r))
-    go (inr e) = let z : relations / 2 ^ i % 2 ≡ 0 = omega (arith, eqb-false (relations / 2 ^ i % 2) 1 e) in rw z (zero-mul (2 ^ r))
+    go : (b : Bool) → eqb (f x) (g x) ≡ b → eqb (f x) (g x) ≡ true
+    go true e = e
+    go false e = clash none (some-in n (λ x. not (eqb (f x) (g x))) x l (not-out _ e))
 
--- the map of the next states below w + 1 of a row from that of those below w
-pub next-more : (w : ℕ) (row : List ℕ) (i map relations : ℕ) → length row ≡ maxStates → w < maxStates → map ≡ nextStates w row i
-    → relations ≡ relationsOf (getD row w 0) → bitOr map (relations / 2 ^ i % 2 * 2 ^ w % 2 ^ 16) ≡ nextStates (w + 1) row i
-unfolding nextStates
-next-more w row i map relations size inside passed is =
-    rw add-one (ap₂ bitOr passed (bit-at relations i w (omega arith) ∙ ap (λ (x : ℕ). cond (member x i) (2 ^ w) 0)
-    (is ∙ ap relationsOf (any-default row w 0 noTransition (omega arith)))) ∙ sym (collect-more w _))
+-- of the relations only those up to `maxSets` count
+spread-mod : (p relations : ℕ) → spread p (relations % 32) ≡ spread p relations
+unfolding spread
+spread-mod p relations = relations-ext _ _ (λ i r h l. ap (λ (b : Bool). eqb r p && b) (member-mod 5 relations i (omega arith)))
+
+-- the product and the mask
+pub spread-code : (relations : ℕ) → bitAnd (relations % 32 * 270549121) 4311810305 ≡ spread 0 relations
+unfolding spread byRelation collect some member
+spread-code relations = same-below 32 (λ x. bitAnd (x * 270549121) 4311810305) (spread 0) refl (relations % 32) (omega arith)
+    ∙ spread-mod 0 relations
+
+-- moved to place p
+spread-moved : (p relations : ℕ) → p < maxStates → spread 0 relations * 2 ^ p % 2 ^ 64 ≡ spread p relations
+unfolding spread byRelation collect some member
+spread-moved p relations h =
+    let x : ℕ = 32 * p + relations % 32 in
+    let place : x / 32 ≡ p = omega arith in
+    let which : x % 32 ≡ relations % 32 = omega arith in
+    rw (place, which, spread-mod 0 relations, spread-mod p relations) at
+    (same-below 256 (λ x. spread 0 (x % 32) * 2 ^ (x / 32) % 2 ^ 64) (λ x. spread (x / 32) (x % 32)) refl x (omega arith))
+
+-- no next states are below 0
+pub row-none : (row : List ℕ) → 0 ≡ rowWord 0 row
+unfolding rowWord
+row-none row = sym (relations-ext _ _ (λ i r h l. ap (λ (b : Bool). b && member (relationsOf (getD row r noTransition)) i)
+    (le-ltb r 0 (omega arith))) ∙ relations-none)
+
+-- the next states below w + 1 of a row from those below w
+pub row-more : (w : ℕ) (row : List ℕ) (word relations bits : ℕ) → length row ≡ maxStates → w < maxStates → word ≡ rowWord w row
+    → relations ≡ relationsOf (getD row w 0) → bits ≡ spread 0 relations → bitOr word (bits * 2 ^ w % 2 ^ 64) ≡ rowWord (w + 1) row
+unfolding rowWord spread
+row-more w row word relations bits size inside passed is spreads = ap₂ bitOr passed (ap (λ (x : ℕ). x * 2 ^ w % 2 ^ 64) spreads
+    ∙ spread-moved w relations inside) ∙ joins
+  where
+    byte : relations ≡ relationsOf (getD row w noTransition)
+    byte = is ∙ ap relationsOf (any-default row w 0 noTransition (omega arith))
+
+    go : (i r : ℕ) → Dec (r < w) → Dec (r ≡ w)
+        → ((ltb r w && member (relationsOf (getD row r noTransition)) i) || (eqb r w && member relations i))
+        ≡ (ltb r (w + 1) && member (relationsOf (getD row r noTransition)) i)
+    go i r (yes l) e = rw (lt-ltb r w l, lt-ltb r (w + 1) (omega arith), ne-eqb r w (λ z. omega arith)) (or-false _)
+    go i r (no l) (yes e) = rw (le-ltb r w (omega arith), lt-ltb r (w + 1) (omega arith), eq-eqb r w e, e)
+        (ap (λ (x : ℕ). member x i) byte)
+    go i r (no l) (no e) = rw (le-ltb r w (omega arith), le-ltb r (w + 1) (omega arith), ne-eqb r w e)
+
+    joins : bitOr (rowWord w row) (spread w relations) ≡ rowWord (w + 1) row
+    joins = relations-union _ _ ∙ relations-ext _ _ (λ i r h l. go i r (decLt r w) (ℕ-discrete r w))
 
 -- a byte's map of relations says which relations its transition stands in
 relation-byte : (square : List (List ℕ)) (i q r : ℕ)
@@ -76,54 +115,46 @@ image-single n E q h = collect-ext n _ _ (λ r l. bool-ext _ _ (into r) (from r)
     from : (r : ℕ) → E q r ≡ true → some n (λ p. member (2 ^ q) p && E p r) ≡ true
     from r e = some-in n _ q h (and-both (member (2 ^ q) q) (E q r) (member-single q q ∙ eq-eqb q q refl) e)
 
--- one more state, the highest: where it leads joins the image
-image-more : (n : ℕ) (E : ℕ → ℕ → Bool) (q j : ℕ) → j < 2 ^ q → image n E (2 ^ q + j) ≡ bitOr (image n E j) (image n E (2 ^ q))
-image-more n E q j h = ap (image n E) (sym (union-above q j h)) ∙ image-union n E j (2 ^ q)
-
 -- of the empty set
-images-none : (square : List (List ℕ)) → images square 0 ≡ replicate (suc maxSets) 0
-unfolding images tabulate
-images-none square = tabulate-ext (suc maxSets) _ (λ i. 0) (λ i h. image-none maxStates (relation square i))
+images-none : (square : List (List ℕ)) → images square 0 ≡ 0
+unfolding images
+images-none square = relations-ext _ _ (λ i r h l. ap (λ (x : ℕ). member x r) (image-none maxStates (relation square i)) ∙ member-none r)
+    ∙ relations-none
 
 -- of one state
-images-single : (square : List (List ℕ)) (q : ℕ) → q < maxStates → images square (2 ^ q) ≡ rowMaps (getD square q [])
-unfolding images rowMaps nextStates
-images-single square q h = tabulate-ext (suc maxSets) _ _ (λ i l. image-single maxStates (relation square i) q h
-    ∙ collect-ext maxStates _ _ (λ r k. relation-byte square i q r))
+images-single : (square : List (List ℕ)) (q : ℕ) → q < maxStates → images square (2 ^ q) ≡ rowWord maxStates (getD square q [])
+unfolding images rowWord
+images-single square q h = relations-ext _ _ (λ i r k l. ap (λ (x : ℕ). member x r) (image-single maxStates (relation square i) q h)
+    ∙ member-collect maxStates (relation square i q) r ∙ ap (λ (b : Bool). ltb r maxStates && b) (relation-byte square i q r))
 
 -- of a set with highest state q
 images-more : (square : List (List ℕ)) (q j : ℕ) → q < maxStates → j < 2 ^ q
-    → joined (images square j) (rowMaps (getD square q [])) ≡ images square (2 ^ q + j)
-unfolding images joined
-images-more square q j l h = rw (sym (images-single square q l)) (tabulate-ext (suc maxSets) _ _ (λ i k.
-    ap₂ bitOr (getD-tabulate (suc maxSets) _ i 0 k) (getD-tabulate (suc maxSets) _ i 0 k)
-    ∙ sym (image-more maxStates (relation square i) q j h)))
+    → bitOr (images square j) (rowWord maxStates (getD square q [])) ≡ images square (2 ^ q + j)
+images-more square q j l h = ap (bitOr (images square j)) (sym (images-single square q l)) ∙ sym (images-union square j (2 ^ q))
+    ∙ ap (images square) (union-above q j h)
 
 -- THE TABLE OF A LETTER
 
 -- before the first state: the empty set, in both halves
-pub filled-none : (square table : List (List ℕ)) → length table ≡ 32
-    → Filled square (2 ^ 0) (set (set table 0 (replicate (suc maxSets) 0)) 16 (replicate (suc maxSets) 0))
+pub filled-none : (square : List (List ℕ)) (table : LetterTable) → length table ≡ 32
+    → Filled square (2 ^ 0) (set (set table 0 0) 16 0)
 filled-none square table size = record { entries = simp length-set size; low = none-low; high = none-high }
   where
-    none : List ℕ
-    none = replicate (suc maxSets) 0
-
-    none-low : (j : ℕ) → j < 1 → getD (set (set table 0 none) 16 none) j [] ≡ images square j
+    none-low : (j : ℕ) → j < 1 → getD (set (set table 0 0) 16 0) j 0 ≡ images square j
     none-low j h = let e : j ≡ 0 = omega arith in
-        rw e (getD-set-other (set table 0 none) 16 0 none [] (λ z. omega arith) ∙ getD-set-same table 0 none [] (omega arith)
+        rw e (getD-set-other (set table 0 0) 16 0 0 0 (λ z. omega arith) ∙ getD-set-same table 0 0 0 (omega arith)
         ∙ sym (images-none square))
 
-    none-high : (j : ℕ) → j < 1 → getD (set (set table 0 none) 16 none) (16 + j) [] ≡ images square (16 * j)
+    none-high : (j : ℕ) → j < 1 → getD (set (set table 0 0) 16 0) (16 + j) 0 ≡ images square (16 * j)
     none-high j h = let e : j ≡ 0 = omega arith in
-        rw e (getD-set-same (set table 0 none) 16 none [] (omega (arith, length-set table 0 none)) ∙ sym (images-none square))
+        rw e (getD-set-same (set table 0 0) 16 0 0 (omega (arith, length-set table 0 0)) ∙ sym (images-none square))
 
--- one more entry in each half: a smaller set's images joined with those of the state q
-pub filled-more : (square : List (List ℕ)) (q made j : ℕ) (table : List (List ℕ)) → Filled square (made + j) table → made ≡ 2 ^ q → q < 4
-    → j < made → (x y : List ℕ) → x ≡ joined (getD table j []) (rowMaps (getD square q []))
-    → y ≡ joined (getD (set table (made + j) x) (16 + j) []) (rowMaps (getD square (4 + q) []))
-    → Filled square (made + (j + 1)) (set (set table (made + j) x) (16 + (made + j)) y)
-filled-more square q made j table v em hq hj x y ex ey =
+-- one more entry in each half: a smaller set's images joined with those of the state q, or 4 + q
+pub filled-more : (square : List (List ℕ)) (q made j : ℕ) (table : LetterTable) → Filled square (made + j) table → made ≡ 2 ^ q → q < 4
+    → j < made → (low high : ℕ) → low ≡ rowWord maxStates (getD square q []) → high ≡ rowWord maxStates (getD square (4 + q) [])
+    → let first = set table (made + j) (bitOr (getD table j 0) low) in
+    Filled square (made + (j + 1)) (set first (16 + (made + j)) (bitOr (getD first (16 + j) 0) high))
+filled-more square q made j table v em hq hj low high el eh =
     record { entries = simp length-set (v .entries); low = more-low; high = more-high }
   where
     c : ℕ
@@ -132,56 +163,61 @@ filled-more square q made j table v em hq hj x y ex ey =
     small : c < 16
     small = omega (arith, pow-suc 2 q, pow-mono {i = suc q} {j = 4} (omega arith))
 
+    x : ℕ
+    x = bitOr (getD table j 0) low
+
+    y : ℕ
+    y = bitOr (getD (set table c x) (16 + j) 0) high
+
     new-low : x ≡ images square c
-    new-low = ex ∙ ap (λ (z : List ℕ). joined z (rowMaps (getD square q []))) (v .low j (omega arith))
-        ∙ images-more square q j (omega arith) (omega arith) ∙ ap (λ (m : ℕ). images square (m + j)) (sym em)
+    new-low = ap₂ bitOr (v .low j (omega arith)) el ∙ images-more square q j (omega arith) (omega arith)
+        ∙ ap (λ (m : ℕ). images square (m + j)) (sym em)
 
     new-high : y ≡ images square (16 * c)
     new-high =
         let w : 2 ^ (4 + q) ≡ 16 * 2 ^ q = pow-add 2 4 q in
         let e : 2 ^ (4 + q) + 16 * j ≡ 16 * c = omega arith in
-        ey ∙ ap (λ (z : List ℕ). joined z (rowMaps (getD square (4 + q) [])))
-        (getD-set-other table c (16 + j) x [] (λ z. omega (arith, small)) ∙ v .high j (omega arith))
+        ap₂ bitOr (getD-set-other table c (16 + j) x 0 (λ z. omega (arith, small)) ∙ v .high j (omega arith)) eh
         ∙ images-more square (4 + q) (16 * j) (omega arith) (omega arith) ∙ ap (images square) e
 
-    more-low : (i : ℕ) → i < made + (j + 1) → getD (set (set table c x) (16 + c) y) i [] ≡ images square i
-    more-low i h = getD-set-other (set table c x) (16 + c) i y [] (λ e. omega arith) ∙ go (ℕ-discrete i c)
+    more-low : (i : ℕ) → i < made + (j + 1) → getD (set (set table c x) (16 + c) y) i 0 ≡ images square i
+    more-low i h = getD-set-other (set table c x) (16 + c) i y 0 (λ e. omega arith) ∙ go (ℕ-discrete i c)
       where
-        go : Dec (i ≡ c) → getD (set table c x) i [] ≡ images square i
-        go (yes e) = rw e (getD-set-same table c x [] (omega (arith, small, v .entries)) ∙ new-low)
-        go (no e) = getD-set-other table c i x [] e ∙ v .low i (omega arith)
+        go : Dec (i ≡ c) → getD (set table c x) i 0 ≡ images square i
+        go (yes e) = rw e (getD-set-same table c x 0 (omega (arith, small, v .entries)) ∙ new-low)
+        go (no e) = getD-set-other table c i x 0 e ∙ v .low i (omega arith)
 
-    more-high : (i : ℕ) → i < made + (j + 1) → getD (set (set table c x) (16 + c) y) (16 + i) [] ≡ images square (16 * i)
+    more-high : (i : ℕ) → i < made + (j + 1) → getD (set (set table c x) (16 + c) y) (16 + i) 0 ≡ images square (16 * i)
     more-high i h = go (ℕ-discrete i c)
       where
-        go : Dec (i ≡ c) → getD (set (set table c x) (16 + c) y) (16 + i) [] ≡ images square (16 * i)
-        go (yes e) = rw e (getD-set-same (set table c x) (16 + c) y [] (omega (arith, small, length-set table c x, v .entries)) ∙ new-high)
-        go (no e) = getD-set-other (set table c x) (16 + c) (16 + i) y [] (λ z. e (omega arith))
-            ∙ getD-set-other table c (16 + i) x [] (λ z. omega (arith, small)) ∙ v .high i (omega arith)
+        go : Dec (i ≡ c) → getD (set (set table c x) (16 + c) y) (16 + i) 0 ≡ images square (16 * i)
+        go (yes e) = rw e (getD-set-same (set table c x) (16 + c) y 0 (omega (arith, small, length-set table c x, v .entries)) ∙ new-high)
+        go (no e) = getD-set-other (set table c x) (16 + c) (16 + i) y 0 (λ z. e (omega arith))
+            ∙ getD-set-other table c (16 + i) x 0 (λ z. omega (arith, small)) ∙ v .high i (omega arith)
 
 -- all sixteen entries of each half
-pub filled-all : (square table : List (List ℕ)) → Filled square 16 table → table ≡ letterTable square
+pub filled-all : (square : List (List ℕ)) (table : LetterTable) → Filled square 16 table → table ≡ letterTable square
 unfolding letterTable
-filled-all square table v = ext-getD [] table (lows ++ highs)
+filled-all square table v = ext-getD 0 table (lows ++ highs)
     (v .entries ∙ sym (length-append lows highs ∙ ap₂ _+_ (length-tabulate 16 low) (length-tabulate 16 high))) (λ i h. go i h (decLt i 16))
   where
-    low : ℕ → List ℕ
+    low : ℕ → ℕ
     low j = images square j
 
-    high : ℕ → List ℕ
+    high : ℕ → ℕ
     high j = images square (16 * j)
 
-    lows : List (List ℕ)
+    lows : LetterTable
     lows = tabulate 16 low
 
-    highs : List (List ℕ)
+    highs : LetterTable
     highs = tabulate 16 high
 
-    go : (i : ℕ) → i < length table → Dec (i < 16) → getD table i [] ≡ getD (lows ++ highs) i []
-    go i h (yes k) = v .low i k ∙ sym (List·getD-append lows highs [] i (omega (arith, length-tabulate 16 low))
-        ∙ getD-tabulate 16 low i [] k)
+    go : (i : ℕ) → i < length table → Dec (i < 16) → getD table i 0 ≡ getD (lows ++ highs) i 0
+    go i h (yes k) = v .low i k ∙ sym (List·getD-append lows highs 0 i (omega (arith, length-tabulate 16 low))
+        ∙ getD-tabulate 16 low i 0 k)
     go i h (no k) =
         let e : i ≡ 16 + (i - 16) = omega arith in
         let l : i - 16 < 16 = omega (arith, v .entries) in
-        rw e (v .high (i - 16) l ∙ sym (ap (λ (n : ℕ). getD (lows ++ highs) (n + (i - 16)) []) (sym (length-tabulate 16 low))
-        ∙ getD-append-add lows highs (i - 16) [] ∙ getD-tabulate 16 high (i - 16) [] l))
+        rw e (v .high (i - 16) l ∙ sym (ap (λ (n : ℕ). getD (lows ++ highs) (n + (i - 16)) 0) (sym (length-tabulate 16 low))
+        ∙ getD-append-add lows highs (i - 16) 0 ∙ getD-tabulate 16 high (i - 16) 0 l))

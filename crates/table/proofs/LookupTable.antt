@@ -5,15 +5,19 @@ use mathlib.Core.Bool.{Bool, _&&_}
 use mathlib.Core.List.{List, [], _++_}
 use Prim.Native.Nat.{ℕ, zero, suc, _+_, _*_, _/_, _%_, _^_, _≤_}
 use native.Mathlib.Omega.{arith}
+use borrow.Author.Tests.{lt-ltb}
 use lib.Bits.{bitOr, or-shifted-r}
 use lib.ListN.{length, getD, List·getD-append}
 use lib.Seq.{getD-append-add}
 use Rattle.table.specs.Limits.{maxStates, maxSets}
+use Rattle.table.specs.BitSet.{member}
 use Rattle.table.specs.Rule.{Rule, cellAt, edge, edgeIn, image, successors, successorsIn}
 use Rattle.table.specs.Table.{WellFormed}
 use Rattle.table.specs.Held.{held}
-use Rattle.table.specs.Lookup.{tabulate, relation, images, letterTable, lookUp}
-use Rattle.table.proofs.BitSet.{member-mod, collect-ext, some-ext, image-union}
+use Rattle.table.specs.Lookup.{tabulate, relation, images, LetterTable, letterTable, lookUp}
+use Rattle.table.proofs.BitSet.{member-union, member-mod, set-ext-below, member-collect, collect-lt, collect-ext, some-ext}
+use Rattle.table.proofs.BitSet.{image-lt, image-union}
+use Rattle.table.proofs.ByRelation.{relations-ext, relations-union, relations-at}
 use Rattle.table.proofs.Holding.{image-held, image-held-in}
 use Rattle.table.proofs.Tabulate.{length-tabulate, getD-tabulate}
 
@@ -22,41 +26,44 @@ image-mod : (n : ℕ) (E : ℕ → ℕ → Bool) (s : ℕ) → image n E (s % 2 
 unfolding image
 image-mod n E s = collect-ext n _ _ (λ r hr. some-ext n _ _ (λ q hq. ap (λ (b : Bool). b && E q r) (member-mod n s q hq)))
 
--- an image from a table's entry
-image-at : (square : List (List ℕ)) (i s : ℕ) → i ≤ maxSets → getD (images square s) i 0 ≡ image maxStates (relation square i) s
+-- a union leads where its parts lead, by each relation
+pub images-union : (square : List (List ℕ)) (s t : ℕ) → images square (bitOr s t) ≡ bitOr (images square s) (images square t)
 unfolding images
-image-at square i s h = getD-tabulate (suc maxSets) _ i 0 (omega arith)
+images-union square s t = relations-ext _ _ (λ i r h l. ap (λ (x : ℕ). member x r) (image-union maxStates (relation square i) s t)
+    ∙ member-union _ _ r) ∙ sym (relations-union _ _)
+
+-- an image from a table's entry
+images-at : (square : List (List ℕ)) (i s : ℕ) → i ≤ maxSets
+    → images square s / 2 ^ (maxStates * i) % 2 ^ maxStates ≡ image maxStates (relation square i) s
+unfolding images
+images-at square i s h = relations-at (λ i r. member (image maxStates (relation square i) s) r) i h
+    ∙ set-ext-below maxStates _ _ (collect-lt maxStates _) (image-lt maxStates (relation square i) s) (λ r l. member-collect maxStates _ r
+    ∙ ap (λ (b : Bool). b && member (image maxStates (relation square i) s) r) (lt-ltb r maxStates l))
 
 -- the look-up in a letter's table gives the image under the letter's relation i: all transitions at 0, those of set i at i
 pub look-up-image : (square : List (List ℕ)) (i s : ℕ) → i ≤ maxSets
     → lookUp (letterTable square) i s ≡ image maxStates (relation square i) s
 unfolding lookUp letterTable
-look-up-image square i s h =
-    ap₂ bitOr (ap (λ (t : List ℕ). getD t i 0) first ∙ entry (s % 16)) (ap (λ (t : List ℕ). getD t i 0) second ∙ entry (16 * (s / 16 % 16)))
-    ∙ sym (image-union maxStates E (s % 16) (16 * (s / 16 % 16))) ∙ ap (image maxStates E) both ∙ image-mod maxStates E s
+look-up-image square i s h = ap (λ (x : ℕ). x / 2 ^ (maxStates * i) % 2 ^ maxStates) (ap₂ bitOr first second
+    ∙ sym (images-union square (s % 16) (16 * (s / 16 % 16))) ∙ ap (images square) both)
+    ∙ images-at square i (s % 2 ^ maxStates) h ∙ image-mod maxStates (relation square i) s
   where
-    E : ℕ → ℕ → Bool
-    E = relation square i
-
-    low : List (List ℕ)
+    low : LetterTable
     low = tabulate 16 (λ j. images square j)
 
-    high : List (List ℕ)
+    high : LetterTable
     high = tabulate 16 (λ j. images square (16 * j))
 
     size : length low ≡ 16
     size = length-tabulate 16 (λ j. images square j)
 
-    first : getD (low ++ high) (s % 16) [] ≡ images square (s % 16)
-    first = List·getD-append low high [] (s % 16) (omega (arith, size))
-        ∙ getD-tabulate 16 (λ j. images square j) (s % 16) [] (omega arith)
+    first : getD (low ++ high) (s % 16) 0 ≡ images square (s % 16)
+    first = List·getD-append low high 0 (s % 16) (omega (arith, size))
+        ∙ getD-tabulate 16 (λ j. images square j) (s % 16) 0 (omega arith)
 
-    second : getD (low ++ high) (16 + s / 16 % 16) [] ≡ images square (16 * (s / 16 % 16))
-    second = ap (λ (n : ℕ). getD (low ++ high) (n + s / 16 % 16) []) (sym size) ∙ getD-append-add low high (s / 16 % 16) []
-        ∙ getD-tabulate 16 (λ j. images square (16 * j)) (s / 16 % 16) [] (omega arith)
-
-    entry : (c : ℕ) → getD (images square c) i 0 ≡ image maxStates E c
-    entry c = image-at square i c h
+    second : getD (low ++ high) (16 + s / 16 % 16) 0 ≡ images square (16 * (s / 16 % 16))
+    second = ap (λ (n : ℕ). getD (low ++ high) (n + s / 16 % 16) 0) (sym size) ∙ getD-append-add low high (s / 16 % 16) 0
+        ∙ getD-tabulate 16 (λ j. images square (16 * j)) (s / 16 % 16) 0 (omega arith)
 
     both : bitOr (s % 16) (16 * (s / 16 % 16)) ≡ s % 2 ^ maxStates
     both = let e : 16 * (s / 16 % 16) ≡ s / 16 % 16 * 2 ^ 4 = omega arith in

@@ -2,11 +2,12 @@
 -- lowest four bits, then of those within the next four. Two entries give the image of any set.
 use mathlib.Core.Bool.{Bool, cond}
 use mathlib.Core.List.{List, [], _∷_, _++_}
-use Prim.Native.Nat.{ℕ, zero, suc, _+_, _*_, _/_, _%_}
+use Prim.Native.Nat.{ℕ, zero, suc, _+_, _*_, _/_, _%_, _^_}
 use lib.Bits.{bitOr}
 use lib.Dec.{eqb}
 use lib.ListN.{getD}
 use Rattle.table.specs.Limits.{maxStates, maxSets, noTransition}
+use Rattle.table.specs.BitSet.{member, collect}
 use Rattle.table.specs.Rule.{edge, edgeIn, image}
 
 -- f 0, f 1, .., f (n−1)
@@ -23,13 +24,17 @@ relation square (suc i) q r = edgeIn (square ∷ []) (suc i) 0 q r
 unfoldable pub relationsOf : ℕ → ℕ
 relationsOf x = cond (eqb x noTransition) 0 (1 + 2 * x)
 
+-- a map of states for each relation, in one number: bit 8·i + r stands where r is in the map for relation i
+unfoldable pub byRelation : (ℕ → ℕ → Bool) → ℕ
+byRelation f = collect (maxStates * suc maxSets) (λ b. f (b / maxStates) (b % maxStates))
+
 -- the images of s: under all transitions, then by those of each set
-unfoldable pub images : List (List ℕ) → ℕ → List ℕ
-images square s = tabulate (suc maxSets) (λ i. image maxStates (relation square i) s)
+unfoldable pub images : List (List ℕ) → ℕ → ℕ
+images square s = byRelation (λ i r. member (image maxStates (relation square i) s) r)
 
 -- a letter's table: the images of some sets, one entry each
 abbrev pub LetterTable : Type 0
-LetterTable = List (List ℕ)
+LetterTable = List ℕ
 
 -- the table of a letter: the images of the sets 0 to 15, then of their multiples by 16
 unfoldable pub letterTable : List (List ℕ) → LetterTable
@@ -37,4 +42,4 @@ letterTable square = tabulate 16 (λ j. images square j) ++ tabulate 16 (λ j. i
 
 -- the image of s by a table: under all transitions at i = 0, by those of set i at i
 unfoldable pub lookUp : LetterTable → ℕ → ℕ → ℕ
-lookUp table i s = bitOr (getD (getD table (s % 16) []) i 0) (getD (getD table (16 + s / 16 % 16) []) i 0)
+lookUp table i s = bitOr (getD table (s % 16) 0) (getD table (16 + s / 16 % 16) 0) / 2 ^ (maxStates * i) % 2 ^ maxStates

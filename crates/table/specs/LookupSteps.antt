@@ -1,27 +1,24 @@
 -- The steps by which the code makes a letter's look-up table. Only contracts of private functions cite these.
 use mathlib.Core.Path.{_≡_}
-use mathlib.Core.List.{List, []}
-use Prim.Native.Nat.{ℕ, suc, _+_, _*_, _<_}
-use lib.Bits.{bitOr}
+use mathlib.Core.Bool.{_&&_}
+use mathlib.Core.List.{List}
+use Prim.Native.Nat.{ℕ, _+_, _*_, _<_}
+use lib.Dec.{eqb, ltb}
 use lib.ListN.{length, getD}
-use Rattle.table.specs.Limits.{maxStates, maxSets, noTransition}
-use Rattle.table.specs.BitSet.{member, collect}
-use Rattle.table.specs.Lookup.{tabulate, relationsOf, images}
+use Rattle.table.specs.Limits.{noTransition}
+use Rattle.table.specs.BitSet.{member}
+use Rattle.table.specs.Lookup.{LetterTable, relationsOf, byRelation, images}
 
--- the map of the next states below w of a row, by relation i
-unfoldable pub nextStates : ℕ → List ℕ → ℕ → ℕ
-nextStates w row i = collect w (λ r. member (relationsOf (getD row r noTransition)) i)
+-- state p alone in the map for each member of `relations`, no state in the other maps
+unfoldable pub spread : ℕ → ℕ → ℕ
+spread p relations = byRelation (λ i r. eqb r p && member relations i)
 
--- the maps of a row's next states, one for each relation
-unfoldable pub rowMaps : List ℕ → List ℕ
-rowMaps row = tabulate (suc maxSets) (nextStates maxStates row)
-
--- the unions of maps, one for each relation
-unfoldable pub joined : List ℕ → List ℕ → List ℕ
-joined a b = tabulate (suc maxSets) (λ i. bitOr (getD a i 0) (getD b i 0))
+-- the next states below w of a row, by each relation
+unfoldable pub rowWord : ℕ → List ℕ → ℕ
+rowWord w row = byRelation (λ i r. ltb r w && member (relationsOf (getD row r noTransition)) i)
 
 -- the first c entries of each half of a letter's table are made
-pub record Filled (square : List (List ℕ)) (c : ℕ) (table : List (List ℕ)) : Type 0 where
+pub record Filled (square : List (List ℕ)) (c : ℕ) (table : LetterTable) : Type 0 where
   pub entries : length table ≡ 32
-  pub low : (j : ℕ) → j < c → getD table j [] ≡ images square j
-  pub high : (j : ℕ) → j < c → getD table (16 + j) [] ≡ images square (16 * j)
+  pub low : (j : ℕ) → j < c → getD table j 0 ≡ images square j
+  pub high : (j : ℕ) → j < c → getD table (16 + j) 0 ≡ images square (16 * j)

@@ -6,7 +6,6 @@ use crate::step::step_rows;
 use crate::writing::put_record;
 use table::limits::LETTERS;
 use table::limits::NO_TRANSITION;
-use table::limits::SETS;
 use table::limits::STATES;
 use table::lookup::ENTRIES;
 use table::lookup::fill_table;
@@ -100,7 +99,7 @@ pub fn step(table: &[u8], letter: u8, bytes: &[u8], buffer: &mut [u8]) -> StepAn
             if buffer.len() < Tree::RECORD {
                 return step_refusal(10);
             }
-            let mut letter_table = [[0u16; SETS + 1]; ENTRIES];
+            let mut letter_table = [0u64; ENTRIES];
             fill_table(&cells[a], &mut letter_table);
             let mut sides = [[0u64; PLACES]; 2];
             let rows = tree.rows;

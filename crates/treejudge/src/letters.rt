@@ -1,7 +1,6 @@
 // Reading letters: the tables of the letters that occur in a walk are made once, and a letter is one step over the rows of a tree.
 use table::limits::Cells;
 use table::limits::LETTERS;
-use table::limits::SETS;
 use table::lookup::ENTRIES;
 use table::lookup::LetterTable;
 use table::lookup::fill_table;
@@ -41,7 +40,7 @@ pub fn occurring(w: &[u8], others: u16) -> u16
 pub fn tables_of(cells: &Cells, letters: u16) -> AllTables
     ensures { λ r. ⌜ TablesOf letters (now (cells .entry)) r ⌝ }
 {
-    let mut tables = [[[0u16; SETS + 1]; ENTRIES]; LETTERS];
+    let mut tables = [[0u64; ENTRIES]; LETTERS];
     let mut letter = 0usize;
     while letter < LETTERS {
         if (letters >> letter) % 2 == 1 {

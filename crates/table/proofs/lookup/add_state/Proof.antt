@@ -1,11 +1,11 @@
 -- `add_state` meets its contract. The loop stores the entries of the sets with the highest state q, in order.
 use borrow.Author.Needs.{needs}
-use mathlib.Core.Path.{_≡_, _∙_, ap, subst}
+use mathlib.Core.Path.{_≡_, _∙_, subst}
 use Prim.Native.Nat.{ℕ, suc, _+_, _*_, _-_, _%_, _^_, _≤_}
 use native.Mathlib.Nat.{pow-suc, one-mul, add-zero}
 use native.Mathlib.Omega.{arith}
 use lib.Pow.{pow-mono, shl-exact}
-use Rattle.table.specs.LookupSteps.{joined, Filled}
+use Rattle.table.specs.LookupSteps.{Filled}
 use Rattle.table.proofs.LookupSteps.{filled-more}
 use Rattle.table.proofs.lookup.add_state.Statement.{statement}
 use Rattle.table.proofs.lookup.add_state.Tie as tie
@@ -16,26 +16,26 @@ Inv-loop table₀ square q low high made j₀ table j = (made ≡ 2 ^ q) × (mad
 abbrev μ-loop : tie.MeasureT-loop
 μ-loop table₀ square q low high made j₀ table j = made - j
 
-mul-row-maps : tie.Need-mul-row-maps Inv-loop μ-loop
-mul-row-maps c = search needs
+mul-row-word : tie.Need-mul-row-word Inv-loop μ-loop
+mul-row-word c = search needs
 
-index-1-row-maps : tie.Need-index-1-row-maps Inv-loop μ-loop
-index-1-row-maps c = search needs
+index-1-row-word : tie.Need-index-1-row-word Inv-loop μ-loop
+index-1-row-word c = search needs
 
-row-maps-requires : tie.Need-row-maps-requires Inv-loop μ-loop
-row-maps-requires c κs = search needs
+row-word-requires : tie.Need-row-word-requires Inv-loop μ-loop
+row-word-requires c κs = search needs
 
-add-row-maps : tie.Need-add-row-maps Inv-loop μ-loop
-add-row-maps c = search needs
+add-row-word : tie.Need-add-row-word Inv-loop μ-loop
+add-row-word c = search needs
 
-mul-row-maps-2 : tie.Need-mul-row-maps-2 Inv-loop μ-loop
-mul-row-maps-2 c = search needs
+mul-row-word-2 : tie.Need-mul-row-word-2 Inv-loop μ-loop
+mul-row-word-2 c = search needs
 
-index-1-row-maps-2 : tie.Need-index-1-row-maps-2 Inv-loop μ-loop
-index-1-row-maps-2 c = search needs
+index-1-row-word-2 : tie.Need-index-1-row-word-2 Inv-loop μ-loop
+index-1-row-word-2 c = search needs
 
-row-maps-requires-2 : tie.Need-row-maps-requires-2 Inv-loop μ-loop
-row-maps-requires-2 c κs = search needs
+row-word-requires-2 : tie.Need-row-word-requires-2 Inv-loop μ-loop
+row-word-requires-2 c κs = search needs
 
 shl-made : tie.Need-shl-made Inv-loop μ-loop
 shl-made c = search needs
@@ -51,41 +51,35 @@ loop-holds c =
 add-set : tie.Need-add-set Inv-loop μ-loop
 add-set c = search needs
 
-mul-joined : tie.Need-mul-joined Inv-loop μ-loop
-mul-joined c = search needs
-
-element-copy-out-joined : tie.Need-element-copy-out-joined Inv-loop μ-loop
-element-copy-out-joined c = search needs
-
-joined-requires : tie.Need-joined-requires Inv-loop μ-loop
-joined-requires c κs = search needs
-
 mul-table : tie.Need-mul-table Inv-loop μ-loop
 mul-table c = search needs
 
-element-set-from-table : tie.Need-element-set-from-table Inv-loop μ-loop
-element-set-from-table c = search needs
+element-copy-out-table : tie.Need-element-copy-out-table Inv-loop μ-loop
+element-copy-out-table c = search needs
 
-add-joined : tie.Need-add-joined Inv-loop μ-loop
-add-joined c = search needs
+mul-table-2 : tie.Need-mul-table-2 Inv-loop μ-loop
+mul-table-2 c = search needs
 
-mul-joined-2 : tie.Need-mul-joined-2 Inv-loop μ-loop
-mul-joined-2 c = search needs
+element-write-table : tie.Need-element-write-table Inv-loop μ-loop
+element-write-table c = search needs
 
-element-copy-out-joined-2 : tie.Need-element-copy-out-joined-2 Inv-loop μ-loop
-element-copy-out-joined-2 c = search needs
+add-table : tie.Need-add-table Inv-loop μ-loop
+add-table c = search needs
 
-joined-requires-2 : tie.Need-joined-requires-2 Inv-loop μ-loop
-joined-requires-2 c κs = search needs
+mul-table-3 : tie.Need-mul-table-3 Inv-loop μ-loop
+mul-table-3 c = search needs
 
-add-t28 : tie.Need-add-t28 Inv-loop μ-loop
-add-t28 c = search needs
+element-copy-out-table-2 : tie.Need-element-copy-out-table-2 Inv-loop μ-loop
+element-copy-out-table-2 c = search needs
 
-mul-t29 : tie.Need-mul-t29 Inv-loop μ-loop
-mul-t29 c = search needs
+add-table-2 : tie.Need-add-table-2 Inv-loop μ-loop
+add-table-2 c = search needs
 
-element-set-from-table-2 : tie.Need-element-set-from-table-2 Inv-loop μ-loop
-element-set-from-table-2 c = search needs
+mul-table-4 : tie.Need-mul-table-4 Inv-loop μ-loop
+mul-table-4 c = search needs
+
+element-write-table-2 : tie.Need-element-write-table-2 Inv-loop μ-loop
+element-write-table-2 c = search needs
 
 add-j : tie.Need-add-j Inv-loop μ-loop
 add-j c = search needs
@@ -95,14 +89,13 @@ loop-less c = search needs
 
 loop-again : tie.Need-loop-again Inv-loop μ-loop
 loop-again c =
-    let turn = c .before .before .before .before .before in
+    let turn = c .before .before .before in
     let inv = turn .loop .inv in (
       inv .0,
       inv .1,
       omega arith,
       filled-more _ _ _ _ _ (inv .3) (inv .0) (omega arith) (omega arith) _ _
-          (c .before .before .joined .ensures ∙ ap (joined _) (turn .before .before .before .row-maps .ensures))
-          (c .joined2 .ensures ∙ ap (joined _) (turn .before .row-maps2 .ensures)),
+          (turn .before .before .before .row-word .ensures) (turn .before .row-word2 .ensures),
     )
 
 returns : tie.Need-returns Inv-loop μ-loop
@@ -119,28 +112,26 @@ add-state-spec =
     (tie.spec
     Inv-loop
     μ-loop
-    mul-row-maps
-    index-1-row-maps
-    row-maps-requires
-    add-row-maps
-    mul-row-maps-2
-    index-1-row-maps-2
-    row-maps-requires-2
+    mul-row-word
+    index-1-row-word
+    row-word-requires
+    add-row-word
+    mul-row-word-2
+    index-1-row-word-2
+    row-word-requires-2
     shl-made
     loop-holds
     add-set
-    mul-joined
-    element-copy-out-joined
-    joined-requires
     mul-table
-    element-set-from-table
-    add-joined
-    mul-joined-2
-    element-copy-out-joined-2
-    joined-requires-2
-    add-t28
-    mul-t29
-    element-set-from-table-2
+    element-copy-out-table
+    mul-table-2
+    element-write-table
+    add-table
+    mul-table-3
+    element-copy-out-table-2
+    add-table-2
+    mul-table-4
+    element-write-table-2
     add-j
     loop-less
     loop-again

@@ -15,11 +15,11 @@ Inv-loop square table₀ q₀ table q = (q ≤ 4) × Filled square (2 ^ q) table
 abbrev μ-loop : tie.MeasureT-loop
 μ-loop square table₀ q₀ table q = 4 - q
 
-slice-set-from-entries : tie.Need-slice-set-from-entries Inv-loop μ-loop
-slice-set-from-entries c = search needs
+slice-write-entries : tie.Need-slice-write-entries Inv-loop μ-loop
+slice-write-entries c = search needs
 
-slice-set-from-entries-2 : tie.Need-slice-set-from-entries-2 Inv-loop μ-loop
-slice-set-from-entries-2 c = search needs
+slice-write-entries-2 : tie.Need-slice-write-entries-2 Inv-loop μ-loop
+slice-write-entries-2 c = search needs
 
 loop-holds : tie.Need-loop-holds Inv-loop μ-loop
 loop-holds c = (omega arith, filled-none _ (c .before .args .table .now) (c .entries .given .0 .1))
@@ -42,4 +42,4 @@ returns c = let all : c .before .loop .q ≡ 4 = omega arith in filled-all _ _ (
 pub fill-table-spec : {M : Type 1} → statement M
 fill-table-spec =
     tie.close
-    (tie.spec Inv-loop μ-loop slice-set-from-entries slice-set-from-entries-2 loop-holds add-state-requires add-q loop-less loop-again returns)
+    (tie.spec Inv-loop μ-loop slice-write-entries slice-write-entries-2 loop-holds add-state-requires add-q loop-less loop-again returns)

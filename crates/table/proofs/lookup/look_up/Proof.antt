@@ -4,32 +4,29 @@ use Rattle.table.specs.Lookup.{lookUp}
 use Rattle.table.proofs.lookup.look_up.Statement.{statement}
 use Rattle.table.proofs.lookup.look_up.Tie as tie
 
+mul-word : tie.Need-mul-word
+mul-word c = search needs
+
+element-copy-out-word : tie.Need-element-copy-out-word
+element-copy-out-word c = search needs
+
+add-word : tie.Need-add-word
+add-word c = search needs
+
+mul-word-2 : tie.Need-mul-word-2
+mul-word-2 c = search needs
+
+element-copy-out-word-2 : tie.Need-element-copy-out-word-2
+element-copy-out-word-2 c = search needs
+
 mul-result : tie.Need-mul-result
 mul-result c = search needs
 
-mul-result-2 : tie.Need-mul-result-2
-mul-result-2 c = search needs
+shr-result : tie.Need-shr-result
+shr-result c = search needs
 
-index-1-result : tie.Need-index-1-result
-index-1-result c = search needs
-
-index-2-result : tie.Need-index-2-result
-index-2-result c = search needs
-
-add-result : tie.Need-add-result
-add-result c = search needs
-
-mul-result-3 : tie.Need-mul-result-3
-mul-result-3 c = search needs
-
-mul-result-4 : tie.Need-mul-result-4
-mul-result-4 c = search needs
-
-index-1-result-2 : tie.Need-index-1-result-2
-index-1-result-2 c = search needs
-
-index-2-result-2 : tie.Need-index-2-result-2
-index-2-result-2 c = search needs
+cast-result : tie.Need-cast-result
+cast-result c = search needs
 
 returns : tie.Need-returns
 unfolding lookUp
@@ -39,13 +36,12 @@ pub look-up-spec : {M : Type 1} → statement M
 look-up-spec =
     tie.close
     (tie.spec
+    mul-word
+    element-copy-out-word
+    add-word
+    mul-word-2
+    element-copy-out-word-2
     mul-result
-    mul-result-2
-    index-1-result
-    index-2-result
-    add-result
-    mul-result-3
-    mul-result-4
-    index-1-result-2
-    index-2-result-2
+    shr-result
+    cast-result
     returns)
