@@ -17,11 +17,10 @@ use Rattle.history.proofs.CycleFinding.{BrentSoFar, Skips, brent-start, none-sk
 use Rattle.history.proofs.CycleFinding.{brent-found, lam-steps, power-doubles, brent-measure}
 use Rattle.tree.specs.PackedRows.{rowsIn}
 use Rattle.treejudge.specs.Reading.{Tables}
-use Rattle.treejudge.specs.Names.{Follows, FollowsOn, FollowsTo, begunAt}
+use Rattle.treejudge.specs.Names.{Followed, Follows, FollowsOn, FollowsTo, begunAt}
 use Rattle.treejudge.specs.SameRows.{sameRows}
 use Rattle.treejudge.specs.Cycles.{AtRound, CycleOf}
 use Rattle.treejudge.specs.declared.letters.CountedRows.{CountedRows}
-use Rattle.treejudge.specs.declared.follow.Followed.{Followed}
 use Rattle.treejudge.proofs.NamesFollowed.{begun-follows}
 use Rattle.treejudge.proofs.RoundsRead.{both-small, rows-same, rows-differ}
 

@@ -76,10 +76,10 @@ module _ {R : Rule} {u v : List ℕ} {tables : Tables} {k entry period : ℕ} {f
     pub entry-from-half : c .half ≤ entry
     entry-from-half = S .cycle .skips (omega (arith, S .cycle .back))
 
-    module _ {x : CountedRows} (read : ReadsTo tables k v (c .before) x) where
+    module _ {x : CountedRows} (read : Ahead tables k v 1 (c .before) x) where
       pub half-place : AtRound R u v tables k (c .half) x
       half-place = let e : c .half - 1 + 1 ≡ c .half = omega (arith, S .repeat .positive, S .cycle .back) in
-          rw e at (round-read before-place read)
+          rw e at (rounds-read before-place 1 read)
 
       -- so the search may begin there
       pub bracket-half : {y : CountedRows} → Ahead tables k v (c .period) x y

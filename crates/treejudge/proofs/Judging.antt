@@ -79,9 +79,9 @@ module _ (R : Rule) (header : Header) (cells : Grid) (h : HoldsRule R header cel
     walk-tables = rw (letters-are, lead-is) at of
 
     -- u is read from the starting tree
-    pub lead-reads : Reads R (startTree R) tables (header .sets) w (record { rows = rows; count = 1 })
+    pub lead-reads : (x : CountedRows) → x ≡ record { rows = rows; count = 1 } → Reads R (startTree R) tables (header .sets) w x
     unfolding startTree size
-    lead-reads = record {
+    lead-reads x is = rw is (record {
       holds = within-limits;
       tabled = rw (lead-left u v w left) at (lead-tabled R cells (h .transitions) tables u v walk-tables (rw (h .numbers) at lead));
       tree = record {
@@ -89,7 +89,7 @@ module _ (R : Rule) (header : Header) (cells : Grid) (h : HoldsRule R header cel
         nodes = refl;
         are = rw (made, h .numbers) (start-rows-are R);
       };
-    }
+    })
 
     -- and leads to t(0)
     pub first-round : (first : CountedRows) → ReadsTo tables (header .sets) w (record { rows = rows; count = 1 }) first
@@ -98,7 +98,7 @@ module _ (R : Rule) (header : Header) (cells : Grid) (h : HoldsRule R header cel
     first-round first to v′ left′ tail = record {
       holds = within-limits;
       tabled = rw (tail-left u v v′ left′) at (tail-tabled R cells (h .transitions) tables u v walk-tables (rw (h .numbers) at tail));
-      tree = rw (append-nil u, lead-left u v w left) (to R (startTree R) lead-reads);
+      tree = rw (append-nil u, lead-left u v w left) (to R (startTree R) (lead-reads _ refl));
     }
 
 module _ (R : Rule) (u v : List ℕ) (r : Repeat) (S : RepeatOf R u v r) (before : List ℕ) where

@@ -1,5 +1,5 @@
 -- Reading letters: one letter over the rows of a tree, and the tree after the letters read so far.
-use mathlib.Core.Path.{_≡_, _∙_}
+use mathlib.Core.Path.{_≡_, refl, _∙_}
 use mathlib.Core.List.{List, [], _∷_}
 use Prim.Native.Nat.{ℕ, suc, _+_, _-_, _≤_, _<_}
 use native.Mathlib.Numerals.{add-one}
@@ -21,8 +21,9 @@ use Rattle.tree.specs.Sides.{rowsOn, TwoSides, Steppable, Stepping}
 use Rattle.tree.specs.declared.rows.Stepped.{Stepped}
 use Rattle.tree.proofs.PassLoop.{two-sides}
 use Rattle.tree.proofs.StepOfRows.{rows-are-nodes, sets-fit, steps-to}
-use Rattle.treejudge.specs.Reading.{Tables, Tabled, WithinLimits, HoldsTree, Reads, Readable, ReadsTo}
+use Rattle.treejudge.specs.Reading.{Tables, Tabled, WithinLimits, HoldsTree, treeOn, Stands, Laid, Reads, Readable, ReadsTo}
 use Rattle.treejudge.specs.declared.letters.CountedRows.{CountedRows}
+use Rattle.treejudge.specs.declared.letters.OnSide.{OnSide}
 
 -- A TREE'S ROWS
 
@@ -56,6 +57,15 @@ module _ (R : Rule) (T : Tree) (tables : Tables) (k : ℕ) (holds : WithinLimits
       are = letter-steps .are;
     }
 
+-- laid on side 0
+pub rows-laid : (x : CountedRows) (other : List ℕ) → length (x .rows) ≡ places → length other ≡ places
+    → Laid x (x .rows ∷ other ∷ [])
+rows-laid x other long-rows long-other = record { arrays = two-sides (x .rows) other long-rows long-other; rows = refl }
+
+pub tree-laid : (x : CountedRows) (sides : List (List ℕ)) → Laid x sides → (at : OnSide) → at ≡ record { side = 0; count = x .count }
+    → treeOn sides at ≡ x
+tree-laid x sides laid at is = rw (is, laid .rows)
+
 -- LETTER BY LETTER
 
 -- the rows on a side after the first `at` letters of w, read from the rows x
@@ -73,27 +83,23 @@ read-more : (R : Rule) (w : List ℕ) (at : ℕ) (T : Tree) → at < length w
 unfolding readLetters
 read-more R w at T h = rw (take-suc w at 0 h, read-append)
 
+-- at the start
+pub upto-none : (tables : Tables) (k : ℕ) (w : List ℕ) (sides : List (List ℕ)) (from : OnSide) → Stands sides (from .side)
+    → ReadUpTo tables k w (treeOn sides from) 0 sides (from .side) (from .count)
+unfolding readLetters
+upto-none tables k w sides from (arrays, on) = record { upto = omega arith; arrays = arrays; on = on; tree = λ R T reads. reads .tree }
+
 module _ (tables : Tables) (k : ℕ) (w : List ℕ) (x : CountedRows) where
   -- each letter has its place in the tables
   pub letter-small : Readable tables k w x → (at : ℕ) → at < length w → getD w at 0 < maxLetters
   unfolding Readable
   letter-small (R, T, reads) at h = omega (arith, every-at (Tabled R tables) w at 0 (reads .tabled) h .below, reads .holds .letters)
 
-  -- at the start, and at the end
-  pub upto-none : (other : List ℕ) → length (x .rows) ≡ places → length other ≡ places
-      → ReadUpTo tables k w x 0 (x .rows ∷ other ∷ []) 0 (x .count)
-  unfolding readLetters
-  upto-none other long-rows long-other = record {
-    upto = omega arith;
-    arrays = two-sides (x .rows) other long-rows long-other;
-    on = omega arith;
-    tree = λ R T reads. reads .tree;
-  }
-
   module _ (at : ℕ) (sides : List (List ℕ)) (side count : ℕ) (v : ReadUpTo tables k w x at sides side count) where
-    pub upto-all : length w ≤ at → ReadsTo tables k w x (record { rows = getD sides side []; count = count })
+    -- at the end
+    pub upto-all : length w ≤ at → Stands sides side × ReadsTo tables k w x (record { rows = getD sides side []; count = count })
     unfolding ReadsTo
-    upto-all h R T reads = rw (take-all at w h) at (v .tree R T reads)
+    upto-all h = ((v .arrays, v .on), λ R T reads. rw (take-all at w h) at (v .tree R T reads))
 
     -- the next letter can be read
     pub upto-ready : Readable tables k w x → Steppable sides side count
@@ -111,3 +117,8 @@ module _ (tables : Tables) (k : ℕ) (w : List ℕ) (x : CountedRows) where
       tree = λ R T reads. rw (add-one, read-more R w at T h) (letter-holds R _ tables k (reads .holds) sides side count
           (v .tree R T reads) (getD w at 0) (every-at (Tabled R tables) w at 0 (reads .tabled) h) next after step);
     }
+
+-- letters that are read from a tree, wherever it stands, to a tree that is taken up
+pub reads-taken : (tables : Tables) (k : ℕ) (w : List ℕ) (x y first cut : CountedRows) → x ≡ first → cut ≡ y
+    → ReadsTo tables k w x y → ReadsTo tables k w first cut
+reads-taken tables k w x y first cut from to reads = rw (← from, to) reads

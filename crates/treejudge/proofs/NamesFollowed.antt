@@ -24,13 +24,13 @@ use Rattle.history.proofs.TreesOfWalk.{read-append}
 use Rattle.tree.specs.Pass.{blankRow, steppedRows}
 use Rattle.tree.specs.RecordRows.{places}
 use Rattle.tree.specs.Sides.{rowsOn, TwoSides, Steppable, Stepping}
-use Rattle.tree.proofs.PassLoop.{two-sides}
 use Rattle.tree.specs.declared.rows.Row.{Row}
 use Rattle.tree.specs.declared.rows.Stepped.{Stepped}
-use Rattle.treejudge.specs.Reading.{Tables, Tabled, WithinLimits, HoldsTree, Readable}
-use Rattle.treejudge.specs.Names.{followedBy, begunAt, Follows, FollowsOn, Followable, FollowsTo}
+use Rattle.treejudge.specs.Reading.{Tables, Tabled, WithinLimits, HoldsTree, treeOn, Stands, Readable}
+use Rattle.treejudge.specs.Names.{Followed, followedOn, followedBy, begunAt, begunOn, Follows, FollowsOn, Followable, FollowsTo}
 use Rattle.treejudge.specs.declared.letters.CountedRows.{CountedRows}
-use Rattle.treejudge.specs.declared.follow.Followed.{Followed}
+use Rattle.treejudge.specs.declared.letters.OnSide.{OnSide}
+use Rattle.treejudge.specs.declared.follow.FollowedOn.{FollowedOn}
 use Rattle.treejudge.proofs.LettersRead.{tree-small, letter-ready, letter-steps, letter-holds}
 
 -- A MAP CARRIED TO THE NEW NUMBERS
@@ -87,6 +87,12 @@ begun-follows R T x tree = let (kept, accepted) = follow-none R T in record {
   accepted = sym accepted;
 }
 
+-- on a side
+pub begun-there : (sides : List (List ℕ)) (x : OnSide) (tree : CountedRows) → treeOn sides x ≡ tree
+    → (now : FollowedOn) → now ≡ begunOn (x .side) (x .count) → followedOn sides now ≡ begunAt tree
+unfolding begunAt
+begun-there sides x tree there now is = rw (is, ← there)
+
 -- ONE LETTER
 
 module _ (R : Rule) (T : Tree) (before : List ℕ) (tables : Tables) (k : ℕ) (holds : WithinLimits R k)
@@ -124,6 +130,12 @@ pub record FollowedUpTo (tables : Tables) (k : ℕ) (w : List ℕ) (x : Followed
   pub names : (R : Rule) (T : Tree) (before : List ℕ) → FollowsOn R T before tables k w x → Follows R T (before ++ take at w)
       (record { rows = getD sides side []; count = count; kept = kept; accepted = accepted })
 
+-- at the start
+pub followed-none : (tables : Tables) (k : ℕ) (w : List ℕ) (sides : List (List ℕ)) (from : FollowedOn) → Stands sides (from .side)
+    → FollowedUpTo tables k w (followedOn sides from) 0 sides (from .side) (from .count) (from .kept) (from .accepted)
+followed-none tables k w sides from (arrays, on) =
+    record { upto = omega arith; arrays = arrays; on = on; names = λ R T before v. rw append-nil (v .follows) }
+
 module _ (tables : Tables) (k : ℕ) (w : List ℕ) (x : Followed) where
   -- the letters can be read
   pub followed-reads : Followable tables k w x → Readable tables k w (record { rows = x .rows; count = x .count })
@@ -131,22 +143,13 @@ module _ (tables : Tables) (k : ℕ) (w : List ℕ) (x : Followed) where
   followed-reads (R, T, before, v) =
       (R, readLetters R before T, record { holds = v .holds; tabled = v .tabled; tree = v .follows .tree })
 
-  -- at the start, and at the end
-  pub followed-none : (other : List ℕ) → length (x .rows) ≡ places → length other ≡ places
-      → FollowedUpTo tables k w x 0 (x .rows ∷ other ∷ []) 0 (x .count) (x .kept) (x .accepted)
-  followed-none other long-rows long-other = record {
-    upto = omega arith;
-    arrays = two-sides (x .rows) other long-rows long-other;
-    on = omega arith;
-    names = λ R T before v. rw append-nil (v .follows);
-  }
-
   module _ (at : ℕ) (sides : List (List ℕ)) (side count kept accepted : ℕ)
       (v : FollowedUpTo tables k w x at sides side count kept accepted) where
-    pub followed-all : length w ≤ at
-        → FollowsTo tables k w x (record { rows = getD sides side []; count = count; kept = kept; accepted = accepted })
+    -- at the end
+    pub followed-all : length w ≤ at → Stands sides side
+        × FollowsTo tables k w x (record { rows = getD sides side []; count = count; kept = kept; accepted = accepted })
     unfolding FollowsTo
-    followed-all h R T before on = rw (take-all at w h) at (v .names R T before on)
+    followed-all h = ((v .arrays, v .on), λ R T before on. rw (take-all at w h) at (v .names R T before on))
 
     -- the next letter can be read
     pub followed-ready : Followable tables k w x → Steppable sides side count

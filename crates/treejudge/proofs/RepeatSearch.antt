@@ -24,12 +24,11 @@ use Rattle.history.proofs.CycleVerdict.{member-node, verdict-yes, verdict-no}
 use Rattle.history.proofs.CutCycle.{cut-round, cut-rest, repeat-first, repeat-second, cut-repeat, cut-first, cut-none}
 use Rattle.tree.specs.PackedRows.{rowsIn}
 use Rattle.treejudge.specs.Reading.{Tables, Tabled, HoldsTree, Reads, ReadsTo}
-use Rattle.treejudge.specs.Names.{begunAt, Follows, FollowsOn, FollowsTo}
+use Rattle.treejudge.specs.Names.{Followed, begunAt, Follows, FollowsOn, FollowsTo}
 use Rattle.treejudge.specs.SameRows.{sameRows}
 use Rattle.treejudge.specs.Cycles.{AtRound, CycleFound, Searched, EntryFound}
 use Rattle.treejudge.specs.Repeats.{RepeatOf}
 use Rattle.treejudge.specs.declared.letters.CountedRows.{CountedRows}
-use Rattle.treejudge.specs.declared.follow.Followed.{Followed}
 use Rattle.treejudge.specs.declared.cycle.Cycle.{Cycle}
 use Rattle.treejudge.proofs.NamesFollowed.{begun-follows}
 use Rattle.treejudge.proofs.SameTrees.{same-rows-same, same-trees-same}
@@ -92,13 +91,13 @@ module _ (R : Rule) (u head rest : List ℕ) (tables : Tables) (k : ℕ) (first 
   parts = append-every (Tabled R tables) head rest (A .tabled)
 
   -- the letters up to the cut are read from t(0)
-  pub head-reads : Reads R (t 0) tables k head first
-  head-reads = record { holds = A .holds; tabled = parts .0; tree = A .tree }
+  pub head-reads : (x : CountedRows) → x ≡ first → Reads R (t 0) tables k head x
+  head-reads x is = record { holds = A .holds; tabled = parts .0; tree = rw is (A .tree) }
 
   module _ (cut : CountedRows) (to : ReadsTo tables k head first cut) where
     pub cut-holds : HoldsTree R (s 0) cut
     unfolding ReadsTo
-    cut-holds = rw (cut-round R u head rest 0) (to R (t 0) head-reads)
+    cut-holds = rw (cut-round R u head rest 0) (to R (t 0) (head-reads first refl))
 
     -- the others are followed from there
     module _ (begun : Followed) (is : begun ≡ begunAt cut) where

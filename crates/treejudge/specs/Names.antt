@@ -1,10 +1,10 @@
 -- Following nodes by their names: what the contracts of the tree judge's own functions say of the two maps.
 use mathlib.Core.Path.{_≡_}
 use mathlib.Core.Bool.{true}
-use mathlib.Core.List.{List, map, _++_}
+use mathlib.Core.List.{List, [], map, _++_}
 use Prim.Native.Nat.{ℕ, _-_, _^_}
 use lib.Bits.{bitAnd, bitOr}
-use lib.ListN.{take}
+use lib.ListN.{getD, take}
 use Rattle.table.specs.Rule.{Rule}
 use Rattle.table.specs.Table.{Every}
 use Rattle.history.specs.Tree.{Tree, isTree}
@@ -14,7 +14,18 @@ use Rattle.tree.specs.PackedRows.{rowsIn}
 use Rattle.tree.specs.declared.rows.Stepped.{Stepped}
 use Rattle.treejudge.specs.Reading.{Tables, Tabled, WithinLimits, HoldsTree}
 use Rattle.treejudge.specs.declared.letters.CountedRows.{CountedRows}
-use Rattle.treejudge.specs.declared.follow.Followed.{Followed}
+use Rattle.treejudge.specs.declared.follow.FollowedOn.{FollowedOn}
+
+-- a tree's rows, the map of its nodes that have kept their names, and that of those among them that were accepting once
+pub record Followed : Type 0 where
+  pub rows : List ℕ
+  pub count : ℕ
+  pub kept : ℕ
+  pub accepted : ℕ
+
+-- on one of two sides
+abbrev pub followedOn : List (List ℕ) → FollowedOn → Followed
+followedOn sides x = record { rows = getD sides (x .side) []; count = x .count; kept = x .kept; accepted = x .accepted }
 
 -- the followed nodes behind a letter, which has written these words
 unfoldable pub followedBy : List ℕ → Stepped → ℕ → ℕ → Followed
@@ -30,6 +41,9 @@ followedBy words next kept accepted =
 -- all nodes, before the first letter
 unfoldable pub begunAt : CountedRows → Followed
 begunAt x = record { rows = x .rows; count = x .count; kept = 2 ^ x .count - 1; accepted = 0 }
+
+abbrev pub begunOn : ℕ → ℕ → FollowedOn
+begunOn side count = record { side = side; count = count; kept = 2 ^ count - 1; accepted = 0 }
 
 -- the tree after the letters w from T on, and the maps of its nodes that kept their names all along, and were accepting once
 pub record Follows (R : Rule) (T : Tree) (w : List ℕ) (x : Followed) : Type 0 where

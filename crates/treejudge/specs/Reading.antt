@@ -16,7 +16,9 @@ use Rattle.history.specs.Tree.{Tree, isTree}
 use Rattle.history.specs.Rounds.{readLetters}
 use Rattle.tree.specs.PackedRows.{rowsIn}
 use Rattle.tree.specs.Rows.{AreRows}
+use Rattle.tree.specs.Sides.{TwoSides}
 use Rattle.treejudge.specs.declared.letters.CountedRows.{CountedRows}
+use Rattle.treejudge.specs.declared.letters.OnSide.{OnSide}
 
 -- the tables of the letters
 abbrev pub Tables : Type 0
@@ -50,6 +52,19 @@ pub record HoldsTree (R : Rule) (T : Tree) (x : CountedRows) : Type 0 where
   pub fits : isTree (R .states) (R .sets) T ≡ true
   pub nodes : x .count ≡ size T
   pub are : AreRows (take (x .count) (rowsIn (x .rows))) T
+
+-- the tree on one of two sides
+abbrev pub treeOn : List (List ℕ) → OnSide → CountedRows
+treeOn sides x = record { rows = getD sides (x .side) []; count = x .count }
+
+-- there are two sides, and this is one of them
+abbrev pub Stands : List (List ℕ) → ℕ → Type 0
+Stands sides side = TwoSides sides × (side < 2)
+
+-- a tree is laid on side 0
+pub record Laid (tree : CountedRows) (sides : List (List ℕ)) : Type 0 where
+  pub arrays : TwoSides sides
+  pub rows : getD sides 0 [] ≡ tree .rows
 
 -- the letters w are read from T
 pub record Reads (R : Rule) (T : Tree) (tables : Tables) (k : ℕ) (w : List ℕ) (x : CountedRows) : Type 0 where

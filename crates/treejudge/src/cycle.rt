@@ -1,13 +1,13 @@
 // The period, by Brent's search: one tree is held, t(power − 1), and rounds are read from it until it comes back. If it has not
 // come back after `power` rounds, the tree reached is held instead, and the power doubled. The nodes of the held tree are followed
 // on the way: where it comes back, its rounds were one cycle, and the verdict is known.
-use crate::follow::Followed;
 use crate::follow::begin;
 use crate::follow::follow_letters;
 use crate::letters::AllTables;
 use crate::letters::CountedRows;
+use crate::letters::laid;
+use crate::letters::taken;
 use crate::same::same_tree;
-ghost use mathlib.Core.Path.{_≡_};
 ghost use Rattle.treejudge.specs.Cycles.{FirstRound, CycleFound};
 
 // What the search has found: the tree t(power − 1), to which `period` rounds lead back; the map of its nodes that keep their names in
@@ -21,17 +21,6 @@ pub struct Cycle {
     pub accepted: u16,
 }
 
-// The tree of the followed nodes.
-pub fn tree_of(now: Followed) -> CountedRows
-    ensures { λ r. ⌜ r ≡ record { rows = now .rows; count = now .count } ⌝ }
-{
-    let rows = now.rows;
-    CountedRows {
-        rows: rows,
-        count: now.count,
-    }
-}
-
 // From t(0) on.
 pub fn find_cycle(tables: &AllTables, k: u8, v: &[u8], first: CountedRows) -> Cycle
     requires { ⌜ FirstRound (now tables) k (now v) first ⌝ }
@@ -42,12 +31,12 @@ pub fn find_cycle(tables: &AllTables, k: u8, v: &[u8], first: CountedRows) -> Cy
     let mut half = 0u64;
     let mut power = 1u64;
     let mut lam = 0u64;
-    let mut now = begin(first);
+    let mut sides = laid(first);
+    let mut now = begin(0, first.count);
     loop {
-        let next = follow_letters(tables, k, v, now);
+        let next = follow_letters(tables, k, v, &mut sides, now);
         lam += 1;
-        let reached = tree_of(next);
-        if same_tree(held, reached) {
+        if same_tree(held, &sides, next.side, next.count) {
             return Cycle {
                 held: held,
                 before: before,
@@ -59,11 +48,11 @@ pub fn find_cycle(tables: &AllTables, k: u8, v: &[u8], first: CountedRows) -> Cy
         }
         if lam == power {
             before = held;
-            held = reached;
+            held = taken(&sides, next.side, next.count);
             half = power;
             power = power + power;
             lam = 0;
-            now = begin(reached);
+            now = begin(next.side, next.count);
         } else {
             now = next;
         }

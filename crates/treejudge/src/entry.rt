@@ -3,8 +3,11 @@
 use crate::cycle::Cycle;
 use crate::letters::AllTables;
 use crate::letters::CountedRows;
+use crate::letters::laid;
+use crate::letters::on_first_side;
 use crate::letters::read_letters;
-use crate::same::same_tree;
+use crate::letters::taken;
+use crate::same::same_on;
 ghost use mathlib.Core.Path.{_≡_};
 ghost use Prim.Native.Nat.{_-_, _<_};
 ghost use Rattle.treejudge.specs.Cycles.{SomeRound, Ahead, Bracketed, EntryBetween, SearchDone, EntryFound};
@@ -14,42 +17,45 @@ fn read_rounds(tables: &AllTables, k: u8, v: &[u8], count: u64, tree: CountedRow
     requires { ⌜ SomeRound (now tables) k (now v) tree ⌝ }
     ensures { λ r. ⌜ Ahead (now (tables .entry)) k (now (v .entry)) count tree r ⌝ }
 {
-    let mut now = tree;
+    let mut sides = laid(tree);
+    let mut now = on_first_side(tree.count);
     let mut round = 0u64;
     while round < count {
-        let next = read_letters(tables, k, v, now);
+        let next = read_letters(tables, k, v, &mut sides, now);
         now = next;
         round += 1;
     }
-    now
+    taken(&sides, now.side, now.count)
 }
 
-// The entry from `low` to `high`, where `here` is t(low) and `there` is the tree a period further.
+// The entry from `low` to `high`, where `first` is t(low) and `later` is the tree a period further.
 fn entry_between(
     tables: &AllTables,
     k: u8,
     v: &[u8],
     low: u64,
     high: u64,
-    here: CountedRows,
-    there: CountedRows,
+    first: CountedRows,
+    later: CountedRows,
 ) -> u64
-    requires { ⌜ Bracketed (now tables) k (now v) low high here there ⌝ }
-    ensures { λ r. ⌜ EntryBetween (now (tables .entry)) k (now (v .entry)) low high here there r ⌝ }
+    requires { ⌜ Bracketed (now tables) k (now v) low high first later ⌝ }
+    ensures { λ r. ⌜ EntryBetween (now (tables .entry)) k (now (v .entry)) low high first later r ⌝ }
 {
-    let mut now = here;
-    let mut ahead = there;
+    let mut here = laid(first);
+    let mut there = laid(later);
+    let mut now = on_first_side(first.count);
+    let mut ahead = on_first_side(later.count);
     let mut place = low;
     while place < high {
-        if same_tree(now, ahead) {
+        if same_on(&here, now.side, now.count, &there, ahead.side, ahead.count) {
             return place;
         }
         place += 1;
         if place == high {
             return high;
         }
-        let next = read_letters(tables, k, v, now);
-        let next_ahead = read_letters(tables, k, v, ahead);
+        let next = read_letters(tables, k, v, &mut here, now);
+        let next_ahead = read_letters(tables, k, v, &mut there, ahead);
         now = next;
         ahead = next_ahead;
     }
@@ -86,7 +92,7 @@ pub fn find_entry(tables: &AllTables, k: u8, v: &[u8], first: CountedRows, cycle
     if cycle.half == high {
         return high;
     }
-    let here = read_letters(tables, k, v, cycle.before);
+    let here = read_rounds(tables, k, v, 1, cycle.before);
     let there = read_rounds(tables, k, v, cycle.period, here);
     entry_between(tables, k, v, cycle.half, high, here, there)
 }

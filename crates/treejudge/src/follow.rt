@@ -1,10 +1,9 @@
 // Following nodes by their names, letter by letter. Numbers shift from tree to tree, so the followed nodes are kept as maps over
 // the present numbers, and each letter carries them from the old numbers to the new ones.
 use crate::letters::AllTables;
-use crate::letters::CountedRows;
 use tree::packed::Rows;
+use tree::packed::Sides;
 use tree::packed::unpack;
-use tree::rows::PLACES;
 use tree::step::step_rows;
 ghost use mathlib.Core.Path.{_≡_};
 ghost use mathlib.Core.List.{map};
@@ -14,11 +13,12 @@ ghost use Rattle.table.specs.Limits.{maxStates};
 ghost use Rattle.history.specs.Following.{carried};
 ghost use Rattle.tree.specs.PackedRows.{rowsIn};
 ghost use Rattle.tree.specs.RecordRows.{places};
-ghost use Rattle.treejudge.specs.Names.{begunAt, Followable, FollowsTo};
+ghost use Rattle.treejudge.specs.Reading.{Stands};
+ghost use Rattle.treejudge.specs.Names.{followedOn, begunOn, Followable, FollowsTo};
 
-// A tree, the map of its nodes that have kept their names, and that of those among them that were accepting once.
-pub struct Followed {
-    pub rows: Rows,
+// A tree on one of two sides, the map of its nodes that have kept their names, and that of those among them that were accepting once.
+pub struct FollowedOn {
+    pub side: usize,
     pub count: usize,
     pub kept: u16,
     pub accepted: u16,
@@ -46,34 +46,37 @@ fn carry(rows: &Rows, count: usize, nodes: u16) -> u16
 }
 
 // Before the first letter every node of a tree has kept its name, and none was accepting.
-pub fn begin(tree: CountedRows) -> Followed
-    requires { ⌜ tree .count ≤ maxStates ⌝ }
-    ensures { λ r. ⌜ r ≡ begunAt tree ⌝ }
+pub fn begin(side: usize, count: usize) -> FollowedOn
+    requires { ⌜ count ≤ maxStates ⌝ }
+    ensures { λ r. ⌜ r ≡ begunOn side count ⌝ }
 {
-    let rows = tree.rows;
-    Followed {
-        rows: rows,
-        count: tree.count,
-        kept: (1u16 << tree.count) - 1,
+    FollowedOn {
+        side: side,
+        count: count,
+        kept: (1u16 << count) - 1,
         accepted: 0,
     }
 }
 
 // The tree and the followed nodes after the letters w.
-pub fn follow_letters(tables: &AllTables, k: u8, w: &[u8], from: Followed) -> Followed
-    requires { ⌜ Followable (now tables) k (now w) from ⌝ }
-    ensures { λ r. ⌜ FollowsTo (now (tables .entry)) k (now (w .entry)) from r ⌝ }
+pub fn follow_letters(
+    tables: &AllTables,
+    k: u8,
+    w: &[u8],
+    sides: &mut Sides,
+    from: FollowedOn,
+) -> FollowedOn
+    requires { ⌜ Stands (now sides) (from .side) × Followable (now tables) k (now w) (followedOn (now sides) from) ⌝ }
+    ensures { λ r. ⌜ Stands (now (sides .exit)) (r .side)
+        × FollowsTo (now (tables .entry)) k (now (w .entry)) (followedOn (now (sides .entry)) from) (followedOn (now (sides .exit)) r) ⌝ }
 {
-    let mut sides = [[0u64; PLACES]; 2];
-    let rows = from.rows;
-    sides[0] = rows;
-    let mut side = 0usize;
+    let mut side = from.side;
     let mut count = from.count;
     let mut kept = from.kept;
     let mut accepted = from.accepted;
     let mut at = 0usize;
     while at < w.len() {
-        let next = step_rows(&tables[w[at] as usize], k, &mut sides, side, count);
+        let next = step_rows(&tables[w[at] as usize], k, sides, side, count);
         side = 1 - side;
         count = next.count;
         // Those that are stable at the letter keep their names; one that is accepting was so once.
@@ -83,9 +86,8 @@ pub fn follow_letters(tables: &AllTables, k: u8, w: &[u8], from: Followed) -> Fo
         accepted = carry(&sides[side], count, once);
         at += 1;
     }
-    let last = sides[side];
-    Followed {
-        rows: last,
+    FollowedOn {
+        side: side,
         count: count,
         kept: kept,
         accepted: accepted,

@@ -1,8 +1,11 @@
 // The tree judge: entry and period of the first repeated tree at a round end, and the verdict with its node.
 use crate::letters::CountedRows;
+use crate::letters::fill_tables;
+use crate::letters::laid;
 use crate::letters::occurring;
+use crate::letters::on_first_side;
 use crate::letters::read_letters;
-use crate::letters::tables_of;
+use crate::letters::taken;
 use crate::name::first_node;
 use crate::name::node_name;
 use crate::name::store_name;
@@ -12,6 +15,7 @@ use table::limits::Cells;
 use table::limits::LETTERS;
 use table::limits::NO_TRANSITION;
 use table::limits::STATES;
+use table::lookup::ENTRIES;
 use table::reader::Reading;
 use table::reader::read_rule;
 use tree::record::Tree;
@@ -53,7 +57,8 @@ fn judge_walk<'a>(
     // tables for the letters that occur in the walk, and for no others
     let lead_letters = occurring(u, 0);
     let letters = occurring(v, lead_letters);
-    let tables = tables_of(cells, letters);
+    let mut tables = [[0u64; ENTRIES]; LETTERS];
+    fill_tables(cells, letters, &mut tables);
     let root = Tree::start(header.start);
     let rows = root.rows;
     let start = CountedRows {
@@ -61,7 +66,15 @@ fn judge_walk<'a>(
         count: 1,
     };
     // t(0) follows u; then the rounds, each the whole tail
-    let first = read_letters(&tables, k, letters_left(u, v, false, 0), start);
+    let mut sides = laid(start);
+    let led = read_letters(
+        &tables,
+        k,
+        letters_left(u, v, false, 0),
+        &mut sides,
+        on_first_side(1),
+    );
+    let first = taken(&sides, led.side, led.count);
     let tail = letters_left(u, v, true, 0);
     let found = find_repeat(&tables, k, tail, first);
     if found.accepted == 0 {

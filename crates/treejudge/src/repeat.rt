@@ -1,12 +1,14 @@
 // The first repeat of a walk's trees: by the search for the cycle, or, where the tail is long, mostly at once.
 use crate::cycle::find_cycle;
-use crate::cycle::tree_of;
 use crate::entry::find_entry;
 use crate::follow::begin;
 use crate::follow::follow_letters;
 use crate::letters::AllTables;
 use crate::letters::CountedRows;
+use crate::letters::laid;
+use crate::letters::on_first_side;
 use crate::letters::read_letters;
+use crate::letters::taken;
 use crate::same::same_tree;
 ghost use mathlib.Core.Path.{_≡_};
 ghost use mathlib.Core.Bool.{cond};
@@ -46,11 +48,13 @@ fn early_repeat(tables: &AllTables, k: u8, head: &[u8], rest: &[u8], first: Coun
     requires { ⌜ FirstRound (now tables) k (now head ++ now rest) first ⌝ }
     ensures { λ r. ⌜ (r .period ≡ 1 → RepeatFound (now (tables .entry)) k (now (head .entry) ++ now (rest .entry)) first r) ⌝ }
 {
-    let cut = read_letters(tables, k, head, first);
-    let second = follow_letters(tables, k, rest, begin(cut));
-    let again = follow_letters(tables, k, head, second);
-    let met = same_tree(cut, tree_of(again));
-    let still = same_tree(first, tree_of(second));
+    let mut sides = laid(first);
+    let begun = read_letters(tables, k, head, &mut sides, on_first_side(first.count));
+    let cut = taken(&sides, begun.side, begun.count);
+    let second = follow_letters(tables, k, rest, &mut sides, begin(begun.side, begun.count));
+    let still = same_tree(first, &sides, second.side, second.count);
+    let again = follow_letters(tables, k, head, &mut sides, second);
+    let met = same_tree(cut, &sides, again.side, again.count);
     Repeat {
         tree: cut,
         accepted: again.accepted,

@@ -1,11 +1,15 @@
 // Are two trees the same? Their rows tell, but for the old numbers.
 use crate::letters::CountedRows;
+use tree::packed::Rows;
+use tree::packed::Sides;
 ghost use mathlib.Core.Path.{_≡_};
 ghost use Prim.Native.Nat.{_≤_};
-ghost use lib.ListN.{take};
+ghost use lib.ListN.{length, take};
 ghost use Rattle.table.specs.Limits.{maxStates};
 ghost use Rattle.tree.specs.PackedRows.{unpacked, rowsIn};
-ghost use Rattle.treejudge.specs.SameRows.{sameRow, sameRows};
+ghost use Rattle.tree.specs.RecordRows.{places};
+ghost use Rattle.treejudge.specs.Reading.{treeOn, Stands};
+ghost use Rattle.treejudge.specs.SameRows.{sameRow, sameRows, sameTrees};
 
 // One row and another: the old number stands in a word's highest eight bits.
 fn same_row(a: u64, b: u64) -> bool
@@ -14,17 +18,11 @@ fn same_row(a: u64, b: u64) -> bool
     a % 72057594037927936 == b % 72057594037927936
 }
 
-// The rows that count, one by one.
-pub fn same_tree(a: CountedRows, b: CountedRows) -> bool
-    requires { ⌜ (a .count ≤ maxStates) × (b .count ≤ maxStates) ⌝ }
-    ensures { λ r. ⌜ r ≡ sameRows (take (a .count) (rowsIn (a .rows))) (take (b .count) (rowsIn (b .rows))) ⌝ }
+// The first `count` rows of two trees, one by one.
+fn same_rows(rows: &Rows, others: &Rows, count: usize) -> bool
+    requires { ⌜ (count ≤ maxStates) × ((length (now rows) ≡ places) × (length (now others) ≡ places)) ⌝ }
+    ensures { λ r. ⌜ r ≡ sameRows (take count (rowsIn (now (rows .entry)))) (take count (rowsIn (now (others .entry)))) ⌝ }
 {
-    if a.count != b.count {
-        return false;
-    }
-    let rows = a.rows;
-    let others = b.rows;
-    let count = a.count;
     let mut i = 0usize;
     while i < count {
         if !same_row(rows[i], others[i]) {
@@ -33,4 +31,28 @@ pub fn same_tree(a: CountedRows, b: CountedRows) -> bool
         i += 1;
     }
     true
+}
+
+// A tree, and one on a side.
+pub fn same_tree(tree: CountedRows, sides: &Sides, side: usize, count: usize) -> bool
+    requires { ⌜ ((tree .count ≤ maxStates) × (count ≤ maxStates)) × Stands (now sides) side ⌝ }
+    ensures { λ r. ⌜ r ≡ sameTrees tree (treeOn (now (sides .entry)) (record { side = side; count = count })) ⌝ }
+{
+    if tree.count != count {
+        return false;
+    }
+    let rows = tree.rows;
+    same_rows(&rows, &sides[side], count)
+}
+
+// A tree on a side, and one on another's.
+pub fn same_on(a: &Sides, from: usize, count: usize, b: &Sides, side: usize, number: usize) -> bool
+    requires { ⌜ ((count ≤ maxStates) × (number ≤ maxStates)) × (Stands (now a) from × Stands (now b) side) ⌝ }
+    ensures { λ r. ⌜ r ≡ sameTrees (treeOn (now (a .entry)) (record { side = from; count = count }))
+        (treeOn (now (b .entry)) (record { side = side; count = number })) ⌝ }
+{
+    if count != number {
+        return false;
+    }
+    same_rows(&a[from], &b[side], count)
 }

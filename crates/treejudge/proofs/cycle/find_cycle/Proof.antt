@@ -1,12 +1,15 @@
 -- `find_cycle` meets its contract, by the laws of CycleSearch. The loop ends, since power + lam grows and there are few trees.
 use borrow.Author.Needs.{needs}
 use native.Mathlib.Omega.{arith}
-use mathlib.Core.Path.{sym, _∙_}
+use mathlib.Core.Path.{refl, sym, _∙_}
 use mathlib.Core.List.{List}
 use Prim.Native.Nat.{ℕ, _+_, _-_, _^_}
 use Rattle.table.specs.Rule.{Rule}
-use Rattle.treejudge.specs.Names.{Followable}
+use Rattle.treejudge.specs.Reading.{Stands}
+use Rattle.treejudge.specs.Names.{followedOn, begunAt, Followable}
 use Rattle.treejudge.specs.Cycles.{AtRound, FirstRound, CycleFound}
+use Rattle.treejudge.proofs.LettersRead.{tree-laid}
+use Rattle.treejudge.proofs.NamesFollowed.{begun-there}
 use Rattle.treejudge.proofs.RoundsRead.{both-small}
 use Rattle.treejudge.proofs.CycleSearch.{Searching, search-start, search-follows, lam-fits, search-measure, search-small}
 use Rattle.treejudge.proofs.CycleSearch.{search-found, search-more, power-fits, search-reset}
@@ -14,96 +17,108 @@ use Rattle.treejudge.proofs.cycle.find_cycle.Statement.{statement}
 use Rattle.treejudge.proofs.cycle.find_cycle.Tie as tie
 
 abbrev Inv-loop : tie.InvT-loop
-Inv-loop tables k v held₀ before₀ half₀ power₀ lam₀ now₀ held before half power lam now =
-    (R : Rule) (u : List ℕ) → AtRound R u v tables k 0 held₀ → Searching R u v tables k held before half power lam now
+Inv-loop tables k v held₀ before₀ half₀ power₀ lam₀ sides₀ now₀ held before half power lam sides now =
+    Stands sides (now .side) × ((R : Rule) (u : List ℕ) → AtRound R u v tables k 0 held₀
+    → Searching R u v tables k held before half power lam (followedOn sides now))
 
 abbrev μ-loop : tie.MeasureT-loop
-μ-loop tables k v held₀ before₀ half₀ power₀ lam₀ now₀ held before half power lam now = 2 ^ 65 - (power + lam)
+μ-loop tables k v held₀ before₀ half₀ power₀ lam₀ sides₀ now₀ held before half power lam sides now = 2 ^ 65 - (power + lam)
 
 -- the search over the rule and the lead-in that are known
-search-known : (c : tie.At-loop Inv-loop μ-loop) → let args = c .before .before .before .args in (R : Rule) × (u : List ℕ)
+search-known : (c : tie.At-loop Inv-loop μ-loop) → let args = c .before .before .before .before .args in (R : Rule) × (u : List ℕ)
     × Searching R u (args .v .now) (args .tables .now) (args .k) (c .loop .held) (c .loop .before) (c .loop .half) (c .loop .power)
-    (c .loop .lam) (c .loop .now)
+    (c .loop .lam) (followedOn (c .loop .sides) (c .loop .now))
 unfolding FirstRound
-search-known c = let (R, u, A) = c .before .before .before .pre in (R, u, c .loop .inv R u A)
+search-known c = let (R, u, A) = c .before .before .before .before .pre in (R, u, c .loop .inv .1 R u A)
+
+laid-requires : tie.Need-laid-requires Inv-loop μ-loop
+laid-requires c κs = search needs
 
 begin-requires : tie.Need-begin-requires Inv-loop μ-loop
 unfolding FirstRound
-begin-requires c κs = let (R, u, A) = c .before .pre in both-small A A .0
+begin-requires c κs = let (R, u, A) = c .before .before .pre in both-small A A .0
 
 loop-holds : tie.Need-loop-holds Inv-loop μ-loop
-loop-holds c R u A = rw (c .begin .ensures) (search-start A)
+loop-holds c =
+    let laid = c .before .laid .ensures in (
+      (laid .arrays, rw (c .begin .ensures) (omega arith)),
+      λ R u A. rw (begun-there _ _ _ (tree-laid _ _ laid _ refl) _ (c .begin .ensures)) (search-start A),
+    )
 
 follow-letters-requires : tie.Need-follow-letters-requires Inv-loop μ-loop
 unfolding Followable
-follow-letters-requires c κs = let (R, u, S) = search-known c in (R, _, _, search-follows S)
+follow-letters-requires c κs = let (R, u, S) = search-known (c .before) in (c .before .loop .inv .0, (R, _, _, search-follows S))
 
 add-lam : tie.Need-add-lam Inv-loop μ-loop
-add-lam c = let (R, u, S) = search-known (c .before) in omega (arith, lam-fits S)
-
-tree-of-requires : tie.Need-tree-of-requires Inv-loop μ-loop
-tree-of-requires c κs = search needs
+add-lam c = let (R, u, S) = search-known (c .before .before) in omega (arith, lam-fits S)
 
 same-tree-requires : tie.Need-same-tree-requires Inv-loop μ-loop
 same-tree-requires c κs =
     let followed = c .before in
-    let (R, u, S) = search-known (followed .before) in
-    search-small S _ (followed .follow-letters .ensures) (c .tree-of .ensures)
+    let (R, u, S) = search-known (followed .before .before) in
+    let (on, to) = followed .follow-letters .ensures in
+    (search-small S _ to refl, on)
 
 returns : tie.Need-returns Inv-loop μ-loop
 unfolding CycleFound
 returns c R u entry period A F =
     let same = c .before in
-    let reached = same .before in
-    let followed = reached .before in
-    search-found (followed .before .loop .inv R u A) _ (followed .follow-letters .ensures) (reached .tree-of .ensures)
+    let followed = same .before .before in
+    search-found (followed .before .before .loop .inv .1 R u A) _ (followed .follow-letters .ensures .1) refl
     (sym (same .same-tree .ensures) ∙ c .if1 .taken) entry period F
+
+taken-requires : tie.Need-taken-requires Inv-loop μ-loop
+taken-requires c κs = c .before .before .before .before .before .follow-letters .ensures .0
 
 add-power : tie.Need-add-power Inv-loop μ-loop
 add-power c =
-    let same = c .before .before in
-    let reached = same .before in
-    let followed = reached .before in
-    let (R, u, S) = search-known (followed .before) in
+    let full = c .before .before in
+    let same = full .before .before in
+    let followed = same .before .before in
+    let (R, u, S) = search-known (followed .before .before) in
     omega (
       arith,
-      power-fits S _ (followed .follow-letters .ensures) (reached .tree-of .ensures)
-          (sym (same .same-tree .ensures) ∙ c .before .if1 .left) (c .if2 .taken),
+      power-fits S _ (followed .follow-letters .ensures .1) refl (sym (same .same-tree .ensures) ∙ full .before .if1 .left) (full .if2 .taken),
     )
 
 begin-requires-2 : tie.Need-begin-requires-2 Inv-loop μ-loop
 begin-requires-2 c κs =
-    let reached = c .before .before .before in
-    let followed = reached .before in
-    let (R, u, S) = search-known (followed .before) in
-    search-small S _ (followed .follow-letters .ensures) (reached .tree-of .ensures) .1
+    let followed = c .before .before .before .before .before .before in
+    let (R, u, S) = search-known (followed .before .before) in
+    search-small S _ (followed .follow-letters .ensures .1) refl .1
 
 loop-less : tie.Need-loop-less Inv-loop μ-loop
 loop-less c =
-    let (R, u, S) = search-known (c .before .before .before .before .before .before) in
+    let (R, u, S) = search-known (c .before .before .before .before .before .before .before .before .before) in
     omega (arith, search-measure S)
 
 loop-again : tie.Need-loop-again Inv-loop μ-loop
-loop-again c R u A =
-    let same = c .before .before .before in
-    let reached = same .before in
-    let followed = reached .before in
-    rw (c .begin2 .ensures)
-    (search-reset (followed .before .loop .inv R u A) _ (followed .follow-letters .ensures) (reached .tree-of .ensures)
-    (sym (same .same-tree .ensures) ∙ c .before .before .if1 .left) (c .before .if2 .taken))
+unfolding begunAt
+loop-again c =
+    let full = c .before .before .before in
+    let same = full .before .before in
+    let followed = same .before .before in
+    let (on, to) = followed .follow-letters .ensures in (
+      rw (c .begin2 .ensures) on,
+      λ R u A. rw (c .begin2 .ensures, c .before .taken .ensures)
+          (search-reset (followed .before .before .loop .inv .1 R u A) _ to refl
+          (sym (same .same-tree .ensures) ∙ full .before .if1 .left) (full .if2 .taken)),
+    )
 
 loop-less-2 : tie.Need-loop-less-2 Inv-loop μ-loop
 loop-less-2 c =
-    let (R, u, S) = search-known (c .before .before .before .before .before) in
+    let (R, u, S) = search-known (c .before .before .before .before .before .before) in
     omega (arith, search-measure S)
 
 loop-again-2 : tie.Need-loop-again-2 Inv-loop μ-loop
-loop-again-2 c R u A =
+loop-again-2 c =
     let same = c .before .before in
-    let reached = same .before in
-    let followed = reached .before in
-    search-more (followed .before .loop .inv R u A) _ (followed .follow-letters .ensures) (reached .tree-of .ensures)
-    (sym (same .same-tree .ensures) ∙ c .before .if1 .left) (c .if2 .left)
+    let followed = same .before .before in
+    let (on, to) = followed .follow-letters .ensures in (
+      on,
+      λ R u A. search-more (followed .before .before .loop .inv .1 R u A) _ to refl
+          (sym (same .same-tree .ensures) ∙ c .before .if1 .left) (c .if2 .left),
+    )
 
 pub find-cycle-spec : {M : Type 1} → statement M
 find-cycle-spec =
@@ -111,13 +126,14 @@ find-cycle-spec =
     (tie.spec
     Inv-loop
     μ-loop
+    laid-requires
     begin-requires
     loop-holds
     follow-letters-requires
     add-lam
-    tree-of-requires
     same-tree-requires
     returns
+    taken-requires
     add-power
     begin-requires-2
     loop-less

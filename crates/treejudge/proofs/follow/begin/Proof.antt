@@ -2,7 +2,6 @@
 use borrow.Author.Needs.{needs}
 use native.Mathlib.Omega.{arith}
 use lib.Pow.{pow-pos}
-use Rattle.treejudge.specs.Names.{begunAt}
 use Rattle.table.proofs.BitSet.{one-shifted}
 use Rattle.treejudge.proofs.follow.begin.Statement.{statement}
 use Rattle.treejudge.proofs.follow.begin.Tie as tie
@@ -14,12 +13,10 @@ shl-t4 : tie.Need-shl-t4
 shl-t4 c = search needs
 
 sub-t5 : tie.Need-sub-t5
-sub-t5 c = let count = c .before .before .args .tree .count in
-    omega (arith, one-shifted 16 count (omega arith), pow-pos count)
+sub-t5 c = let count = c .args .count in omega (arith, one-shifted 16 count (omega arith), pow-pos count)
 
 returns : tie.Need-returns
-unfolding begunAt
-returns c = rw (one-shifted 16 (c .before .before .args .tree .count) (omega arith))
+returns c = rw (one-shifted 16 (c .args .count) (omega arith))
 
 pub begin-spec : {M : Type 1} → statement M
 begin-spec = tie.close (tie.spec cast-t3 shl-t4 sub-t5 returns)

@@ -3,7 +3,7 @@ use borrow.Author.Needs.{needs}
 use mathlib.Core.List.{[]}
 use Prim.Native.Nat.{_-_}
 use native.Mathlib.Omega.{arith}
-use lib.ListN.{length, getD, length-map}
+use lib.ListN.{length, getD}
 use Rattle.treejudge.specs.Names.{followedBy}
 use Rattle.treejudge.proofs.LettersRead.{letter-small}
 use Rattle.treejudge.proofs.NamesFollowed.{FollowedUpTo, followed-reads, followed-none, followed-ready}
@@ -13,24 +13,21 @@ use Rattle.treejudge.proofs.follow.follow_letters.Tie as tie
 
 abbrev Inv-loop : tie.InvT-loop
 Inv-loop tables k w sides₀ side₀ count₀ kept₀ accepted₀ at₀ sides side count kept accepted at =
-    FollowedUpTo tables k w (record { rows = getD sides₀ 0 []; count = count₀; kept = kept₀; accepted = accepted₀ }) at
+    FollowedUpTo tables k w (record { rows = getD sides₀ side₀ []; count = count₀; kept = kept₀; accepted = accepted₀ }) at
     sides side count kept accepted
 
 abbrev μ-loop : tie.MeasureT-loop
 μ-loop tables k w sides₀ side₀ count₀ kept₀ accepted₀ at₀ sides side count kept accepted at = length w - at
 
-array-set-from-sides : tie.Need-array-set-from-sides Inv-loop μ-loop
-array-set-from-sides c = search needs
-
 loop-holds : tie.Need-loop-holds Inv-loop μ-loop
-loop-holds c = followed-none _ _ _ _ _ (simp length-map at (c .before .before .good .1 .1 .1 .0 .1 .1 .0 .1 .0 .1)) (search needs)
+loop-holds c = followed-none _ _ _ _ _ (c .before .pre .0)
 
 shared-slice-read-step-rows : tie.Need-shared-slice-read-step-rows Inv-loop μ-loop
 shared-slice-read-step-rows c = search needs
 
 index-1-step-rows : tie.Need-index-1-step-rows Inv-loop μ-loop
 index-1-step-rows c = let inside = c .before in
-    letter-small _ _ _ _ (followed-reads _ _ _ _ (inside .before .before .before .before .pre)) _ (inside .loop-test .taken)
+    letter-small _ _ _ _ (followed-reads _ _ _ _ (inside .before .before .before .pre .1)) _ (inside .loop-test .taken)
 
 cast-step-rows : tie.Need-cast-step-rows Inv-loop μ-loop
 cast-step-rows c = omega (arith, index-1-step-rows c)
@@ -39,7 +36,7 @@ mul-step-rows : tie.Need-mul-step-rows Inv-loop μ-loop
 mul-step-rows c = omega (arith, index-1-step-rows c)
 
 step-rows-requires : tie.Need-step-rows-requires Inv-loop μ-loop
-step-rows-requires c κs = let at = c .before .before .before .before in followed-ready _ _ _ _ _ _ _ _ _ _ (at .loop .inv) (at .before .before .before .pre)
+step-rows-requires c κs = let at = c .before .before .before .before in followed-ready _ _ _ _ _ _ _ _ _ _ (at .loop .inv) (at .before .before .pre .1)
 
 sub-side : tie.Need-sub-side Inv-loop μ-loop
 sub-side c = omega (arith, c .before .before .before .before .before .loop .inv .on)
@@ -55,7 +52,7 @@ carry-requires c κs =
     let s = c .before .before .before .before in
     let inside = s .before .before .before .before in
     followed-few _ _ _ _ _ _ _ _ _ _ (inside .before .loop .inv) (inside .loop-test .taken) _ _ (s .step-rows .ensures)
-    (inside .before .before .before .before .pre)
+    (inside .before .before .before .pre .1)
 
 mul-carry-2 : tie.Need-mul-carry-2 Inv-loop μ-loop
 mul-carry-2 c = search needs
@@ -68,7 +65,7 @@ carry-requires-2 c κs =
     let s = c .before .before .before .before .before .before in
     let inside = s .before .before .before .before in
     followed-few _ _ _ _ _ _ _ _ _ _ (inside .before .loop .inv) (inside .loop-test .taken) _ _ (s .step-rows .ensures)
-    (inside .before .before .before .before .pre)
+    (inside .before .before .before .pre .1)
 
 add-at : tie.Need-add-at Inv-loop μ-loop
 add-at c = search needs
@@ -84,14 +81,8 @@ loop-again c =
     followed-more _ _ _ _ _ _ _ _ _ _ (inside .before .loop .inv) (inside .loop-test .taken) _ _ (s .step-rows .ensures) _ _
     (rw (c .before .before .carry .ensures, c .carry2 .ensures))
 
-mul-last : tie.Need-mul-last Inv-loop μ-loop
-mul-last c = omega (arith, c .before .loop .inv .on)
-
-array-copy-out-last : tie.Need-array-copy-out-last Inv-loop μ-loop
-array-copy-out-last c = omega (arith, c .before .loop .inv .on)
-
 returns : tie.Need-returns Inv-loop μ-loop
-returns c = followed-all _ _ _ _ _ _ _ _ _ _ (c .before .before .loop .inv) (c .before .loop-test .left)
+returns c = followed-all _ _ _ _ _ _ _ _ _ _ (c .before .loop .inv) (c .loop-test .left)
 
 pub follow-letters-spec : {M : Type 1} → statement M
 follow-letters-spec =
@@ -99,7 +90,6 @@ follow-letters-spec =
     (tie.spec
     Inv-loop
     μ-loop
-    array-set-from-sides
     loop-holds
     shared-slice-read-step-rows
     cast-step-rows
@@ -116,6 +106,4 @@ follow-letters-spec =
     add-at
     loop-less
     loop-again
-    mul-last
-    array-copy-out-last
     returns)

@@ -10,34 +10,43 @@ use Rattle.treejudge.specs.JudgeCall.{nameRoom}
 use Rattle.treejudge.specs.Reading.{Readable}
 use Rattle.treejudge.specs.Cycles.{AtRound, FirstRound}
 use Rattle.treejudge.specs.Repeats.{RepeatFound}
+use Rattle.treejudge.proofs.LettersRead.{tree-laid, reads-taken}
 use Rattle.treejudge.proofs.Judging.{sets-small, letters-small, judged-tail, lead-reads, first-round, says-no, some-node, says-yes}
 use Rattle.treejudge.proofs.judge.judge_walk.Statement.{statement}
 use Rattle.treejudge.proofs.judge.judge_walk.Tie as tie
 
 -- what the judge asks for
-known : (c : tie.After-letters-left2) →
-    let args = c .before .before .before .before .before .before .before .before .before .before .before .before .before .args in
+known : (c : tie.After-fill-tables) →
+    let args = c .before .before .before .before .before .before .before .before .args in
     Judgeable (args .header) (args .cells .now) (args .u .now) (args .v .now) nameRoom (args .names .now)
-known c = c .before .before .before .before .before .before .before .before .before .before .before .before .before .pre
+known c = c .before .before .before .before .before .before .before .before .pre
 
 -- t(0) of the walk, over a rule that the table holds
 first-place : (c : tie.After-letters-left2) →
-    let first = c .before in
-    let tables = first .before .before .before .before .before in
-    let args = tables .before .before .before .before .before .before .before .args in
+    let tables = c .before .before .before .before .before .before .before .before .before .before .before in
+    let args = tables .before .before .before .before .before .before .before .before .args in
     (R : Rule) → HoldsRule R (args .header) (args .cells .now)
-    → AtRound R (args .u .now) (c .letters-left2 .result .now) (tables .tables-of .result) (args .header .sets) 0
-    (first .read-letters .result)
+    → AtRound R (args .u .now) (c .letters-left2 .result .now) (tables .fill-tables .last .1 .1 .0) (args .header .sets) 0
+    (c .before .taken .result)
 first-place c R holds =
     let first = c .before in
-    let lead = first .before in
-    let made = lead .before .before .before in
+    let read = first .before .before in
+    let placed = read .before in
+    let lead = placed .before .before in
+    let laid = lead .before .before in
+    let made = laid .before .before in
     let tables = made .before in
-    let letters = tables .before in
+    let letters = tables .before .before in
     let lead-letters = letters .before in
-    first-round R _ _ holds _ (made .start .ensures) _ _ _ (lead .letters-left .ensures) (known c .lead)
-    _ _ (lead-letters .occurring .ensures) (letters .occurring2 .ensures) _ (tables .tables-of .ensures)
-    _ (first .read-letters .ensures) _ (c .letters-left2 .ensures) (known c .tail)
+    first-round R _ _ holds _ (made .start .ensures) _ _ _ (lead .letters-left .ensures) (known tables .lead)
+    _ _ (lead-letters .occurring .ensures) (letters .occurring2 .ensures) _ (tables .fill-tables .ensures) _
+    (reads-taken _ _ _ _ _ _ _ (tree-laid _ _ (laid .laid .ensures) _ (placed .on-first-side .ensures)) (first .taken .ensures)
+    (read .read-letters .ensures .1))
+    _ (c .letters-left2 .ensures) (known tables .tail)
+
+-- where the tables are made
+abbrev made-tables : tie.After-letters-left2 → tie.After-fill-tables
+made-tables c = c .before .before .before .before .before .before .before .before .before .before .before
 
 cast-k : tie.Need-cast-k
 cast-k c = let pre = c .before .before .before .before .pre in omega (arith, sets-small (pre .rule) _ _ (pre .holds))
@@ -50,35 +59,52 @@ occurring-requires-2 : tie.Need-occurring-requires-2
 occurring-requires-2 c κs = let start = c .before .before .before .before .before in
     letters-small (start .pre .rule) _ _ (start .pre .holds) (start .args .v .now) (start .pre .tail)
 
-tables-of-requires : tie.Need-tables-of-requires
-tables-of-requires c κs = search needs
+fill-tables-requires : tie.Need-fill-tables-requires
+fill-tables-requires c κs = search needs
 
 start-requires : tie.Need-start-requires
 start-requires c κs = search needs
 
+laid-requires : tie.Need-laid-requires
+laid-requires c κs = search needs
+
 letters-left-requires : tie.Need-letters-left-requires
 letters-left-requires c κs = search needs
+
+on-first-side-requires : tie.Need-on-first-side-requires
+on-first-side-requires c κs = search needs
 
 read-letters-requires : tie.Need-read-letters-requires
 unfolding Readable
 read-letters-requires c κs =
-    let made = c .before .before .before in
+    let lead = c .before .before in
+    let laid = lead .before .before in
+    let made = laid .before .before in
     let tables = made .before in
-    let letters = tables .before in
+    let letters = tables .before .before in
     let lead-letters = letters .before in
-    let pre = lead-letters .before .before .before .before .before .pre in (
-      pre .rule,
-      startTree (pre .rule),
-      lead-reads (pre .rule) _ _ (pre .holds) _ (made .start .ensures) _ _ _ (c .letters-left .ensures) (pre .lead)
-          _ _ (lead-letters .occurring .ensures) (letters .occurring2 .ensures) _ (tables .tables-of .ensures),
+    let pre = known tables in (
+      (laid .laid .ensures .arrays, rw (c .on-first-side .ensures) (omega arith)),
+      (
+        pre .rule,
+        startTree (pre .rule),
+        lead-reads (pre .rule) _ _ (pre .holds) _ (made .start .ensures) _ _ _ (lead .letters-left .ensures) (pre .lead)
+            _ _ (lead-letters .occurring .ensures) (letters .occurring2 .ensures) _ (tables .fill-tables .ensures)
+            _ (tree-laid _ _ (laid .laid .ensures) _ (c .on-first-side .ensures)),
+      ),
     )
+
+taken-requires : tie.Need-taken-requires
+taken-requires c κs = c .before .read-letters .ensures .0
 
 letters-left-requires-2 : tie.Need-letters-left-requires-2
 letters-left-requires-2 c κs = search needs
 
 find-repeat-requires : tie.Need-find-repeat-requires
 unfolding FirstRound
-find-repeat-requires c κs = let pre = known (c .before) in (pre .rule, _, first-place (c .before) (pre .rule) (pre .holds))
+find-repeat-requires c κs =
+    let pre = known (made-tables (c .before)) in
+    (pre .rule, _, first-place (c .before) (pre .rule) (pre .holds))
 
 returns : tie.Need-returns
 unfolding RepeatFound
@@ -96,17 +122,18 @@ unfolding RepeatFound
 node-name-requires c κs =
     let found = c .before .before .before in
     let tail = found .before .before in
-    let R = known tail .rule in
-    some-node R _ _ _ (found .find-repeat .ensures R _ (first-place tail R (known tail .holds))) [] (known tail .holds .states)
+    let pre = known (made-tables tail) in
+    let R = pre .rule in
+    some-node R _ _ _ (found .find-repeat .ensures R _ (first-place tail R (pre .holds))) [] (pre .holds .states)
     (c .before .if1 .left) _ (c .first-node .ensures)
 
 store-name-requires : tie.Need-store-name-requires
 store-name-requires c κs =
     let tail = c .before .before .before .before .before .before .before in
-    (c .before .node-name .ensures .short, known tail .room)
+    (c .before .node-name .ensures .short, known (made-tables tail) .room)
 
-cast-t26 : tie.Need-cast-t26
-cast-t26 c = search needs
+cast-t33 : tie.Need-cast-t33
+cast-t33 c = search needs
 
 same-length : tie.Need-same-length
 same-length c = search needs
@@ -130,16 +157,19 @@ judge-walk-spec =
     cast-k
     occurring-requires
     occurring-requires-2
-    tables-of-requires
+    fill-tables-requires
     start-requires
+    laid-requires
     letters-left-requires
+    on-first-side-requires
     read-letters-requires
+    taken-requires
     letters-left-requires-2
     find-repeat-requires
     returns
     first-node-requires
     node-name-requires
     store-name-requires
-    cast-t26
+    cast-t33
     same-length
     returns-2)

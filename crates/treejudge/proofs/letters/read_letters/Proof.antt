@@ -3,29 +3,26 @@ use borrow.Author.Needs.{needs}
 use Prim.Native.Nat.{_-_}
 use native.Mathlib.Omega.{arith}
 use mathlib.Core.List.{[]}
-use lib.ListN.{length, getD, length-map}
+use lib.ListN.{length, getD}
 use Rattle.treejudge.proofs.LettersRead.{ReadUpTo, letter-small, upto-none, upto-ready, upto-more, upto-all}
 use Rattle.treejudge.proofs.letters.read_letters.Statement.{statement}
 use Rattle.treejudge.proofs.letters.read_letters.Tie as tie
 
 abbrev Inv-loop : tie.InvT-loop
 Inv-loop tables k w sides₀ side₀ count₀ at₀ sides side count at =
-    ReadUpTo tables k w (record { rows = getD sides₀ 0 []; count = count₀ }) at sides side count
+    ReadUpTo tables k w (record { rows = getD sides₀ side₀ []; count = count₀ }) at sides side count
 
 abbrev μ-loop : tie.MeasureT-loop
 μ-loop tables k w sides₀ side₀ count₀ at₀ sides side count at = length w - at
 
-array-set-from-sides : tie.Need-array-set-from-sides Inv-loop μ-loop
-array-set-from-sides c = search needs
-
 loop-holds : tie.Need-loop-holds Inv-loop μ-loop
-loop-holds c = upto-none _ _ _ _ _ (simp length-map at (c .before .before .good .1 .1 .1 .0 .1 .1 .0 .1 .0 .1)) (search needs)
+loop-holds c = upto-none _ _ _ _ _ (c .before .pre .0)
 
 shared-slice-read-step-rows : tie.Need-shared-slice-read-step-rows Inv-loop μ-loop
 shared-slice-read-step-rows c = search needs
 
 index-1-step-rows : tie.Need-index-1-step-rows Inv-loop μ-loop
-index-1-step-rows c = letter-small _ _ _ _ (c .before .before .before .before .before .pre) _ (c .before .loop-test .taken)
+index-1-step-rows c = letter-small _ _ _ _ (c .before .before .before .before .pre .1) _ (c .before .loop-test .taken)
 
 cast-step-rows : tie.Need-cast-step-rows Inv-loop μ-loop
 cast-step-rows c = omega (arith, index-1-step-rows c)
@@ -34,7 +31,7 @@ mul-step-rows : tie.Need-mul-step-rows Inv-loop μ-loop
 mul-step-rows c = omega (arith, index-1-step-rows c)
 
 step-rows-requires : tie.Need-step-rows-requires Inv-loop μ-loop
-step-rows-requires c κs = let at = c .before .before .before .before in upto-ready _ _ _ _ _ _ _ _ (at .loop .inv) (at .before .before .before .pre)
+step-rows-requires c κs = let at = c .before .before .before .before in upto-ready _ _ _ _ _ _ _ _ (at .loop .inv) (at .before .before .pre .1)
 
 sub-side : tie.Need-sub-side Inv-loop μ-loop
 sub-side c = omega (arith, c .before .before .before .before .before .loop .inv .on)
@@ -50,14 +47,8 @@ loop-again c =
     let inside = c .before .before .before .before in
     upto-more _ _ _ _ _ _ _ _ (inside .before .loop .inv) (inside .loop-test .taken) _ _ (c .step-rows .ensures)
 
-mul-last : tie.Need-mul-last Inv-loop μ-loop
-mul-last c = omega (arith, c .before .loop .inv .on)
-
-array-copy-out-last : tie.Need-array-copy-out-last Inv-loop μ-loop
-array-copy-out-last c = omega (arith, c .before .loop .inv .on)
-
 returns : tie.Need-returns Inv-loop μ-loop
-returns c = upto-all _ _ _ _ _ _ _ _ (c .before .before .loop .inv) (c .before .loop-test .left)
+returns c = upto-all _ _ _ _ _ _ _ _ (c .before .loop .inv) (c .loop-test .left)
 
 pub read-letters-spec : {M : Type 1} → statement M
 read-letters-spec =
@@ -65,7 +56,6 @@ read-letters-spec =
     (tie.spec
     Inv-loop
     μ-loop
-    array-set-from-sides
     loop-holds
     shared-slice-read-step-rows
     cast-step-rows
@@ -76,6 +66,4 @@ read-letters-spec =
     add-at
     loop-less
     loop-again
-    mul-last
-    array-copy-out-last
     returns)

@@ -1,4 +1,4 @@
--- `tables_of` meets its contract. The loop fills the table of each letter of the map in turn.
+-- `fill_tables` meets its contract. The loop fills the table of each letter of the map in turn.
 use borrow.Author.Needs.{needs}
 use mathlib.Core.Logic.{⊎-elim}
 use Prim.Native.Nat.{_-_}
@@ -6,8 +6,8 @@ use borrow.Author.Tests.{ne-eqb}
 use Rattle.table.specs.Limits.{maxLetters}
 use Rattle.table.specs.BitSet.{member}
 use Rattle.treejudge.proofs.WalkTables.{TablesUpTo, tables-none, tables-more, tables-skip, tables-end}
-use Rattle.treejudge.proofs.letters.tables_of.Statement.{statement}
-use Rattle.treejudge.proofs.letters.tables_of.Tie as tie
+use Rattle.treejudge.proofs.letters.fill_tables.Statement.{statement}
+use Rattle.treejudge.proofs.letters.fill_tables.Tie as tie
 
 abbrev Inv-loop : tie.InvT-loop
 Inv-loop cells letters tables₀ letter₀ tables letter = TablesUpTo letters cells letter tables
@@ -16,7 +16,7 @@ abbrev μ-loop : tie.MeasureT-loop
 μ-loop cells letters tables₀ letter₀ tables letter = maxLetters - letter
 
 loop-holds : tie.Need-loop-holds Inv-loop μ-loop
-loop-holds c = tables-none _ _ _ (search needs)
+loop-holds c = tables-none _ _ _ (c .pre)
 
 cast-if1 : tie.Need-cast-if1 Inv-loop μ-loop
 cast-if1 c = search needs
@@ -56,8 +56,8 @@ loop-again c =
 returns : tie.Need-returns Inv-loop μ-loop
 returns c = tables-end _ _ _ _ (c .before .loop .inv) (search needs) (search needs)
 
-pub tables-of-spec : {M : Type 1} → statement M
-tables-of-spec =
+pub fill-tables-spec : {M : Type 1} → statement M
+fill-tables-spec =
     tie.close
     (tie.spec
     Inv-loop

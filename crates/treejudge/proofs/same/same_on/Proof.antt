@@ -1,0 +1,47 @@
+-- Two counts that differ, or the rows, by the laws of SameTrees.
+use borrow.Author.Needs.{needs}
+use mathlib.Core.List.{[]}
+use lib.ListN.{getD}
+use Rattle.tree.proofs.PackedWords.{rows-many}
+use Rattle.treejudge.proofs.SameTrees.{counts-differ}
+use Rattle.treejudge.proofs.same.same_on.Statement.{statement}
+use Rattle.treejudge.proofs.same.same_on.Tie as tie
+
+returns : tie.Need-returns
+returns c =
+    let ((few, less), ((arrays, from), (others, side))) = c .before .pre in
+    let args = c .before .args in
+    counts-differ _ _ _ _ (rows-many (getD (args .a .now) (args .from) []) (arrays .long _ from))
+    (rows-many (getD (args .b .now) (args .side) []) (others .long _ side)) few less (c .if1 .taken)
+
+mul-same-rows : tie.Need-mul-same-rows
+mul-same-rows c = search needs
+
+index-1-same-rows : tie.Need-index-1-same-rows
+index-1-same-rows c = search needs
+
+mul-same-rows-2 : tie.Need-mul-same-rows-2
+mul-same-rows-2 c = search needs
+
+index-1-same-rows-2 : tie.Need-index-1-same-rows-2
+index-1-same-rows-2 c = search needs
+
+same-rows-requires : tie.Need-same-rows-requires
+same-rows-requires c κs =
+    let ((few, less), ((arrays, from), (others, side))) = c .before .before .before .pre in
+    (few, (arrays .long _ from, others .long _ side))
+
+returns-2 : tie.Need-returns-2
+returns-2 c = rw (← c .before .before .before .if1 .left) (c .same-rows .ensures)
+
+pub same-on-spec : {M : Type 1} → statement M
+same-on-spec =
+    tie.close
+    (tie.spec
+    returns
+    mul-same-rows
+    index-1-same-rows
+    mul-same-rows-2
+    index-1-same-rows-2
+    same-rows-requires
+    returns-2)
