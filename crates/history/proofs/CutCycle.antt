@@ -1,8 +1,8 @@
 -- A tail that is cut in two, and the rounds counted from the cut: the same trees, letters and witnesses. Where t(0) and t(1) lead to
 -- the same tree at the cut, the first repeat is known, and one round from the cut on has its witnesses.
-use mathlib.Core.Path.{_≡_, refl, sym, _∙_, ap, ap₂}
+use mathlib.Core.Path.{_≡_, sym, _∙_, ap, ap₂}
 use mathlib.Core.Logic.{_↔_}
-use mathlib.Core.Bool.{true, _&&_, _||_, and-comm, or-comm}
+use mathlib.Core.Bool.{_&&_, _||_, and-comm, or-comm}
 use mathlib.Core.List.{List, _++_, append-nil}
 use Prim.Native.Nat.{ℕ, zero, suc, _≤_, _<_}
 use native.Mathlib.Omega.{arith}

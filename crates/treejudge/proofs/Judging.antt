@@ -18,7 +18,7 @@ use Rattle.table.proofs.Every.{every-weaker}
 use Rattle.table.proofs.Logic.{clash}
 use Rattle.word.specs.Walk.{rounds, lettersLeft}
 use Rattle.history.specs.Forest.{size, names}
-use Rattle.history.specs.Tree.{Tree, startTree}
+use Rattle.history.specs.Tree.{startTree}
 use Rattle.history.specs.Rounds.{roundTree}
 use Rattle.history.specs.Verdict.{FirstWitness}
 use Rattle.history.specs.Finding.{yes-node, no-node}

@@ -16,7 +16,7 @@ use Rattle.word.specs.Walk.{rounds}
 use Rattle.word.proofs.Paths.{rounds-one}
 use Rattle.history.specs.Forest.{size}
 use Rattle.history.specs.Tree.{Tree}
-use Rattle.history.specs.Rounds.{readLetters, roundTree, FirstRepeat}
+use Rattle.history.specs.Rounds.{roundTree, FirstRepeat}
 use Rattle.history.specs.Following.{acceptedMap}
 use Rattle.history.proofs.TreesOfWalk.{round-next}
 use Rattle.history.proofs.RepeatExists.{repeat-exists}

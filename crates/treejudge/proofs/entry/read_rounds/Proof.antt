@@ -1,7 +1,7 @@
 -- `read_rounds` meets its contract. From t(r) on, the tree at hand is t(r + round).
 use borrow.Author.Needs.{needs}
 use native.Mathlib.Omega.{arith}
-use mathlib.Core.Path.{_≡_, refl}
+use mathlib.Core.Path.{_≡_}
 use mathlib.Core.List.{List}
 use Prim.Native.Nat.{ℕ, _+_, _-_, _≤_}
 use Rattle.table.specs.Rule.{Rule}

@@ -1,9 +1,9 @@
 -- `early_repeat` meets its contract, by the laws of RepeatSearch.
 use borrow.Author.Needs.{needs}
 use native.Mathlib.Omega.{arith}
-use mathlib.Core.Path.{_≡_, refl, sym}
+use mathlib.Core.Path.{_≡_, sym}
 use mathlib.Core.List.{[]}
-use Rattle.treejudge.specs.Reading.{treeOn, Readable, ReadsTo}
+use Rattle.treejudge.specs.Reading.{Readable, ReadsTo}
 use Rattle.treejudge.specs.Names.{followedOn, begunAt, Followable}
 use Rattle.treejudge.specs.Cycles.{FirstRound}
 use Rattle.treejudge.specs.Repeats.{RepeatFound}
