@@ -4,7 +4,6 @@ use mathlib.Core.Bool.{true, false}
 use mathlib.Core.List.{List, _++_}
 use Prim.Native.Nat.{ℕ, _+_, _-_, _^_, _≤_, _<_}
 use native.Mathlib.Omega.{arith}
-use lib.ListN.{take}
 use Rattle.table.specs.Limits.{maxStates}
 use Rattle.table.specs.Rule.{Rule}
 use Rattle.word.specs.Walk.{rounds}
@@ -15,10 +14,9 @@ use Rattle.history.proofs.RepeatExists.{repeat-exists}
 use Rattle.history.proofs.CycleVerdict.{read-rounds}
 use Rattle.history.proofs.CycleFinding.{BrentSoFar, Skips, brent-start, none-skips, brent-more, brent-reset, reset-skips}
 use Rattle.history.proofs.CycleFinding.{brent-found, lam-steps, power-doubles, brent-measure}
-use Rattle.tree.specs.PackedRows.{rowsIn}
 use Rattle.treejudge.specs.Reading.{Tables}
-use Rattle.treejudge.specs.Names.{Followed, Follows, FollowsOn, FollowsTo, begunAt}
-use Rattle.treejudge.specs.SameRows.{sameRows}
+use Rattle.treejudge.specs.Names.{Followed, treeOf, Follows, FollowsOn, FollowsTo, begunAt}
+use Rattle.treejudge.specs.SameRows.{sameTrees}
 use Rattle.treejudge.specs.Cycles.{AtRound, CycleOf}
 use Rattle.treejudge.specs.declared.letters.CountedRows.{CountedRows}
 use Rattle.treejudge.proofs.NamesFollowed.{begun-follows}
@@ -70,26 +68,25 @@ module _ {R : Rule} {u v : List ℕ} {tables : Tables} {k : ℕ} {x y : CountedR
   search-measure =
       let (e, p, F, small) = repeat in brent-measure (roundTree R u v) (readLetters R v) (round-next R u v) e p F small power lam (S .brent)
 
-  module _ (next : Followed) {reached : CountedRows} (on : FollowsTo tables k v now next)
-      (is : reached ≡ record { rows = next .rows; count = next .count }) where
+  module _ (next : Followed) (on : FollowsTo tables k v now next) where
     -- it leads to the tree one round further
     followed : Follows R (roundTree R u v (power - 1)) (rounds (lam + 1) v) next
     unfolding FollowsTo
     followed = rw rounds-more (on R _ _ search-follows)
 
-    there : AtRound R u v tables k (power - 1 + (lam + 1)) reached
+    there : AtRound R u v tables k (power - 1 + (lam + 1)) (treeOf next)
     there = record {
       holds = S .held .holds;
       tabled = S .held .tabled;
-      tree = rw (is, ← read-rounds R u v (lam + 1) (power - 1)) (followed .tree);
+      tree = rw (← read-rounds R u v (lam + 1) (power - 1)) (followed .tree);
     }
 
     -- the held tree and the one reached can be compared
-    pub search-small : (x .count ≤ maxStates) × (reached .count ≤ maxStates)
+    pub search-small : (x .count ≤ maxStates) × (next .count ≤ maxStates)
     search-small = both-small (S .held) there
 
     -- where they are the same, the cycle is found
-    pub search-found : sameRows (take (x .count) (rowsIn (x .rows))) (take (reached .count) (rowsIn (reached .rows))) ≡ true
+    pub search-found : sameTrees x (treeOf next) ≡ true
         → (entry period : ℕ) → FirstRepeat (roundTree R u v) entry period
         → CycleOf R u v entry period
         (record { held = x; before = y; half = half; power = power; period = lam + 1; accepted = next .accepted })
@@ -106,7 +103,7 @@ module _ {R : Rule} {u v : List ℕ} {tables : Tables} {k : ℕ} {x y : CountedR
           accepted = rw (← back) (followed .accepted);
         }
 
-    module _ (differ : sameRows (take (x .count) (rowsIn (x .rows))) (take (reached .count) (rowsIn (reached .rows))) ≡ false) where
+    module _ (differ : sameTrees x (treeOf next) ≡ false) where
       apart : roundTree R u v (power - 1) ≡ roundTree R u v (power - 1 + (lam + 1)) → ⊥
       apart = rows-differ (S .held) there differ
 
@@ -128,11 +125,11 @@ module _ {R : Rule} {u v : List ℕ} {tables : Tables} {k : ℕ} {x y : CountedR
             let (e, p, F, small) = repeat in
             power-doubles (roundTree R u v) (readLetters R v) (round-next R u v) e p F small power lam (S .brent) apart full
 
-        pub search-reset : Searching R u v tables k reached x power (power + power) 0 (begunAt reached)
+        pub search-reset : Searching R u v tables k (treeOf next) x power (power + power) 0 (begunAt (treeOf next))
         unfolding rounds
         search-reset =
             let e : power - 1 + (lam + 1) ≡ power + power - 1 = omega (arith, S .below) in
-            let A : AtRound R u v tables k (power + power - 1) reached = rw e at there in
+            let A : AtRound R u v tables k (power + power - 1) (treeOf next) = rw e at there in
             record {
               held = A;
               before = S .held;

@@ -5,14 +5,12 @@ use mathlib.Core.List.{List}
 use Prim.Native.Nat.{ℕ, _+_, _-_, _≤_, _<_}
 use native.Mathlib.Omega.{arith}
 use native.Mathlib.Decide.{ℕ-discrete}
-use lib.ListN.{take}
 use Rattle.table.specs.Rule.{Rule}
 use Rattle.history.specs.Rounds.{readLetters, roundTree}
 use Rattle.history.proofs.TreesOfWalk.{round-next}
 use Rattle.history.proofs.FirstRepeats.{repeat-only}
-use Rattle.tree.specs.PackedRows.{rowsIn}
 use Rattle.treejudge.specs.Reading.{Tables, ReadsTo}
-use Rattle.treejudge.specs.SameRows.{sameRows}
+use Rattle.treejudge.specs.SameRows.{sameTrees}
 use Rattle.treejudge.specs.Cycles.{AtRound, Ahead, Bracket, Searched}
 use Rattle.treejudge.specs.declared.letters.CountedRows.{CountedRows}
 use Rattle.treejudge.specs.declared.cycle.Cycle.{Cycle}
@@ -21,14 +19,14 @@ use Rattle.treejudge.proofs.RoundsRead.{round-read, rounds-read, rows-s
 module _ {R : Rule} {u v : List ℕ} {tables : Tables} {k entry period place high : ℕ} {x y : CountedRows}
     (N : Bracket R u v tables k entry period place high x y) where
   -- where the two trees are the same, the place is the entry
-  pub entry-here : sameRows (take (x .count) (rowsIn (x .rows))) (take (y .count) (rowsIn (y .rows))) ≡ true → place ≡ entry
+  pub entry-here : sameTrees x y ≡ true → place ≡ entry
   entry-here same =
       let F = N .repeat in
       let (late, _) = repeat-only (roundTree R u v) (readLetters R v) (round-next R u v) entry period F place (place + period)
       (omega (arith, F .positive)) (rows-same (N .place) (N .ahead) same) in
       omega (arith, N .from)
 
-  module _ (differ : sameRows (take (x .count) (rowsIn (x .rows))) (take (y .count) (rowsIn (y .rows))) ≡ false) where
+  module _ (differ : sameTrees x y ≡ false) where
     -- otherwise the entry is later
     pub entry-later : place + 1 ≤ entry
     entry-later = go (ℕ-discrete place entry)

@@ -27,7 +27,7 @@ use Rattle.tree.specs.Sides.{rowsOn, TwoSides, Steppable, Stepping}
 use Rattle.tree.specs.declared.rows.Row.{Row}
 use Rattle.tree.specs.declared.rows.Stepped.{Stepped}
 use Rattle.treejudge.specs.Reading.{Tables, Tabled, WithinLimits, HoldsTree, treeOn, Stands, Readable}
-use Rattle.treejudge.specs.Names.{Followed, followedOn, followedBy, begunAt, begunOn, Follows, FollowsOn, Followable, FollowsTo}
+use Rattle.treejudge.specs.Names.{Followed, treeOf, followedOn, followedBy, begunAt, begunOn, Follows, FollowsOn, Followable, FollowsTo}
 use Rattle.treejudge.specs.declared.letters.CountedRows.{CountedRows}
 use Rattle.treejudge.specs.declared.letters.OnSide.{OnSide}
 use Rattle.treejudge.specs.declared.follow.FollowedOn.{FollowedOn}
@@ -138,7 +138,7 @@ followed-none tables k w sides from (arrays, on) =
 
 module _ (tables : Tables) (k : ℕ) (w : List ℕ) (x : Followed) where
   -- the letters can be read
-  pub followed-reads : Followable tables k w x → Readable tables k w (record { rows = x .rows; count = x .count })
+  pub followed-reads : Followable tables k w x → Readable tables k w (treeOf x)
   unfolding Followable Readable
   followed-reads (R, T, before, v) =
       (R, readLetters R before T, record { holds = v .holds; tabled = v .tabled; tree = v .follows .tree })

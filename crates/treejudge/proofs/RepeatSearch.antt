@@ -22,10 +22,9 @@ use Rattle.history.proofs.TreesOfWalk.{round-next}
 use Rattle.history.proofs.RepeatExists.{repeat-exists}
 use Rattle.history.proofs.CycleVerdict.{member-node, verdict-yes, verdict-no}
 use Rattle.history.proofs.CutCycle.{cut-round, cut-rest, repeat-first, repeat-second, cut-repeat, cut-first, cut-none}
-use Rattle.tree.specs.PackedRows.{rowsIn}
 use Rattle.treejudge.specs.Reading.{Tables, Tabled, HoldsTree, Reads, ReadsTo}
-use Rattle.treejudge.specs.Names.{Followed, begunAt, Follows, FollowsOn, FollowsTo}
-use Rattle.treejudge.specs.SameRows.{sameRows}
+use Rattle.treejudge.specs.Names.{Followed, treeOf, begunAt, Follows, FollowsOn, FollowsTo}
+use Rattle.treejudge.specs.SameRows.{sameTrees}
 use Rattle.treejudge.specs.Cycles.{AtRound, CycleFound, Searched, EntryFound}
 use Rattle.treejudge.specs.Repeats.{RepeatOf}
 use Rattle.treejudge.specs.declared.letters.CountedRows.{CountedRows}
@@ -110,7 +109,7 @@ module _ (R : Rule) (u head rest : List ℕ) (tables : Tables) (k : ℕ) (first 
         unfolding FollowsTo
         at-second = on R (s 0) [] rest-follows
 
-        pub second-holds : HoldsTree R (t 1) (record { rows = second .rows; count = second .count })
+        pub second-holds : HoldsTree R (t 1) (treeOf second)
         second-holds = rw (← cut-rest R u head rest 0) (at-second .tree)
 
         -- and on to the cut
@@ -122,7 +121,7 @@ module _ (R : Rule) (u head rest : List ℕ) (tables : Tables) (k : ℕ) (first 
           unfolding FollowsTo
           at-again = back R (s 0) rest head-follows
 
-          pub again-holds : HoldsTree R (s 1) (record { rows = again .rows; count = again .count })
+          pub again-holds : HoldsTree R (s 1) (treeOf again)
           again-holds = rw (round-next R (u ++ head) (rest ++ head) 0) (at-again .tree)
 
           accepted-is : again .accepted ≡ acceptedMap R (s 0) (rounds 1 (rest ++ head))
@@ -151,7 +150,7 @@ module _ (R : Rule) (u head rest : List ℕ) (tables : Tables) (k : ℕ) (first 
 
             -- as the comparison of t(0) and t(1) says
             repeat-told : (still : Bool)
-                → still ≡ sameRows (take (first .count) (rowsIn (first .rows))) (take (second .count) (rowsIn (second .rows)))
+                → still ≡ sameTrees first (treeOf second)
                 → RepeatOf R u (head ++ rest) (record { tree = cut; accepted = again .accepted; entry = cond (not still) 1 0; period = 1 })
             repeat-told true is = repeat-at 0 (repeat-first R u head rest meet
                 (same-rows-same R (t 0) (t 1) first _ (A .holds .sets) (A .tree) second-holds (sym is))) (omega arith)
@@ -160,8 +159,8 @@ module _ (R : Rule) (u head rest : List ℕ) (tables : Tables) (k : ℕ) (first 
 
           -- the answer, by the two comparisons
           pub repeat-early : (met still : Bool) (entry period : ℕ)
-              → met ≡ sameRows (take (cut .count) (rowsIn (cut .rows))) (take (again .count) (rowsIn (again .rows)))
-              → still ≡ sameRows (take (first .count) (rowsIn (first .rows))) (take (second .count) (rowsIn (second .rows)))
+              → met ≡ sameTrees cut (treeOf again)
+              → still ≡ sameTrees first (treeOf second)
               → entry ≡ cond (not still) 1 0 → period ≡ cond met 1 0 → period ≡ 1
               → RepeatOf R u (head ++ rest) (record { tree = cut; accepted = again .accepted; entry = entry; period = period })
           repeat-early false still entry period m q e none one = absurd (omega arith)

@@ -4,15 +4,13 @@ use mathlib.Core.Bool.{true, false}
 use mathlib.Core.List.{List}
 use Prim.Native.Nat.{ℕ, _+_, _≤_}
 use native.Mathlib.Numerals.{add-one}
-use lib.ListN.{take}
 use Rattle.table.specs.Limits.{maxStates}
 use Rattle.table.specs.Rule.{Rule}
 use Rattle.table.proofs.Logic.{clash}
 use Rattle.history.specs.Rounds.{roundTree}
 use Rattle.history.proofs.TreesOfWalk.{round-next}
-use Rattle.tree.specs.PackedRows.{rowsIn}
 use Rattle.treejudge.specs.Reading.{Tables, Reads, ReadsTo}
-use Rattle.treejudge.specs.SameRows.{sameRows}
+use Rattle.treejudge.specs.SameRows.{sameTrees}
 use Rattle.treejudge.specs.Cycles.{AtRound, Ahead}
 use Rattle.treejudge.specs.declared.letters.CountedRows.{CountedRows}
 use Rattle.treejudge.proofs.LettersRead.{tree-small}
@@ -40,8 +38,8 @@ module _ {R : Rule} {u v : List ℕ} {tables : Tables} {k i : ℕ} {x : CountedR
     both-small = (tree-small R _ x (X .holds .states) (X .tree), tree-small R _ y (X .holds .states) (Y .tree))
 
     -- and are the same if their rows are
-    pub rows-same : sameRows (take (x .count) (rowsIn (x .rows))) (take (y .count) (rowsIn (y .rows))) ≡ true → roundTree R u v i ≡ roundTree R u v j
+    pub rows-same : sameTrees x y ≡ true → roundTree R u v i ≡ roundTree R u v j
     rows-same same = same-rows-same R _ _ x y (X .holds .sets) (X .tree) (Y .tree) same
 
-    pub rows-differ : sameRows (take (x .count) (rowsIn (x .rows))) (take (y .count) (rowsIn (y .rows))) ≡ false → roundTree R u v i ≡ roundTree R u v j → ⊥
+    pub rows-differ : sameTrees x y ≡ false → roundTree R u v i ≡ roundTree R u v j → ⊥
     rows-differ differ e = clash differ (same-trees-same R _ x y (X .tree) (rw e (Y .tree)))

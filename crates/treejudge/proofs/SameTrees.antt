@@ -22,7 +22,7 @@ use Rattle.tree.specs.declared.rows.Row.{Row}
 use Rattle.tree.proofs.PackedWords.{low-same, same-low}
 use Rattle.tree.proofs.RecordOfRows.{record-of-rows}
 use Rattle.tree.specs.PackedRows.{unpacked, rowsIn}
-use Rattle.treejudge.specs.SameRows.{sameRow, sameRows}
+use Rattle.treejudge.specs.SameRows.{sameRow, sameRows, sameTrees}
 use Rattle.treejudge.specs.Reading.{HoldsTree}
 use Rattle.treejudge.specs.declared.letters.CountedRows.{CountedRows}
 
@@ -122,7 +122,7 @@ same-rows-in (x ∷ rows) (y ∷ others) e = and-both (sameRow x y) _ (same-row-
 
 -- trees with the same rows have one record, so they are the same tree
 pub same-rows-same : (R : Rule) (T U : Tree) (x y : CountedRows) → R .sets ≤ maxSets → HoldsTree R T x → HoldsTree R U y
-    → sameRows (take (x .count) (rowsIn (x .rows))) (take (y .count) (rowsIn (y .rows))) ≡ true → T ≡ U
+    → sameTrees x y ≡ true → T ≡ U
 same-rows-same R T U x y sets held other e =
     let rows = take (x .count) (rowsIn (x .rows)) in
     record-injective (R .states) (R .sets) T U (held .fits) (other .fits) (omega arith)
@@ -131,6 +131,6 @@ same-rows-same R T U x y sets held other e =
 
 -- one tree has the same rows wherever it is held
 pub same-trees-same : (R : Rule) (T : Tree) (x y : CountedRows) → HoldsTree R T x → HoldsTree R T y
-    → sameRows (take (x .count) (rowsIn (x .rows))) (take (y .count) (rowsIn (y .rows))) ≡ true
+    → sameTrees x y ≡ true
 same-trees-same R T x y held other =
     same-rows-in (take (x .count) (rowsIn (x .rows))) (take (y .count) (rowsIn (y .rows))) (held .are ∙ sym (other .are))

@@ -23,6 +23,10 @@ pub record Followed : Type 0 where
   pub kept : ℕ
   pub accepted : ℕ
 
+-- its tree
+abbrev pub treeOf : Followed → CountedRows
+treeOf x = record { rows = x .rows; count = x .count }
+
 -- on one of two sides
 abbrev pub followedOn : List (List ℕ) → FollowedOn → Followed
 followedOn sides x = record { rows = getD sides (x .side) []; count = x .count; kept = x .kept; accepted = x .accepted }
@@ -42,13 +46,14 @@ followedBy words next kept accepted =
 unfoldable pub begunAt : CountedRows → Followed
 begunAt x = record { rows = x .rows; count = x .count; kept = 2 ^ x .count - 1; accepted = 0 }
 
+-- the same on a side
 abbrev pub begunOn : ℕ → ℕ → FollowedOn
 begunOn side count = record { side = side; count = count; kept = 2 ^ count - 1; accepted = 0 }
 
 -- the tree after the letters w from T on, and the maps of its nodes that kept their names all along, and were accepting once
 pub record Follows (R : Rule) (T : Tree) (w : List ℕ) (x : Followed) : Type 0 where
   pub first : isTree (R .states) (R .sets) T ≡ true
-  pub tree : HoldsTree R (readLetters R w T) (record { rows = x .rows; count = x .count })
+  pub tree : HoldsTree R (readLetters R w T) (treeOf x)
   pub kept : x .kept ≡ keptMap R T w
   pub accepted : x .accepted ≡ acceptedMap R T w
 

@@ -57,14 +57,14 @@ same-tree-requires c κs =
     let followed = c .before in
     let (R, u, S) = search-known (followed .before .before) in
     let (on, to) = followed .follow-letters .ensures in
-    (search-small S _ to refl, on)
+    (search-small S _ to, on)
 
 returns : tie.Need-returns Inv-loop μ-loop
 unfolding CycleFound
 returns c R u entry period A F =
     let same = c .before in
     let followed = same .before .before in
-    search-found (followed .before .before .loop .inv .1 R u A) _ (followed .follow-letters .ensures .1) refl
+    search-found (followed .before .before .loop .inv .1 R u A) _ (followed .follow-letters .ensures .1)
     (sym (same .same-tree .ensures) ∙ c .if1 .taken) entry period F
 
 taken-requires : tie.Need-taken-requires Inv-loop μ-loop
@@ -78,14 +78,14 @@ add-power c =
     let (R, u, S) = search-known (followed .before .before) in
     omega (
       arith,
-      power-fits S _ (followed .follow-letters .ensures .1) refl (sym (same .same-tree .ensures) ∙ full .before .if1 .left) (full .if2 .taken),
+      power-fits S _ (followed .follow-letters .ensures .1) (sym (same .same-tree .ensures) ∙ full .before .if1 .left) (full .if2 .taken),
     )
 
 begin-requires-2 : tie.Need-begin-requires-2 Inv-loop μ-loop
 begin-requires-2 c κs =
     let followed = c .before .before .before .before .before .before in
     let (R, u, S) = search-known (followed .before .before) in
-    search-small S _ (followed .follow-letters .ensures .1) refl .1
+    search-small S _ (followed .follow-letters .ensures .1) .1
 
 loop-less : tie.Need-loop-less Inv-loop μ-loop
 loop-less c =
@@ -101,7 +101,7 @@ loop-again c =
     let (on, to) = followed .follow-letters .ensures in (
       rw (c .begin2 .ensures) on,
       λ R u A. rw (c .begin2 .ensures, c .before .taken .ensures)
-          (search-reset (followed .before .before .loop .inv .1 R u A) _ to refl
+          (search-reset (followed .before .before .loop .inv .1 R u A) _ to
           (sym (same .same-tree .ensures) ∙ full .before .if1 .left) (full .if2 .taken)),
     )
 
@@ -116,7 +116,7 @@ loop-again-2 c =
     let followed = same .before .before in
     let (on, to) = followed .follow-letters .ensures in (
       on,
-      λ R u A. search-more (followed .before .before .loop .inv .1 R u A) _ to refl
+      λ R u A. search-more (followed .before .before .loop .inv .1 R u A) _ to
           (sym (same .same-tree .ensures) ∙ c .before .if1 .left) (c .if2 .left),
     )
 
