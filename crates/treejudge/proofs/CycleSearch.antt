@@ -14,7 +14,7 @@ use Rattle.history.proofs.RepeatExists.{repeat-exists}
 use Rattle.history.proofs.CycleVerdict.{read-rounds}
 use Rattle.history.proofs.CycleFinding.{BrentSoFar, Skips, brent-start, none-skips, brent-more, brent-reset, reset-skips}
 use Rattle.history.proofs.CycleFinding.{brent-found, lam-steps, power-doubles, brent-measure}
-use Rattle.treejudge.specs.Reading.{Tables}
+use Rattle.word.specs.WalkTables.{Tables}
 use Rattle.treejudge.specs.Names.{Followed, treeOf, Follows, FollowsOn, FollowsTo, begunAt}
 use Rattle.treejudge.specs.SameRows.{sameTrees}
 use Rattle.treejudge.specs.Cycles.{AtRound, CycleOf}

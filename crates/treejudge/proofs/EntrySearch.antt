@@ -9,7 +9,8 @@ use Rattle.table.specs.Rule.{Rule}
 use Rattle.history.specs.Rounds.{readLetters, roundTree}
 use Rattle.history.proofs.TreesOfWalk.{round-next}
 use Rattle.history.proofs.FirstRepeats.{repeat-only}
-use Rattle.treejudge.specs.Reading.{Tables, ReadsTo}
+use Rattle.word.specs.WalkTables.{Tables}
+use Rattle.treejudge.specs.Reading.{ReadsTo}
 use Rattle.treejudge.specs.SameRows.{sameTrees}
 use Rattle.treejudge.specs.Cycles.{AtRound, Ahead, Bracket, Searched}
 use Rattle.treejudge.specs.declared.letters.CountedRows.{CountedRows}

@@ -27,7 +27,8 @@ use Rattle.tree.specs.RecordRows.{startRows}
 use Rattle.tree.specs.PackedRows.{rowsIn}
 use Rattle.tree.proofs.StartCall.{start-rows-are}
 use Rattle.treejudge.specs.JudgeCall.{noName, treeAnswer, namesAfter, Judged}
-use Rattle.treejudge.specs.Reading.{Tables, occurring, TablesOf, WithinLimits, Reads, ReadsTo}
+use Rattle.word.specs.WalkTables.{Tables, occurring, TablesOf}
+use Rattle.treejudge.specs.Reading.{WithinLimits, Reads, ReadsTo}
 use Rattle.treejudge.specs.Cycles.{AtRound}
 use Rattle.treejudge.specs.Repeats.{RepeatOf}
 use Rattle.treejudge.specs.NodeNames.{Lowest, SomeNode, IsName}
@@ -35,7 +36,7 @@ use Rattle.treejudge.specs.declared.letters.CountedRows.{CountedRows}
 use Rattle.treejudge.specs.declared.repeat.Repeat.{Repeat}
 use Rattle.treejudge.specs.declared.name.Name.{Name}
 use Rattle.treejudge.specs.declared.judge.TreeAnswer.{TreeAnswer}
-use Rattle.treejudge.proofs.WalkTables.{lead-tabled, tail-tabled}
+use Rattle.word.proofs.WalkTables.{lead-tabled, tail-tabled}
 
 -- the letters still to be read, from the first of u or of v on
 lead-left : (u v w : List ℕ) → w ≡ lettersLeft false u v 0 → u ≡ w

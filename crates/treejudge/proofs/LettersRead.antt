@@ -21,7 +21,8 @@ use Rattle.tree.specs.Sides.{rowsOn, TwoSides, Steppable, Stepping}
 use Rattle.tree.specs.declared.rows.Stepped.{Stepped}
 use Rattle.tree.proofs.PassLoop.{two-sides}
 use Rattle.tree.proofs.StepOfRows.{rows-are-nodes, sets-fit, steps-to}
-use Rattle.treejudge.specs.Reading.{Tables, Tabled, WithinLimits, HoldsTree, treeOn, Stands, Laid, Reads, Readable, ReadsTo}
+use Rattle.word.specs.WalkTables.{Tables, Tabled}
+use Rattle.treejudge.specs.Reading.{WithinLimits, HoldsTree, treeOn, Stands, Laid, Reads, Readable, ReadsTo}
 use Rattle.treejudge.specs.declared.letters.CountedRows.{CountedRows}
 use Rattle.treejudge.specs.declared.letters.OnSide.{OnSide}
 

@@ -3,8 +3,7 @@ pub mod TreeVerdict
 pub mod Examples
 pub mod JudgeCalls
 pub mod Judging
--- The tables of a walk, reading letters, and following names through them.
-pub mod WalkTables
+-- Reading letters, and following names through them.
 pub mod LettersRead
 pub mod NamesFollowed
 -- Finding the first repeat: rounds read and compared, the search for the period, the search for the entry, and what they find.

@@ -26,7 +26,8 @@ use Rattle.tree.specs.RecordRows.{places}
 use Rattle.tree.specs.Sides.{rowsOn, TwoSides, Steppable, Stepping}
 use Rattle.tree.specs.declared.rows.Row.{Row}
 use Rattle.tree.specs.declared.rows.Stepped.{Stepped}
-use Rattle.treejudge.specs.Reading.{Tables, Tabled, WithinLimits, HoldsTree, treeOn, Stands, Readable}
+use Rattle.word.specs.WalkTables.{Tables, Tabled}
+use Rattle.treejudge.specs.Reading.{WithinLimits, HoldsTree, treeOn, Stands, Readable}
 use Rattle.treejudge.specs.Names.{Followed, treeOf, followedOn, followedBy, begunAt, begunOn, Follows, FollowsOn, Followable, FollowsTo}
 use Rattle.treejudge.specs.declared.letters.CountedRows.{CountedRows}
 use Rattle.treejudge.specs.declared.letters.OnSide.{OnSide}

@@ -22,7 +22,8 @@ use Rattle.history.proofs.TreesOfWalk.{round-next}
 use Rattle.history.proofs.RepeatExists.{repeat-exists}
 use Rattle.history.proofs.CycleVerdict.{member-node, verdict-yes, verdict-no}
 use Rattle.history.proofs.CutCycle.{cut-round, cut-rest, repeat-first, repeat-second, cut-repeat, cut-first, cut-none}
-use Rattle.treejudge.specs.Reading.{Tables, Tabled, HoldsTree, Reads, ReadsTo}
+use Rattle.word.specs.WalkTables.{Tables, Tabled}
+use Rattle.treejudge.specs.Reading.{HoldsTree, Reads, ReadsTo}
 use Rattle.treejudge.specs.Names.{Followed, treeOf, begunAt, Follows, FollowsOn, FollowsTo}
 use Rattle.treejudge.specs.SameRows.{sameTrees}
 use Rattle.treejudge.specs.Cycles.{AtRound, CycleFound, Searched, EntryFound}

@@ -9,7 +9,8 @@ use Rattle.table.specs.Rule.{Rule}
 use Rattle.table.proofs.Logic.{clash}
 use Rattle.history.specs.Rounds.{roundTree}
 use Rattle.history.proofs.TreesOfWalk.{round-next}
-use Rattle.treejudge.specs.Reading.{Tables, Reads, ReadsTo}
+use Rattle.word.specs.WalkTables.{Tables}
+use Rattle.treejudge.specs.Reading.{Reads, ReadsTo}
 use Rattle.treejudge.specs.SameRows.{sameTrees}
 use Rattle.treejudge.specs.Cycles.{AtRound, Ahead}
 use Rattle.treejudge.specs.declared.letters.CountedRows.{CountedRows}

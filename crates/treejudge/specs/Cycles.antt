@@ -7,7 +7,8 @@ use Rattle.table.specs.Table.{Every}
 use Rattle.word.specs.Walk.{rounds}
 use Rattle.history.specs.Rounds.{roundTree, FirstRepeat}
 use Rattle.history.specs.Following.{acceptedMap}
-use Rattle.treejudge.specs.Reading.{Tables, Tabled, WithinLimits, HoldsTree}
+use Rattle.word.specs.WalkTables.{Tables, Tabled}
+use Rattle.treejudge.specs.Reading.{WithinLimits, HoldsTree}
 use Rattle.treejudge.specs.declared.letters.CountedRows.{CountedRows}
 use Rattle.treejudge.specs.declared.cycle.Cycle.{Cycle}
 

@@ -12,7 +12,8 @@ use Rattle.history.specs.Rounds.{readLetters}
 use Rattle.history.specs.Following.{carried, keptMap, acceptedMap}
 use Rattle.tree.specs.PackedRows.{rowsIn}
 use Rattle.tree.specs.declared.rows.Stepped.{Stepped}
-use Rattle.treejudge.specs.Reading.{Tables, Tabled, WithinLimits, HoldsTree}
+use Rattle.word.specs.WalkTables.{Tables, Tabled}
+use Rattle.treejudge.specs.Reading.{WithinLimits, HoldsTree}
 use Rattle.treejudge.specs.declared.letters.CountedRows.{CountedRows}
 use Rattle.treejudge.specs.declared.follow.FollowedOn.{FollowedOn}
 

@@ -1,16 +1,13 @@
 -- Reading letters: what the contracts of the tree judge's own functions say of tables and rows.
 use mathlib.Core.Path.{_≡_}
 use mathlib.Core.Bool.{true}
-use mathlib.Core.List.{List, [], _∷_}
-use Prim.Native.Nat.{ℕ, _^_, _≤_, _<_}
-use lib.Bits.{bitOr}
+use mathlib.Core.List.{List, []}
+use Prim.Native.Nat.{ℕ, _≤_, _<_}
 use lib.ListN.{getD, take}
-use Rattle.table.specs.BitSet.{member}
 use Rattle.table.specs.Limits.{maxStates, maxLetters, maxSets}
-use Rattle.table.specs.Rule.{Grid, Rule}
+use Rattle.table.specs.Rule.{Rule}
 use Rattle.table.specs.Table.{Every, WellFormed}
-use Rattle.table.specs.Held.{held}
-use Rattle.table.specs.Lookup.{LetterTable, letterTable}
+use Rattle.word.specs.WalkTables.{Tables, Tabled}
 use Rattle.history.specs.Forest.{size}
 use Rattle.history.specs.Tree.{Tree, isTree}
 use Rattle.history.specs.Rounds.{readLetters}
@@ -19,24 +16,6 @@ use Rattle.tree.specs.Rows.{AreRows}
 use Rattle.tree.specs.Sides.{TwoSides}
 use Rattle.treejudge.specs.declared.letters.CountedRows.{CountedRows}
 use Rattle.treejudge.specs.declared.letters.OnSide.{OnSide}
-
--- the tables of the letters
-abbrev pub Tables : Type 0
-Tables = List LetterTable
-
--- the map of the letters of a word, joined to a map of letters
-unfoldable pub occurring : ℕ → List ℕ → ℕ
-occurring others [] = others
-occurring others (a ∷ w) = occurring (bitOr others (2 ^ a)) w
-
--- the tables of a map of letters
-unfoldable pub TablesOf : ℕ → Grid → Tables → Type 0
-TablesOf letters cells tables = (a : ℕ) → member letters a ≡ true → getD tables a [] ≡ letterTable (getD cells a [])
-
--- a letter of the rule has its table
-pub record Tabled (R : Rule) (tables : Tables) (a : ℕ) : Type 0 where
-  pub below : a < R .letters
-  pub entries : getD tables a [] ≡ letterTable (getD (held (R .grid)) a [])
 
 -- the rule R is well-formed and within the limits, and has k sets
 pub record WithinLimits (R : Rule) (k : ℕ) : Type 0 where

@@ -10,7 +10,8 @@ use Rattle.history.specs.Forest.{size, names}
 use Rattle.history.specs.Tree.{Tree}
 use Rattle.history.specs.Rounds.{roundTree, FirstRepeat}
 use Rattle.history.specs.Verdict.{Witness, FirstWitness}
-use Rattle.treejudge.specs.Reading.{Tables, HoldsTree}
+use Rattle.word.specs.WalkTables.{Tables}
+use Rattle.treejudge.specs.Reading.{HoldsTree}
 use Rattle.treejudge.specs.Cycles.{AtRound}
 use Rattle.treejudge.specs.declared.letters.CountedRows.{CountedRows}
 use Rattle.treejudge.specs.declared.repeat.Repeat.{Repeat}

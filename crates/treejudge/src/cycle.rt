@@ -3,11 +3,11 @@
 // on the way: where it comes back, its rounds were one cycle, and the verdict is known.
 use crate::follow::begin;
 use crate::follow::follow_letters;
-use crate::letters::AllTables;
 use crate::letters::CountedRows;
 use crate::letters::laid;
 use crate::letters::taken;
 use crate::same::same_tree;
+use word::tables::AllTables;
 ghost use Rattle.treejudge.specs.Cycles.{FirstRound, CycleFound};
 
 // What the search has found: the tree t(power − 1), to which `period` rounds lead back; the map of its nodes that keep their names in

@@ -1,13 +1,13 @@
 // The entry, once the period is known: two places that are a period apart go forward together, and the first that have equal trees
 // are t(e) and t(e + p).
 use crate::cycle::Cycle;
-use crate::letters::AllTables;
 use crate::letters::CountedRows;
 use crate::letters::laid;
 use crate::letters::on_first_side;
 use crate::letters::read_letters;
 use crate::letters::taken;
 use crate::same::same_on;
+use word::tables::AllTables;
 ghost use mathlib.Core.Path.{_≡_};
 ghost use Prim.Native.Nat.{_-_, _<_};
 ghost use Rattle.treejudge.specs.Cycles.{SomeRound, Ahead, Bracketed, EntryBetween, SearchDone, EntryFound};

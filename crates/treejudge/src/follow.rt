@@ -1,10 +1,10 @@
 // Following nodes by their names, letter by letter. Numbers shift from tree to tree, so the followed nodes are kept as maps over
 // the present numbers, and each letter carries them from the old numbers to the new ones.
-use crate::letters::AllTables;
 use tree::packed::Rows;
 use tree::packed::Sides;
 use tree::packed::unpack;
 use tree::step::step_rows;
+use word::tables::AllTables;
 ghost use mathlib.Core.Path.{_≡_};
 ghost use mathlib.Core.List.{map};
 ghost use Prim.Native.Nat.{_≤_};

@@ -1,8 +1,6 @@
 // The tree judge: entry and period of the first repeated tree at a round end, and the verdict with its node.
 use crate::letters::CountedRows;
-use crate::letters::fill_tables;
 use crate::letters::laid;
-use crate::letters::occurring;
 use crate::letters::on_first_side;
 use crate::letters::read_letters;
 use crate::letters::taken;
@@ -19,6 +17,8 @@ use table::lookup::ENTRIES;
 use table::reader::Reading;
 use table::reader::read_rule;
 use tree::record::Tree;
+use word::tables::fill_tables;
+use word::tables::occurring;
 use word::walk::letters_left;
 use word::walk::walk_number;
 ghost use mathlib.Core.Path.{_≡_};

@@ -1,21 +1,11 @@
-// Reading letters: the tables of the letters that occur in a walk are made once, and a letter is one step over the rows of a tree.
-use table::limits::Cells;
-use table::limits::LETTERS;
-use table::lookup::LetterTable;
-use table::lookup::fill_table;
+// Reading letters: a letter is one step over the rows of a tree.
 use tree::packed::Rows;
 use tree::packed::Sides;
 use tree::rows::PLACES;
 use tree::step::step_rows;
+use word::tables::AllTables;
 ghost use mathlib.Core.Path.{_≡_};
-ghost use Prim.Native.Nat.{_<_};
-ghost use lib.ListN.{length};
-ghost use Rattle.table.specs.Limits.{maxLetters};
-ghost use Rattle.table.specs.Table.{Every};
-ghost use Rattle.treejudge.specs.Reading.{occurring, TablesOf, treeOn, Stands, Laid, Readable, ReadsTo};
-
-// The tables of the letters.
-pub type AllTables = [LetterTable; LETTERS];
+ghost use Rattle.treejudge.specs.Reading.{treeOn, Stands, Laid, Readable, ReadsTo};
 
 // A tree: its rows in number order, and how many of them count.
 pub struct CountedRows {
@@ -27,34 +17,6 @@ pub struct CountedRows {
 pub struct OnSide {
     pub side: usize,
     pub count: usize,
-}
-
-// The map of the letters of w, joined to a map of letters.
-pub fn occurring(w: &[u8], others: u16) -> u16
-    requires { ⌜ Every (λ a. a < maxLetters) (now w) ⌝ }
-    ensures { λ r. ⌜ r ≡ occurring others (now (w .entry)) ⌝ }
-{
-    let mut letters = others;
-    let mut at = 0usize;
-    while at < w.len() {
-        letters = letters | (1u16 << w[at]);
-        at += 1;
-    }
-    letters
-}
-
-// The tables of a map of letters, made in place.
-pub fn fill_tables(cells: &Cells, letters: u16, tables: &mut AllTables)
-    requires { ⌜ length (now tables) ≡ maxLetters ⌝ }
-    ensures { λ _. ⌜ TablesOf letters (now (cells .entry)) (now (tables .exit)) ⌝ }
-{
-    let mut letter = 0usize;
-    while letter < LETTERS {
-        if (letters >> letter) % 2 == 1 {
-            fill_table(&cells[letter], &mut tables[letter]);
-        }
-        letter += 1;
-    }
 }
 
 // A tree on side 0.

@@ -8,3 +8,4 @@ pub mod LoopTheorem
 pub mod Variants
 pub mod WalkQuestions
 pub mod JudgeQuestions
+pub mod WalkTables

@@ -3,3 +3,4 @@ pub mod Judging
 pub mod Run
 pub mod Loop
 pub mod Verdict
+pub mod WalkTables

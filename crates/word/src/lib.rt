@@ -1,2 +1,3 @@
-// Walks over a rule: the questions put to a walk, and its letters.
+// Walks over a rule: the questions put to a walk, its letters, and their look-up tables.
+pub mod tables;
 pub mod walk;

@@ -19,7 +19,7 @@ use Rattle.table.specs.Lookup.{LetterTable, letterTable}
 use Rattle.table.proofs.BitSet.{member-union, member-single, member-lt}
 use Rattle.table.proofs.Every.{every-weaker, every-both}
 use Rattle.table.proofs.Logic.{clash, or-l, or-r}
-use Rattle.treejudge.specs.Reading.{Tables, occurring, TablesOf, Tabled}
+use Rattle.word.specs.WalkTables.{Tables, occurring, TablesOf, Tabled}
 
 -- THE LETTERS THAT OCCUR
 

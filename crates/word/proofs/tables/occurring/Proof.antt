@@ -6,9 +6,9 @@ use lib.ListN.{length, getD}
 use Rattle.table.specs.Limits.{maxLetters}
 use Rattle.table.proofs.Every.{every-at}
 use Rattle.table.proofs.BitSet.{one-shifted}
-use Rattle.treejudge.proofs.WalkTables.{OccurringUpTo, occurring-none, occurring-more, occurring-end}
-use Rattle.treejudge.proofs.letters.occurring.Statement.{statement}
-use Rattle.treejudge.proofs.letters.occurring.Tie as tie
+use Rattle.word.proofs.WalkTables.{OccurringUpTo, occurring-none, occurring-more, occurring-end}
+use Rattle.word.proofs.tables.occurring.Statement.{statement}
+use Rattle.word.proofs.tables.occurring.Tie as tie
 
 abbrev Inv-loop : tie.InvT-loop
 Inv-loop w others letters₀ at₀ letters at = OccurringUpTo others w at letters

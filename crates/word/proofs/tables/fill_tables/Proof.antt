@@ -5,9 +5,9 @@ use Prim.Native.Nat.{_-_}
 use borrow.Author.Tests.{ne-eqb}
 use Rattle.table.specs.Limits.{maxLetters}
 use Rattle.table.specs.BitSet.{member}
-use Rattle.treejudge.proofs.WalkTables.{TablesUpTo, tables-none, tables-more, tables-skip, tables-end}
-use Rattle.treejudge.proofs.letters.fill_tables.Statement.{statement}
-use Rattle.treejudge.proofs.letters.fill_tables.Tie as tie
+use Rattle.word.proofs.WalkTables.{TablesUpTo, tables-none, tables-more, tables-skip, tables-end}
+use Rattle.word.proofs.tables.fill_tables.Statement.{statement}
+use Rattle.word.proofs.tables.fill_tables.Tie as tie
 
 abbrev Inv-loop : tie.InvT-loop
 Inv-loop cells letters tables₀ letter₀ tables letter = TablesUpTo letters cells letter tables
