@@ -5,6 +5,7 @@ pub mod JudgeCalls
 pub mod Judging
 -- Reading letters, and following names through them.
 pub mod LettersRead
+pub mod MapsCarried
 pub mod NamesFollowed
 -- Finding the first repeat: rounds read and compared, the search for the period, the search for the entry, and what they find.
 pub mod SameTrees

@@ -1,30 +1,22 @@
--- Following nodes by their names: the map of old numbers carried to the new ones, the maps before the first letter, and those after
--- the letters read so far.
-use mathlib.Core.Path.{_≡_, refl, sym, _∙_, ap}
-use mathlib.Core.Bool.{true, false, and-false}
-use mathlib.Core.List.{List, [], _∷_, _++_, map, append-nil, append-assoc}
+-- Following nodes by their names: the maps before the first letter, and those after the letters read so far.
+use mathlib.Core.Path.{_≡_, sym, _∙_, ap}
+use mathlib.Core.List.{List, [], _∷_, _++_, append-nil, append-assoc}
 use Prim.Native.Nat.{ℕ, _+_, _-_, _^_, _≤_, _<_}
 use native.Mathlib.Numerals.{add-one}
 use native.Mathlib.Omega.{arith}
-use lib.Bits.{bitOr, or-zero-r}
-use lib.ListN.{length, getD, take, length-map, List·getD-map}
-use lib.Seq.{length-take-le, take-suc, take-all, getD-take}
+use lib.ListN.{length, getD, take}
+use lib.Seq.{take-suc, take-all}
 use Rattle.table.specs.Limits.{maxStates}
-use Rattle.table.specs.BitSet.{member, collect}
 use Rattle.table.specs.Rule.{Rule}
-use Rattle.table.proofs.BitSet.{member-none, member-lt, empty-set, member-collect, collect-ext, collect-more}
 use Rattle.table.proofs.Every.{every-at}
-use Rattle.table.proofs.Logic.{never}
 use Rattle.history.specs.Tree.{Tree}
 use Rattle.history.specs.Rounds.{readLetters}
 use Rattle.history.specs.OldNumbers.{noNode}
-use Rattle.history.specs.Following.{carried}
 use Rattle.history.proofs.FollowingLaws.{follow-none, follow-kept, follow-accepted}
 use Rattle.history.proofs.TreesOfWalk.{read-append}
-use Rattle.tree.specs.Pass.{blankRow, steppedRows}
+use Rattle.tree.specs.Pass.{steppedRows}
 use Rattle.tree.specs.RecordRows.{places}
 use Rattle.tree.specs.Sides.{rowsOn, TwoSides, Steppable, Stepping}
-use Rattle.tree.specs.declared.rows.Row.{Row}
 use Rattle.tree.specs.declared.rows.Stepped.{Stepped}
 use Rattle.word.specs.WalkTables.{Tables, Tabled}
 use Rattle.treejudge.specs.Reading.{WithinLimits, HoldsTree, treeOn, Stands, Readable}
@@ -33,48 +25,6 @@ use Rattle.treejudge.specs.declared.letters.CountedRows.{CountedRows}
 use Rattle.treejudge.specs.declared.letters.OnSide.{OnSide}
 use Rattle.treejudge.specs.declared.follow.FollowedOn.{FollowedOn}
 use Rattle.treejudge.proofs.LettersRead.{tree-small, letter-ready, letter-steps, letter-holds}
-
--- A MAP CARRIED TO THE NEW NUMBERS
-
--- a number past the width is in no map
-pub not-far : (width nodes old : ℕ) → nodes < 2 ^ width → width ≤ old → member nodes old ≡ false
-not-far width nodes old small far = never (member nodes old) (λ m. omega (arith, member-lt width nodes old small m))
-
--- the empty map
-pub carried-none : (olds : List ℕ) → carried olds 0 ≡ 0
-unfolding carried
-carried-none olds = empty-set _ (λ q. member-collect (length olds) _ q ∙ rw (member-none, and-false))
-
--- the first j rows whose old numbers are in a map
-unfoldable pub carriedTo : List Row → ℕ → ℕ → ℕ
-carriedTo rows nodes j = collect j (λ i. member nodes (getD rows i blankRow .old))
-
--- none yet
-pub carried-start : (rows : List Row) (nodes : ℕ) → 0 ≡ carriedTo rows nodes 0
-unfolding carriedTo collect
-carried-start rows nodes = refl
-
-module _ (rows : List Row) (nodes j new : ℕ) (so-far : new ≡ carriedTo rows nodes j) (x : Row) (is : x ≡ getD rows j blankRow) where
-  -- one row more: its old number is in the map
-  pub carried-in : member nodes (x .old) ≡ true → bitOr new (2 ^ j) ≡ carriedTo rows nodes (j + 1)
-  unfolding carriedTo
-  carried-in h = rw (add-one, so-far) (sym (collect-more j _ ∙ rw (← is, h)))
-
-  -- or is not
-  pub carried-out : member nodes (x .old) ≡ false → new ≡ carriedTo rows nodes (j + 1)
-  unfolding carriedTo
-  carried-out h = rw (add-one, so-far) (sym (collect-more j _ ∙ rw (← is, h) (or-zero-r _)))
-
--- all rows
-pub carried-all : (rows : List Row) (nodes count : ℕ) → count ≤ length rows
-    → carriedTo rows nodes count ≡ carried (map (λ x. x .old) (take count rows)) nodes
-unfolding carried carriedTo
-carried-all rows nodes count h =
-    let olds : List ℕ = map (λ (x : Row). x .old) (take count rows) in
-    let many : length olds ≡ count = length-map (take count rows) (λ (x : Row). x .old) ∙ length-take-le count rows h in
-    sym (ap (λ (n : ℕ). collect n (λ i. member nodes (getD olds i 0))) many
-    ∙ collect-ext count _ _ (λ i l. ap (member nodes) (List·getD-map (λ (x : Row). x .old) (take count rows) i blankRow
-    ∙ ap (λ (x : Row). x .old) (getD-take count rows i blankRow l))))
 
 -- BEFORE THE FIRST LETTER
 

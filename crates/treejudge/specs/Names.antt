@@ -32,10 +32,14 @@ treeOf x = record { rows = x .rows; count = x .count }
 abbrev pub followedOn : List (List ℕ) → FollowedOn → Followed
 followedOn sides x = record { rows = getD sides (x .side) []; count = x .count; kept = x .kept; accepted = x .accepted }
 
+-- the old numbers of the first rows of some words
+abbrev pub oldsIn : List ℕ → ℕ → List ℕ
+oldsIn words count = map (λ x. x .old) (take count (rowsIn words))
+
 -- the followed nodes behind a letter, which has written these words
 unfoldable pub followedBy : List ℕ → Stepped → ℕ → ℕ → Followed
 followedBy words next kept accepted =
-    let olds = map (λ x. x .old) (take (next .count) (rowsIn words)) in
+    let olds = oldsIn words (next .count) in
     record {
       rows = words;
       count = next .count;

@@ -6,15 +6,13 @@ use tree::packed::unpack;
 use tree::step::step_rows;
 use word::tables::AllTables;
 ghost use mathlib.Core.Path.{_≡_};
-ghost use mathlib.Core.List.{map};
-ghost use Prim.Native.Nat.{_≤_};
-ghost use lib.ListN.{length, take};
+ghost use Prim.Native.Nat.{_≤_, min};
+ghost use lib.ListN.{length};
 ghost use Rattle.table.specs.Limits.{maxStates};
 ghost use Rattle.history.specs.Following.{carried};
-ghost use Rattle.tree.specs.PackedRows.{rowsIn};
 ghost use Rattle.tree.specs.RecordRows.{places};
 ghost use Rattle.treejudge.specs.Reading.{Stands};
-ghost use Rattle.treejudge.specs.Names.{followedOn, begunOn, Followable, FollowsTo};
+ghost use Rattle.treejudge.specs.Names.{followedOn, oldsIn, begunOn, Followable, FollowsTo};
 
 // A tree on one of two sides, the map of its nodes that have kept their names, and that of those among them that were accepting once.
 pub struct FollowedOn {
@@ -24,25 +22,38 @@ pub struct FollowedOn {
     pub accepted: u16,
 }
 
-// A map of old numbers carried to the numbers of the rows.
-fn carry(rows: &Rows, count: usize, nodes: u16) -> u16
-    requires { ⌜ (count ≤ maxStates) × (length (now rows) ≡ places) ⌝ }
-    ensures { λ r. ⌜ r ≡ carried (map (λ x. x .old) (take count (rowsIn (now (rows .entry))))) nodes ⌝ }
+// The two maps of followed nodes by themselves.
+struct Maps {
+    kept: u16,
+    accepted: u16,
+}
+
+// How far the maps are shifted for an old number. Bit 31, which no map has, serves for the numbers past it, as that of a new node.
+fn shift_of(old: u8) -> u8
+    ensures { λ r. ⌜ r ≡ min old 31 ⌝ }
 {
-    if nodes == 0 {
-        return 0;
-    }
-    let mut new_nodes = 0u16;
+    if old < 31 { old } else { 31 }
+}
+
+// Both maps of old numbers carried to the numbers of the rows. They lie in one word, 32 bits apart, and a row takes its bit of
+// each at once.
+fn carry(rows: &Rows, count: usize, kept: u16, accepted: u16) -> Maps
+    requires { ⌜ (count ≤ maxStates) × (length (now rows) ≡ places) ⌝ }
+    ensures { λ r. ⌜ (r .kept ≡ carried (oldsIn (now (rows .entry)) count) kept)
+        × (r .accepted ≡ carried (oldsIn (now (rows .entry)) count) accepted) ⌝ }
+{
+    let nodes = (accepted as u64) * 4294967296 + (kept as u64);
+    let mut new_nodes = 0u64;
     let mut j = 0usize;
     while j < count {
         let row = unpack(rows[j]);
-        let old = row.old;
-        if old < 16 && (nodes >> old) % 2 == 1 {
-            new_nodes = new_nodes | (1u16 << j);
-        }
+        new_nodes = new_nodes | (((nodes >> shift_of(row.old)) & 4294967297) << j);
         j += 1;
     }
-    new_nodes
+    Maps {
+        kept: (new_nodes % 65536) as u16,
+        accepted: (new_nodes / 4294967296 % 65536) as u16,
+    }
 }
 
 // Before the first letter every node of a tree has kept its name, and none was accepting.
@@ -82,8 +93,9 @@ pub fn follow_letters(
         // Those that are stable at the letter keep their names; one that is accepting was so once.
         let stays = kept & next.stable;
         let once = (accepted | (kept & next.accepting)) & next.stable;
-        kept = carry(&sides[side], count, stays);
-        accepted = carry(&sides[side], count, once);
+        let carried = carry(&sides[side], count, stays, once);
+        kept = carried.kept;
+        accepted = carried.accepted;
         at += 1;
     }
     FollowedOn {

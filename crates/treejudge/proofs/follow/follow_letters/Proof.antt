@@ -54,19 +54,6 @@ carry-requires c κs =
     followed-few _ _ _ _ _ _ _ _ _ _ (inside .before .loop .inv) (inside .loop-test .taken) _ _ (s .step-rows .ensures)
     (inside .before .before .before .pre .1)
 
-mul-carry-2 : tie.Need-mul-carry-2 Inv-loop μ-loop
-mul-carry-2 c = search needs
-
-index-1-carry-2 : tie.Need-index-1-carry-2 Inv-loop μ-loop
-index-1-carry-2 c = search needs
-
-carry-requires-2 : tie.Need-carry-requires-2 Inv-loop μ-loop
-carry-requires-2 c κs =
-    let s = c .before .before .before .before .before .before in
-    let inside = s .before .before .before .before in
-    followed-few _ _ _ _ _ _ _ _ _ _ (inside .before .loop .inv) (inside .loop-test .taken) _ _ (s .step-rows .ensures)
-    (inside .before .before .before .pre .1)
-
 add-at : tie.Need-add-at Inv-loop μ-loop
 add-at c = search needs
 
@@ -76,10 +63,10 @@ loop-less c = search needs
 loop-again : tie.Need-loop-again Inv-loop μ-loop
 unfolding followedBy
 loop-again c =
-    let s = c .before .before .before .before .before .before .before in
+    let s = c .before .before .before .before .before in
     let inside = s .before .before .before .before in
     followed-more _ _ _ _ _ _ _ _ _ _ (inside .before .loop .inv) (inside .loop-test .taken) _ _ (s .step-rows .ensures) _ _
-    (rw (c .before .before .carry .ensures, c .carry2 .ensures))
+    (rw (c .carry .ensures .0, c .carry .ensures .1))
 
 returns : tie.Need-returns Inv-loop μ-loop
 returns c = followed-all _ _ _ _ _ _ _ _ _ _ (c .before .loop .inv) (c .loop-test .left)
@@ -100,9 +87,6 @@ follow-letters-spec =
     mul-carry
     index-1-carry
     carry-requires
-    mul-carry-2
-    index-1-carry-2
-    carry-requires-2
     add-at
     loop-less
     loop-again

@@ -1,0 +1,121 @@
+-- Maps of old numbers carried to the new ones row by row: one map, and two in one word, where a row takes its bit of each at once.
+use mathlib.Core.Path.{_≡_, sym, _∙_, ap, ap₂}
+use mathlib.Core.Logic.{⊎-elim}
+use mathlib.Core.Bool.{Bool, true, false, cond}
+use mathlib.Core.List.{List, map}
+use Prim.Native.Nat.{ℕ, suc, _+_, _*_, _/_, _%_, _^_, _≤_, _<_, min}
+use native.Mathlib.Nat.{add-mul, add-comm, mul-right-comm, mod-lt, lt-of-lt-of-le}
+use native.Mathlib.Numerals.{add-one}
+use native.Mathlib.Omega.{arith}
+use borrow.Author.Tests.{eqb-true, eqb-false}
+use lib.Bits.{bitAnd, bitOr, and-block, and-mask, or-block}
+use lib.Dec.{eqb}
+use lib.ListN.{length, getD, take, length-map, List·getD-map}
+use lib.Pow.{pow-mono, shl-lt, shl-exact, shr-shr, split, high, low, mod-mod-pow}
+use lib.Seq.{length-take-le, getD-take}
+use Rattle.table.specs.BitSet.{member, collect}
+use Rattle.table.proofs.BitSet.{member-lt, member-mod, collect-lt, collect-ext, collect-more}
+use Rattle.table.proofs.Logic.{look, bool-ext}
+use Rattle.history.specs.Following.{carried}
+use Rattle.tree.specs.Pass.{blankRow}
+use Rattle.tree.specs.declared.rows.Row.{Row}
+
+-- ONE MAP
+
+-- the binary digit at a place
+abbrev bit : ℕ → ℕ → ℕ
+bit m q = cond (member m q) 1 0
+
+digit : (m q : ℕ) → m / 2 ^ q % 2 ≡ bit m q
+unfolding member
+digit m q = let n = m / 2 ^ q in
+    ⊎-elim (λ e. rw e (eqb-true (n % 2) 1 e)) (λ e. rw e (omega (arith, eqb-false (n % 2) 1 e))) (look (eqb (n % 2) 1))
+
+bit-small : (m q : ℕ) → bit m q < 2
+bit-small m q = rw (← digit m q) (omega arith)
+
+-- no map has a digit at place 31 or above, so each such place may be read at 31
+capped : (m q : ℕ) → m < 2 ^ 16 → member m (min q 31) ≡ member m q
+capped m q small =
+    let low : min q 31 < 16 → min q 31 ≡ q = λ h. omega arith in
+    bool-ext _ _ (λ h. ap (member m) (sym (low (member-lt 16 m _ small h))) ∙ h)
+    (λ h. ap (member m) (low (omega (arith, member-lt 16 m q small h))) ∙ h)
+
+-- the first j rows whose old numbers are in a map
+unfoldable pub carriedTo : List Row → ℕ → ℕ → ℕ
+carriedTo rows nodes j = collect j (λ i. member nodes (getD rows i blankRow .old))
+
+-- one row more: its bit is the old number's
+carried-more : (rows : List Row) (nodes j : ℕ)
+    → bitOr (carriedTo rows nodes j) (bit nodes (getD rows j blankRow .old) * 2 ^ j) ≡ carriedTo rows nodes (suc j)
+unfolding carriedTo
+carried-more rows nodes j = rw (← placed (member nodes (getD rows j blankRow .old))) (sym (collect-more j _))
+  where
+    placed : (b : Bool) → cond b (2 ^ j) 0 ≡ cond b 1 0 * 2 ^ j
+    placed true = omega arith
+    placed false = omega arith
+
+-- few rows make a small map
+carried-small : (rows : List Row) (nodes j : ℕ) → j ≤ 16 → carriedTo rows nodes j < 2 ^ 16
+unfolding carriedTo
+carried-small rows nodes j h = lt-of-lt-of-le (collect-lt j _) (pow-mono h)
+
+-- all rows
+carried-all : (rows : List Row) (nodes count : ℕ) → count ≤ length rows
+    → carriedTo rows nodes count ≡ carried (map (λ x. x .old) (take count rows)) nodes
+unfolding carried carriedTo
+carried-all rows nodes count h =
+    let olds : List ℕ = map (λ (x : Row). x .old) (take count rows) in
+    let many : length olds ≡ count = length-map (take count rows) (λ (x : Row). x .old) ∙ length-take-le count rows h in
+    sym (ap (λ (n : ℕ). collect n (λ i. member nodes (getD olds i 0))) many
+    ∙ collect-ext count _ _ (λ i l. ap (member nodes) (List·getD-map (λ (x : Row). x .old) (take count rows) i blankRow
+    ∙ ap (λ (x : Row). x .old) (getD-take count rows i blankRow l))))
+
+-- TWO MAPS IN ONE WORD
+
+-- the second 32 bits above the first
+abbrev pub both : ℕ → ℕ → ℕ
+both a b = b * 2 ^ 32 + a
+
+-- the digits at a place of each, at once
+both-bits : (a b q : ℕ) → a < 2 ^ 32 → q < 32 → bitAnd (both a b / 2 ^ q) (2 ^ 32 + 1) ≡ both (bit a q) (bit b q)
+both-bits a b q small h =
+    let n = both a b / 2 ^ q in
+    let parts : bitAnd n (2 ^ 32 + 1) ≡ both (bitAnd (n % 2 ^ 32) 1) (bitAnd (n / 2 ^ 32) 1) =
+    rw (split n 32) at (and-block 32 (n / 2 ^ 32) 1 (n % 2 ^ 32) 1 (mod-lt n (omega arith)) (omega arith)) in
+    let above : n / 2 ^ 32 ≡ b / 2 ^ q =
+    shr-shr (both a b) q 32 ∙ ap (λ (x : ℕ). both a b / 2 ^ x) (add-comm q 32) ∙ sym (shr-shr (both a b) 32 q)
+    ∙ ap (λ (x : ℕ). x / 2 ^ q) (high b 32 small) in
+    let below : member (both a b) q ≡ member a q = sym (member-mod 32 (both a b) q h) ∙ ap (λ (x : ℕ). member x q) (low b 32 small) in
+    parts ∙ ap₂ both
+    (and-mask (n % 2 ^ 32) 1 ∙ mod-mod-pow n 31 1 ∙ digit (both a b) q ∙ ap (λ (x : Bool). cond x 1 0) below)
+    (and-mask (n / 2 ^ 32) 1 ∙ ap (λ (x : ℕ). x % 2) above ∙ digit b q)
+
+-- two digits put to a place of each
+both-placed : (x y j : ℕ) → x < 2 → y < 2 → j ≤ 16 → both x y * 2 ^ j % 2 ^ 64 ≡ both (x * 2 ^ j) (y * 2 ^ j)
+both-placed x y j hx hy h = shl-exact 33 j 64 (omega arith) (omega arith) ∙ add-mul (y * 2 ^ 32) x (2 ^ j)
+    ∙ ap (λ (n : ℕ). n + x * 2 ^ j) (mul-right-comm y (2 ^ 32) (2 ^ j))
+
+-- one row more for both
+pub both-more : (rows : List Row) (kept accepted j : ℕ) → kept < 2 ^ 16 → accepted < 2 ^ 16 → j < 16
+    → (x : Row) → x ≡ getD rows j blankRow → (shift : ℕ) → shift ≡ min (x .old) 31
+    → bitOr (both (carriedTo rows kept j) (carriedTo rows accepted j)) (bitAnd (both kept accepted / 2 ^ shift) (2 ^ 32 + 1) * 2 ^ j % 2 ^ 64)
+    ≡ both (carriedTo rows kept (j + 1)) (carriedTo rows accepted (j + 1))
+both-more rows kept accepted j hk ha h x is shift e =
+    let old = x .old in
+    let taken : bitAnd (both kept accepted / 2 ^ shift) (2 ^ 32 + 1) ≡ both (bit kept old) (bit accepted old) =
+    rw e (both-bits kept accepted (min old 31) (omega arith) (omega arith) ∙ rw (capped kept old hk, capped accepted old ha)) in
+    rw (taken, both-placed (bit kept old) (bit accepted old) j (bit-small kept old) (bit-small accepted old) (omega arith))
+    (or-block 32 (carriedTo rows accepted j) (bit accepted old * 2 ^ j) (carriedTo rows kept j) (bit kept old * 2 ^ j)
+    (omega (arith, carried-small rows kept j (omega arith))) (lt-of-lt-of-le (shl-lt 1 j (bit-small kept old)) (pow-mono {j = 32} (omega arith)))
+    ∙ rw (add-one, is, carried-more rows kept j, carried-more rows accepted j))
+
+-- both after all rows
+pub both-all : (rows : List Row) (kept accepted count : ℕ) → count ≤ 16 → count ≤ length rows
+    → let word = both (carriedTo rows kept count) (carriedTo rows accepted count) in
+    let olds = map (λ (x : Row). x .old) (take count rows) in
+    (word % 2 ^ 16 ≡ carried olds kept) × (word / 2 ^ 32 % 2 ^ 16 ≡ carried olds accepted)
+both-all rows kept accepted count few h =
+    let small : carriedTo rows kept count < 2 ^ 16 = carried-small rows kept count few in
+    rw (← carried-all rows kept count h, ← carried-all rows accepted count h)
+    (omega arith, omega (arith, carried-small rows accepted count few))
