@@ -1,5 +1,5 @@
 -- The search for the period (Brent), as the loop of `find_cycle` makes it.
-use mathlib.Core.Path.{_≡_, _∙_, ap}
+use mathlib.Core.Path.{_≡_, refl, _∙_, ap}
 use mathlib.Core.Bool.{true, false}
 use mathlib.Core.List.{List, _++_}
 use Prim.Native.Nat.{ℕ, _+_, _-_, _^_, _≤_, _<_}
@@ -32,6 +32,7 @@ pub record Searching (R : Rule) (u v : List ℕ) (tables : Tables) (k : ℕ) (x 
   pub held : AtRound R u v tables k (power - 1) x
   pub before : AtRound R u v tables k (half - 1) y
   pub below : half < power
+  pub doubles : 1 < power → power ≡ half + half
   pub brent : BrentSoFar (roundTree R u v) power lam
   pub skips : Skips (roundTree R u v) half
   pub follows : Follows R (roundTree R u v (power - 1)) (rounds lam v) now
@@ -44,6 +45,7 @@ search-start {R} {u} {v} A = record {
   held = A;
   before = A;
   below = omega arith;
+  doubles = λ h. omega arith;
   brent = brent-start (roundTree R u v);
   skips = none-skips (roundTree R u v);
   follows = begun-follows R _ _ (A .tree);
@@ -97,6 +99,7 @@ module _ {R : Rule} {u v : List ℕ} {tables : Tables} {k : ℕ} {x y : CountedR
           held = S .held .tree;
           before = S .before .tree;
           below = S .below;
+          doubles = S .doubles;
           back = back;
           late = late;
           skips = S .skips entry period F;
@@ -113,6 +116,7 @@ module _ {R : Rule} {u v : List ℕ} {tables : Tables} {k : ℕ} {x y : CountedR
         held = S .held;
         before = S .before;
         below = S .below;
+        doubles = S .doubles;
         brent = brent-more (roundTree R u v) power lam (S .brent) apart more;
         skips = S .skips;
         follows = followed;
@@ -134,6 +138,7 @@ module _ {R : Rule} {u v : List ℕ} {tables : Tables} {k : ℕ} {x y : CountedR
               held = A;
               before = S .held;
               below = omega (arith, S .below);
+              doubles = λ h. refl;
               brent = brent-reset (roundTree R u v) (readLetters R v) (round-next R u v) power lam (S .brent) apart full;
               skips = reset-skips (roundTree R u v) (readLetters R v) (round-next R u v) power lam (S .brent) apart full;
               follows = begun-follows R _ _ (A .tree);

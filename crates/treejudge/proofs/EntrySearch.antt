@@ -2,7 +2,7 @@
 use mathlib.Core.Path.{_≡_}
 use mathlib.Core.Bool.{true, false}
 use mathlib.Core.List.{List}
-use Prim.Native.Nat.{ℕ, _+_, _-_, _≤_, _<_}
+use Prim.Native.Nat.{ℕ, _+_, _-_, _≤_}
 use native.Mathlib.Omega.{arith}
 use native.Mathlib.Decide.{ℕ-discrete}
 use Rattle.table.specs.Rule.{Rule}
@@ -12,7 +12,7 @@ use Rattle.history.proofs.FirstRepeats.{repeat-only}
 use Rattle.word.specs.WalkTables.{Tables}
 use Rattle.treejudge.specs.Reading.{ReadsTo}
 use Rattle.treejudge.specs.SameRows.{sameTrees}
-use Rattle.treejudge.specs.Cycles.{AtRound, Ahead, Bracket, Searched}
+use Rattle.treejudge.specs.Cycles.{AtRound, Ahead, ReadTo, Bracket, Searched}
 use Rattle.treejudge.specs.declared.letters.CountedRows.{CountedRows}
 use Rattle.treejudge.specs.declared.cycle.Cycle.{Cycle}
 use Rattle.treejudge.proofs.RoundsRead.{round-read, rounds-read, rows-same, rows-differ}
@@ -53,22 +53,31 @@ module _ {R : Rule} {u v : List ℕ} {tables : Tables} {k entry period place hig
 
 module _ {R : Rule} {u v : List ℕ} {tables : Tables} {k entry period : ℕ} {first : CountedRows} {c : Cycle}
     (S : Searched R u v tables k entry period first c) where
-  -- the tree that was held before
+  -- the tree that is held, and the one that was held before
+  pub held-place : AtRound R u v tables k (c .power - 1) (c .held)
+  held-place = record { holds = S .place .holds; tabled = S .place .tabled; tree = S .cycle .held }
+
   pub before-place : AtRound R u v tables k (c .half - 1) (c .before)
   before-place = record { holds = S .place .holds; tabled = S .place .tabled; tree = S .cycle .before }
 
-  -- at t(0), with t(period) read from there
-  pub bracket-first : c .half < c .period → (left : ℕ) → left ≡ c .period - (c .half - 1) → {y : CountedRows}
-      → Ahead tables k v left (c .before) y → Bracket R u v tables k entry (c .period) 0 (c .power - 1) first y
-  bracket-first long left is on =
-      let e : c .half - 1 + left ≡ 0 + c .period = omega arith in
-      record {
-        place = S .place;
-        ahead = rw e at (rounds-read before-place left on);
-        repeat = rw (S .cycle .back) (S .repeat);
-        from = omega arith;
-        upto = S .cycle .late;
-      }
+  -- a place no later than the entry, and the one a period further
+  bracket-from : {low : ℕ} → low ≤ entry → {x y : CountedRows}
+      → AtRound R u v tables k low x → AtRound R u v tables k (low + c .period) y
+      → Bracket R u v tables k entry (c .period) low (c .power - 1) x y
+  bracket-from from here there = record {
+    place = here;
+    ahead = there;
+    repeat = rw (S .cycle .back) (S .repeat);
+    from = from;
+    upto = S .cycle .late;
+  }
+
+  -- from t(0) on
+  pub bracket-first : {y : CountedRows} → ReadTo tables k v (c .half - 1) (c .before) (c .power - 1) (c .held) (c .period) y
+      → Bracket R u v tables k entry (c .period) 0 (c .power - 1) first y
+  unfolding ReadTo
+  bracket-first on = let e : c .period ≡ 0 + c .period = omega arith in
+      bracket-from (omega arith) (S .place) (rw e at (on R u before-place held-place))
 
   module _ (short : c .period ≤ c .half) where
     -- a period no longer than `half` begins at t(half) or later
@@ -77,17 +86,10 @@ module _ {R : Rule} {u v : List ℕ} {tables : Tables} {k entry period : ℕ} {f
 
     module _ {x : CountedRows} (read : Ahead tables k v 1 (c .before) x) where
       pub half-place : AtRound R u v tables k (c .half) x
-      half-place = let e : c .half - 1 + 1 ≡ c .half = omega (arith, S .repeat .positive, S .cycle .back) in
-          rw e at (rounds-read before-place 1 read)
+      half-place = rounds-read before-place 1 read (omega (arith, S .repeat .positive, S .cycle .back))
 
       -- so the search may begin there
-      pub bracket-half : {y : CountedRows} → Ahead tables k v (c .period) x y
+      pub bracket-half : {y : CountedRows} → ReadTo tables k v (c .half) x (c .power - 1) (c .held) (c .half + c .period) y
           → Bracket R u v tables k entry (c .period) (c .half) (c .power - 1) x y
-      bracket-half on =
-          record {
-            place = half-place;
-            ahead = rounds-read half-place (c .period) on;
-            repeat = rw (S .cycle .back) (S .repeat);
-            from = entry-from-half;
-            upto = S .cycle .late;
-          }
+      unfolding ReadTo
+      bracket-half on = bracket-from entry-from-half half-place (on R u half-place held-place)

@@ -29,9 +29,10 @@ module _ {R : Rule} {u v : List ℕ} {tables : Tables} {k i : ℕ} {x : CountedR
       record { holds = X .holds; tabled = X .tabled; tree = rw (add-one, round-next) (read R (roundTree R u v i) round-reads) }
 
   -- or to a later one's
-  pub rounds-read : (count : ℕ) {y : CountedRows} → Ahead tables k v count x y → AtRound R u v tables k (i + count) y
+  pub rounds-read : (count : ℕ) {y : CountedRows} → Ahead tables k v count x y → {place : ℕ} → i + count ≡ place
+      → AtRound R u v tables k place y
   unfolding Ahead
-  rounds-read count on = record { holds = X .holds; tabled = X .tabled; tree = on R u i X }
+  rounds-read count on to = record { holds = X .holds; tabled = X .tabled; tree = rw to at (on R u i X) }
 
   module _ {j : ℕ} {y : CountedRows} (Y : AtRound R u v tables k j y) where
     -- two trees can be compared

@@ -28,6 +28,15 @@ unfoldable pub Ahead : Tables → ℕ → List ℕ → ℕ → CountedRows → C
 Ahead tables k v count x y =
     (R : Rule) (u : List ℕ) (r : ℕ) → AtRound R u v tables k r x → HoldsTree R (roundTree R u v (r + count)) y
 
+-- x is t(i) and y is t(j)
+unfoldable pub TwoRounds : Tables → ℕ → List ℕ → ℕ → CountedRows → ℕ → CountedRows → Type 0
+TwoRounds tables k v i x j y = (R : Rule) × (u : List ℕ) × AtRound R u v tables k i x × AtRound R u v tables k j y
+
+-- where they are, z is t(place)
+unfoldable pub ReadTo : Tables → ℕ → List ℕ → ℕ → CountedRows → ℕ → CountedRows → ℕ → CountedRows → Type 0
+ReadTo tables k v i x j y place z =
+    (R : Rule) (u : List ℕ) → AtRound R u v tables k i x → AtRound R u v tables k j y → AtRound R u v tables k place z
+
 -- THE PERIOD
 
 unfoldable pub FirstRound : Tables → ℕ → List ℕ → CountedRows → Type 0
@@ -38,6 +47,7 @@ pub record CycleOf (R : Rule) (u v : List ℕ) (entry period : ℕ) (c : Cycle) 
   pub held : HoldsTree R (roundTree R u v (c .power - 1)) (c .held)
   pub before : HoldsTree R (roundTree R u v (c .half - 1)) (c .before)
   pub below : c .half < c .power
+  pub doubles : 1 < c .power → c .power ≡ c .half + c .half
   pub back : c .period ≡ period
   pub late : entry ≤ c .power - 1
   pub skips : period ≤ c .half → c .half ≤ entry

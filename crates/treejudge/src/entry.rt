@@ -8,9 +8,8 @@ use crate::letters::read_letters;
 use crate::letters::taken;
 use crate::same::same_on;
 use word::tables::AllTables;
-ghost use mathlib.Core.Path.{_≡_};
-ghost use Prim.Native.Nat.{_-_, _<_};
-ghost use Rattle.treejudge.specs.Cycles.{SomeRound, Ahead, Bracketed, EntryBetween, SearchDone, EntryFound};
+ghost use Prim.Native.Nat.{_≤_};
+ghost use Rattle.treejudge.specs.Cycles.{SomeRound, Ahead, TwoRounds, ReadTo, Bracketed, EntryBetween, SearchDone, EntryFound};
 
 // The tree `count` rounds further.
 fn read_rounds(tables: &AllTables, k: u8, v: &[u8], count: u64, tree: CountedRows) -> CountedRows
@@ -62,37 +61,48 @@ fn entry_between(
     high
 }
 
-// How far t(period) is from t(half − 1).
-fn rounds_past(half: u64, period: u64) -> u64
-    requires { ⌜ half < period ⌝ }
-    ensures { λ r. ⌜ r ≡ period - (half - 1) ⌝ }
+// The tree t(place): from the tree that is held, t(high), where that is no later, else from an earlier one, t(from).
+fn read_to(
+    tables: &AllTables,
+    k: u8,
+    v: &[u8],
+    place: u64,
+    from: u64,
+    earlier: CountedRows,
+    high: u64,
+    held: CountedRows,
+) -> CountedRows
+    requires { ⌜ (from ≤ place) × TwoRounds (now tables) k (now v) from earlier high held ⌝ }
+    ensures { λ r. ⌜ ReadTo (now (tables .entry)) k (now (v .entry)) from earlier high held place r ⌝ }
 {
-    if half == 0 {
-        return period;
+    if high <= place {
+        return read_rounds(tables, k, v, place - high, held);
     }
-    period - (half - 1)
+    read_rounds(tables, k, v, place - from, earlier)
 }
 
-// The entry of the cycle that was found from t(0) on; it is no later than t(power − 1). A period longer than `half` reaches past
-// the tree that was held before, t(half − 1), so t(period) is read from there. A shorter one begins at t(half) or later, since
-// t(half − 1) has not come back.
+// The entry of the cycle that was found from t(0) on; it is no later than the tree that is held, t(power − 1). A period longer than
+// `half` reaches past the tree that was held before, t(half − 1), so t(period) can be read from there. A shorter one begins at
+// t(half) or later, since t(half − 1) has not come back.
 pub fn find_entry(tables: &AllTables, k: u8, v: &[u8], first: CountedRows, cycle: Cycle) -> u64
     requires { ⌜ SearchDone (now tables) k (now v) first cycle ⌝ }
     ensures { λ r. ⌜ EntryFound (now (tables .entry)) k (now (v .entry)) first cycle r ⌝ }
 {
+    let half = cycle.half;
+    let period = cycle.period;
     let high = cycle.power - 1;
     if high == 0 {
         return 0;
     }
-    if cycle.half < cycle.period {
-        let left = rounds_past(cycle.half, cycle.period);
-        let there = read_rounds(tables, k, v, left, cycle.before);
+    if half < period {
+        let from = half - 1;
+        let there = read_to(tables, k, v, period, from, cycle.before, high, cycle.held);
         return entry_between(tables, k, v, 0, high, first, there);
     }
-    if cycle.half == high {
+    if half == high {
         return high;
     }
     let here = read_rounds(tables, k, v, 1, cycle.before);
-    let there = read_rounds(tables, k, v, cycle.period, here);
-    entry_between(tables, k, v, cycle.half, high, here, there)
+    let there = read_to(tables, k, v, half + period, half, here, high, cycle.held);
+    entry_between(tables, k, v, half, high, here, there)
 }
