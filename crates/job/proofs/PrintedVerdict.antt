@@ -17,7 +17,7 @@ use Rattle.plain.proofs.PlainVerdict.{plain-decides, decides-one}
 use Rattle.job.specs.Ascii.{ascii}
 use Rattle.job.specs.JobCall.{Parts, judgeOutcome, digits, line, yesNo, findingVerdict, nodeText, fiveLines, textOf}
 use Rattle.job.specs.JobCall.{JobJudged, PartsAnswers, SplitAnswers, JobAnswer}
-use Rattle.job.specs.PrintedVerdict.{AcceptedJob, Says, PrintedVerdict, Prints, PrintedYesNo}
+use Rattle.job.specs.PrintedVerdict.{Says, PrintedVerdict, Prints, PrintedYesNo}
 use Rattle.job.specs.declared.call.Text.{Text}
 
 -- the questions of a judge that needs no buffer are those that are put to a job

@@ -1,152 +1,167 @@
--- The ways that may pass states between two of the ways C (specs/Rounds.antt): they are ways of C one behind the other, and
+-- The ways that may pass states between two of the ways W (specs/Rounds.antt): they are ways of W one behind the other, and
 -- two of them one behind the other are among them, if the state between them may be passed.
-use mathlib.Core.Path.{_≡_, sym, _∙_}
+use mathlib.Core.Path.{_≡_}
 use mathlib.Core.Logic.{_⊎_, inl, inr, ⊎-elim}
-use mathlib.Core.Bool.{true}
+use mathlib.Core.Bool.{Bool, true, _&&_, _||_}
 use Prim.Native.Nat.{ℕ, zero, suc, _≤_, _<_}
 use native.Mathlib.Decide.{ℕ-discrete}
 use native.Mathlib.Omega.{arith}
-use lib.Bits.{bitOr}
-use Rattle.table.specs.BitSet.{member}
-use Rattle.table.proofs.Logic.{or-l, or-r, or-in}
-use Rattle.table.proofs.BitSet.{member-union}
-use Rattle.plain.specs.Ways.{joined}
+use Rattle.table.proofs.Logic.{and-both, and-in, or-l, or-r, or-in}
+use Rattle.plain.specs.Ways.{Ways, joined}
 use Rattle.plain.specs.Rounds.{passing, widened}
-use Rattle.plain.proofs.WayLaws.{joined-in, joined-out}
 
--- bit i stands for s and t
-abbrev Has : (ℕ → ℕ → ℕ) → ℕ → ℕ → ℕ → Type 0
-Has C s t i = member (C s t) i ≡ true
+-- relation i has s and t
+abbrev Has : Ways → ℕ → ℕ → ℕ → Type 0
+Has W s t i = W s t i ≡ true
 
--- where a bit stands, bit 0 stands
-abbrev pub Whole : (ℕ → ℕ → ℕ) → Type 0
-Whole C = (s t i : ℕ) → Has C s t i → Has C s t 0
+-- two ways, one behind the other, of which one takes set i
+abbrev Two : Ways → ℕ → ℕ → ℕ → ℕ → Type 0
+Two W s p t i = (Has W s p 0 × Has W p t i) ⊎ (Has W s p i × Has W p t 0)
 
--- two ways one behind the other are among the ways, if the state between them is below m
-abbrev Closed : (ℕ → ℕ → ℕ) → ℕ → Type 0
-Closed C m = (s p t i : ℕ) → p < m → (Has C s p i × Has C p t 0) ⊎ (Has C s p 0 × Has C p t i) → Has C s t i
+-- two such ways are among the ways, if the state between them is below m
+abbrev Closed : Ways → ℕ → Type 0
+Closed W m = (s p t i : ℕ) → p < m → Two W s p t i → Has W s t i
+
+-- what is joined
+module _ (a b : ℕ → Bool) (i : ℕ) where
+  joined-out : joined a b i ≡ true → ((a 0 ≡ true) × (b i ≡ true)) ⊎ ((a i ≡ true) × (b 0 ≡ true))
+  unfolding joined
+  joined-out h = ⊎-elim (λ k. inl (and-in (a 0) (b i) k)) (λ k. inr (and-in (a i) (b 0) k)) (or-in (a 0 && b i) (a i && b 0) h)
+
+  joined-in : ((a 0 ≡ true) × (b i ≡ true)) ⊎ ((a i ≡ true) × (b 0 ≡ true)) → joined a b i ≡ true
+  unfolding joined
+  joined-in (inl (h, k)) = or-l (a 0 && b i) _ (and-both (a 0) (b i) h k)
+  joined-in (inr (h, k)) = or-r (a 0 && b i) _ (and-both (a i) (b 0) h k)
 
 -- ONE STATE MORE
 
-module _ (C : ℕ → ℕ → ℕ) (m : ℕ) (whole : Whole C) where
-  -- by way of m, where the loops at m may be taken
+module _ (W : Ways) (m : ℕ) where
+  -- by way of m: once, or with a loop at m that takes set i
   abbrev Via : ℕ → ℕ → ℕ → Type 0
-  Via s t i = Has C s m 0 × Has C m t 0 × (Has C s m i ⊎ (Has C m t i ⊎ Has C m m i))
+  Via s t i = Two W s m t i ⊎ (Has W s m 0 × Has W m m i × Has W m t 0)
 
-  own : ℕ → ℕ
-  own t = bitOr (C m t) (joined (C m m) (C m t))
+  abbrev Passes : ℕ → ℕ → ℕ → Type 0
+  Passes s t i = Has W s t i ⊎ Via s t i
 
-  own-out : (t i : ℕ) → member (own t) i ≡ true → Has C m t 0 × (Has C m t i ⊎ Has C m m i)
+  -- from m on
+  own : ℕ → ℕ → Bool
+  own t i = W m t i || joined (W m m) (W m t) i
+
+  own-out : (t i : ℕ) → own t i ≡ true → Has W m t i ⊎ (Has W m m i × Has W m t 0)
   unfolding own
-  own-out t i h = ⊎-elim (λ k. (whole m t i k, inl k))
-      (λ k. let (_, second, either) = joined-out (C m m) (C m t) i k in (second, ⊎-elim inr inl either))
-      (or-in (member (C m t) i) _ (sym (member-union (C m t) (joined (C m m) (C m t)) i) ∙ h))
+  own-out t i h = ⊎-elim inl (λ k. ⊎-elim (λ (_, x). inl x) inr (joined-out (W m m) (W m t) i k)) (or-in (W m t i) _ h)
 
-  own-in : (t i : ℕ) → Has C m t 0 → Has C m t i ⊎ Has C m m i → member (own t) i ≡ true
+  own-in : (t i : ℕ) → Has W m t i ⊎ (Has W m m i × Has W m t 0) → own t i ≡ true
   unfolding own
-  own-in t i first either = member-union (C m t) (joined (C m m) (C m t)) i ∙ ⊎-elim (λ k. or-l (member (C m t) i) _ k)
-      (λ k. or-r (member (C m t) i) _ (joined-in (C m m) (C m t) i (whole m m i k) first (inl k))) either
+  own-in t i (inl h) = or-l (W m t i) _ h
+  own-in t i (inr two) = or-r (W m t i) _ (joined-in (W m m) (W m t) i (inr two))
 
   -- which ways are there then
-  pub passing-out : (s t i : ℕ) → Has (passing m C) s t i → Has C s t i ⊎ Via s t i
+  passing-out : (s t i : ℕ) → Has (passing m W) s t i → Passes s t i
   unfolding passing own
-  passing-out s t i h = ⊎-elim inl
-      (λ k. let (first, second, either) = joined-out (C s m) (own t) i k in
-      inr (first, own-out t 0 second .0, ⊎-elim inl (λ e. inr (own-out t i e .1)) either))
-      (or-in (member (C s t) i) _ (sym (member-union (C s t) (joined (C s m) (own t)) i) ∙ h))
+  passing-out s t i h = ⊎-elim inl (λ k. inr (go (joined-out (W s m) (own t) i k))) (or-in (W s t i) _ h)
+    where
+      go : (Has W s m 0 × (own t i ≡ true)) ⊎ (Has W s m i × (own t 0 ≡ true)) → Via s t i
+      go (inl (x, y)) = ⊎-elim (λ k. inl (inl (x, k))) (λ (k, l). inr (x, k, l)) (own-out t i y)
+      go (inr (x, y)) = inl (inr (x, ⊎-elim (λ k. k) (λ k. k .1) (own-out t 0 y)))
 
-  pub passing-in : (s t i : ℕ) → Has C s t i ⊎ Via s t i → Has (passing m C) s t i
+  passing-in : (s t i : ℕ) → Passes s t i → Has (passing m W) s t i
   unfolding passing own
-  passing-in s t i (inl h) = member-union (C s t) (joined (C s m) (own t)) i ∙ or-l (member (C s t) i) _ h
-  passing-in s t i (inr (first, second, either)) = member-union (C s t) (joined (C s m) (own t)) i ∙ or-r (member (C s t) i) _
-      (joined-in (C s m) (own t) i first (own-in t 0 second (inl second)) (⊎-elim inl (λ e. inr (own-in t i second e)) either))
+  passing-in s t i (inl h) = or-l (W s t i) _ h
+  passing-in s t i (inr v) = or-r (W s t i) _ (joined-in (W s m) (own t) i (go v))
+    where
+      go : Via s t i → (Has W s m 0 × (own t i ≡ true)) ⊎ (Has W s m i × (own t 0 ≡ true))
+      go (inl (inl (x, y))) = inl (x, own-in t i (inl y))
+      go (inl (inr (x, y))) = inr (x, own-in t 0 (inl y))
+      go (inr (x, y, z)) = inl (x, own-in t i (inr (y, z)))
 
-  passing-whole : Whole (passing m C)
-  passing-whole s t i h = passing-in s t 0 (⊎-elim (λ k. inl (whole s t i k)) (λ (first, second, _). inr (first, second, inl first)) (passing-out s t i h))
+  -- to m, and from m: the loop at m comes last, or first
+  to-m : (s i : ℕ) → Passes s m i → Has W s m i ⊎ (Has W s m 0 × Has W m m i)
+  to-m s i (inl h) = inl h
+  to-m s i (inr (inl (inl two))) = inr two
+  to-m s i (inr (inl (inr (x, _)))) = inl x
+  to-m s i (inr (inr (x, y, _))) = inr (x, y)
+
+  from-m : (t i : ℕ) → Passes m t i → Has W m t i ⊎ (Has W m m i × Has W m t 0)
+  from-m t i (inl h) = inl h
+  from-m t i (inr (inl (inl (_, y)))) = inl y
+  from-m t i (inr (inl (inr two))) = inr two
+  from-m t i (inr (inr (_, y, z))) = inr (y, z)
+
+  -- with no set asked for
+  via-zero : (s t : ℕ) → Via s t 0 → Has W s m 0 × Has W m t 0
+  via-zero s t (inl (inl two)) = two
+  via-zero s t (inl (inr two)) = two
+  via-zero s t (inr (x, _, z)) = (x, z)
 
   -- m may be passed too
-  module _ (closed : Closed C m) where
-    -- the first of two ways, and the second
-    front : (s p t i : ℕ) → p < m → Has C s p i → Has C p t 0 → Has C s t i
-    front s p t i p-lt h k = closed s p t i p-lt (inl (h, k))
+  module _ (closed : Closed W m) where
+    -- a state below m between two ways, of which the second takes set i, or the first
+    back : (s p t i : ℕ) → p < m → Passes s p 0 → Passes p t i → Passes s t i
+    back s p t i l (inl h) (inl k) = inl (closed s p t i l (inl (h, k)))
+    back s p t i l (inl h) (inr (inl (inl (x, y)))) = inr (inl (inl (closed s p m 0 l (inl (h, x)), y)))
+    back s p t i l (inl h) (inr (inl (inr (x, y)))) = inr (inl (inr (closed s p m i l (inl (h, x)), y)))
+    back s p t i l (inl h) (inr (inr (x, y, z))) = inr (inr (closed s p m 0 l (inl (h, x)), y, z))
+    back s p t i l (inr v) k = let (first, second) = via-zero s p v in go first second k
+      where
+        go : Has W s m 0 → Has W m p 0 → Passes p t i → Passes s t i
+        go x y (inl k) = inr (inl (inl (x, closed m p t i l (inl (y, k)))))
+        go x y (inr (inl (inl (_, z)))) = inr (inl (inl (x, z)))
+        go x y (inr (inl (inr (k, z)))) = inr (inr (x, closed m p m i l (inl (y, k)), z))
+        go x y (inr (inr (_, k, z))) = inr (inr (x, k, z))
 
-    back : (s p t i : ℕ) → p < m → Has C s p 0 → Has C p t i → Has C s t i
-    back s p t i p-lt h k = closed s p t i p-lt (inr (h, k))
+    front : (s p t i : ℕ) → p < m → Passes s p i → Passes p t 0 → Passes s t i
+    front s p t i l (inl h) (inl k) = inl (closed s p t i l (inr (h, k)))
+    front s p t i l (inr (inl (inl (x, y)))) (inl k) = inr (inl (inl (x, closed m p t i l (inr (y, k)))))
+    front s p t i l (inr (inl (inr (x, y)))) (inl k) = inr (inl (inr (x, closed m p t 0 l (inr (y, k)))))
+    front s p t i l (inr (inr (x, y, z))) (inl k) = inr (inr (x, y, closed m p t 0 l (inr (z, k))))
+    front s p t i l h (inr v) = let (first, second) = via-zero p t v in go h first second
+      where
+        go : Passes s p i → Has W p m 0 → Has W m t 0 → Passes s t i
+        go (inl h) y z = inr (inl (inr (closed s p m i l (inr (h, y)), z)))
+        go (inr (inl (inl (x, h)))) y z = inr (inr (x, closed m p m i l (inr (h, y)), z))
+        go (inr (inl (inr (x, _)))) y z = inr (inl (inr (x, z)))
+        go (inr (inr (x, h, _))) y z = inr (inr (x, h, z))
 
-    -- a state below m between them
-    below-front : (s p t i : ℕ) → p < m → Has C s p i ⊎ Via s p i → Has C p t 0 ⊎ Via p t 0 → Has C s t i ⊎ Via s t i
-    below-front s p t i l (inl h) (inl k) = inl (front s p t i l h k)
-    below-front s p t i l (inl h) (inr (k, k′, _)) = inr (front s p m 0 l (whole s p i h) k, k′, inl (front s p m i l h k))
-    below-front s p t i l (inr (h, h′, e)) (inl k) = inr (h, front m p t 0 l h′ k, ⊎-elim inl (λ e. inr (⊎-elim (λ e. inl (front m p t i l e k)) inr e)) e)
-    below-front s p t i l (inr (h, h′, e)) (inr (k, k′, _)) = inr (h, k′, ⊎-elim inl (λ e. inr (inr (⊎-elim (λ e. front m p m i l e k) (λ e. e) e))) e)
-
-    below-back : (s p t i : ℕ) → p < m → Has C s p 0 ⊎ Via s p 0 → Has C p t i ⊎ Via p t i → Has C s t i ⊎ Via s t i
-    below-back s p t i l (inl h) (inl k) = inl (back s p t i l h k)
-    below-back s p t i l (inl h) (inr (k, k′, e)) = inr (back s p m 0 l h k, k′, ⊎-elim (λ e. inl (back s p m i l h e)) inr e)
-    below-back s p t i l (inr (h, h′, _)) (inl k) = inr (h, back m p t 0 l h′ (whole p t i k), inr (inl (back m p t i l h′ k)))
-    below-back s p t i l (inr (h, h′, _)) (inr (k, k′, e)) = inr (h, k′, inr (⊎-elim (λ e. inr (back m p m i l h′ e)) (λ e. e) e))
-
-    -- m itself
-    to-m : (s i : ℕ) → Has C s m i ⊎ Via s m i → Has C s m 0 × (Has C s m i ⊎ Has C m m i)
-    to-m s i (inl h) = (whole s m i h, inl h)
-    to-m s i (inr (h, _, e)) = (h, ⊎-elim inl (λ e. inr (⊎-elim (λ e. e) (λ e. e) e)) e)
-
-    from-m : (t i : ℕ) → Has C m t i ⊎ Via m t i → Has C m t 0 × (Has C m t i ⊎ Has C m m i)
-    from-m t i (inl h) = (whole m t i h, inl h)
-    from-m t i (inr (_, h, e)) = (h, ⊎-elim inr (λ e. e) e)
-
-    passing-closed : Closed (passing m C) (suc m)
+    passing-closed : Closed (passing m W) (suc m)
     passing-closed s p t i p-lt two = passing-in s t i (go (ℕ-discrete p m) two)
       where
-        go : Dec (p ≡ m) → (Has (passing m C) s p i × Has (passing m C) p t 0) ⊎ (Has (passing m C) s p 0 × Has (passing m C) p t i)
-            → Has C s t i ⊎ Via s t i
-        go (no other) (inl (h, k)) = below-front s p t i (omega arith) (passing-out s p i h) (passing-out p t 0 k)
-        go (no other) (inr (h, k)) = below-back s p t i (omega arith) (passing-out s p 0 h) (passing-out p t i k)
+        go : Dec (p ≡ m) → Two (passing m W) s p t i → Passes s t i
+        go (no other) (inl (h, k)) = back s p t i (omega arith) (passing-out s p 0 h) (passing-out p t i k)
+        go (no other) (inr (h, k)) = front s p t i (omega arith) (passing-out s p i h) (passing-out p t 0 k)
         go (yes e) (inl (h, k)) =
-            let (first, either) = to-m s i (passing-out s m i (rw e at h)) in
-            let (second, _) = from-m t 0 (passing-out m t 0 (rw e at k)) in
-            inr (first, second, ⊎-elim inl (λ e. inr (inr e)) either)
+            let first : Has W s m 0 = ⊎-elim (λ x. x) (λ x. x .0) (to-m s 0 (passing-out s m 0 (rw e at h))) in
+            inr (⊎-elim (λ x. inl (inl (first, x))) (λ (x, y). inr (first, x, y)) (from-m t i (passing-out m t i (rw e at k))))
         go (yes e) (inr (h, k)) =
-            let (first, _) = to-m s 0 (passing-out s m 0 (rw e at h)) in
-            let (second, either) = from-m t i (passing-out m t i (rw e at k)) in
-            inr (first, second, inr either)
+            let second : Has W m t 0 = ⊎-elim (λ x. x) (λ x. x .1) (from-m t 0 (passing-out m t 0 (rw e at k))) in
+            inr (⊎-elim (λ x. inl (inr (x, second))) (λ (x, y). inr (x, y, second)) (to-m s i (passing-out s m i (rw e at h))))
 
 -- ALL STATES BELOW m
 
-module _ (C : ℕ → ℕ → ℕ) (whole : Whole C) where
-  pub widened-whole : (m : ℕ) → Whole (widened m C)
-  unfolding widened
-  widened-whole zero s t i h = whole s t i h
-  widened-whole (suc m) s t i h = passing-whole (widened m C) m (widened-whole m) s t i h
-
-  pub widened-closed : (m : ℕ) → Closed (widened m C) m
+module _ (W : Ways) where
+  pub widened-closed : (m : ℕ) → Closed (widened m W) m
   unfolding widened
   widened-closed zero s p t i p-lt two = absurd (omega arith)
-  widened-closed (suc m) s p t i p-lt two = passing-closed (widened m C) m (widened-whole m) (widened-closed m) s p t i p-lt two
+  widened-closed (suc m) s p t i p-lt two = passing-closed (widened m W) m (widened-closed m) s p t i p-lt two
 
-  -- the ways C are among them
-  pub widened-has : (m s t i : ℕ) → Has C s t i → Has (widened m C) s t i
+  -- the ways W are among them
+  pub widened-has : (m s t i : ℕ) → Has W s t i → Has (widened m W) s t i
   unfolding widened
   widened-has zero s t i h = h
-  widened-has (suc m) s t i h = passing-in (widened m C) m (widened-whole m) s t i (inl (widened-has m s t i h))
+  widened-has (suc m) s t i h = passing-in (widened m W) m s t i (inl (widened-has m s t i h))
 
-  -- and what holds of the ways C from a state below n, and of two ways one behind the other, holds of them
-  module _ (n : ℕ) (P : ℕ → ℕ → ℕ → Type 0) (once : (s t i : ℕ) → s < n → Has C s t i → P s t i)
-      (front : (s p t i : ℕ) → P s p i → P p t 0 → P s t i) (back : (s p t i : ℕ) → P s p 0 → P p t i → P s t i) where
-    pub widened-sound : (m s t i : ℕ) → m ≤ n → s < n → Has (widened m C) s t i → P s t i
+  -- and what holds of the ways W from a state below n by a relation up to k, and of two ways one behind the other, holds of them
+  module _ (n k : ℕ) (P : ℕ → ℕ → ℕ → Type 0) (once : (s t i : ℕ) → s < n → i ≤ k → Has W s t i → P s t i)
+      (back : (s p t i : ℕ) → P s p 0 → P p t i → P s t i) (front : (s p t i : ℕ) → P s p i → P p t 0 → P s t i) where
+    pub widened-sound : (m s t i : ℕ) → m ≤ n → s < n → i ≤ k → Has (widened m W) s t i → P s t i
     unfolding widened
-    widened-sound zero s t i within s-lt h = once s t i s-lt h
-    widened-sound (suc m) s t i within s-lt h = go (passing-out (widened m C) m (widened-whole m) s t i h)
-        (λ s t i l. widened-sound m s t i (omega arith) l)
+    widened-sound zero s t i within s-lt h has = once s t i s-lt h has
+    widened-sound (suc m) s t i within s-lt h has =
+        go (passing-out (widened m W) m s t i has) (λ s t i l h. widened-sound m s t i (omega arith) l h)
       where
-        W : ℕ → ℕ → ℕ
-        W = widened m C
-
-        go : Has W s t i ⊎ Via W m (widened-whole m) s t i → ((s t i : ℕ) → s < n → Has W s t i → P s t i) → P s t i
-        go (inl k) below = below s t i s-lt k
-        go (inr (first, second, either)) below =
-            let to : P s m 0 = below s m 0 s-lt first in
-            let from : P m t 0 = below m t 0 (omega arith) second in
-            ⊎-elim (λ k. front s m t i (below s m i s-lt k) from)
-            (λ e. ⊎-elim (λ k. back s m t i to (below m t i (omega arith) k))
-            (λ k. front s m t i (back s m m i to (below m m i (omega arith) k)) from) e) either
+        go : Passes (widened m W) m s t i → ((s t i : ℕ) → s < n → i ≤ k → Has (widened m W) s t i → P s t i) → P s t i
+        go (inl x) below = below s t i s-lt h x
+        go (inr (inl (inl (x, y)))) below = back s m t i (below s m 0 s-lt (omega arith) x) (below m t i (omega arith) h y)
+        go (inr (inl (inr (x, y)))) below = front s m t i (below s m i s-lt h x) (below m t 0 (omega arith) (omega arith) y)
+        go (inr (inr (x, y, z))) below = front s m t i (back s m m i (below s m 0 s-lt (omega arith) x) (below m m i (omega arith) h y))
+            (below m t 0 (omega arith) (omega arith) z)

@@ -1,84 +1,101 @@
 -- The judge on a read table: what its calls need, and that its verdict is right for every rule that the table holds.
-use mathlib.Core.Path.{_≡_, refl}
-use mathlib.Core.Logic.{inr}
-use mathlib.Core.List.{List, [], _∷_}
-use Prim.Native.Nat.{ℕ, zero, suc, _≤_, _<_}
+use mathlib.Core.Path.{_≡_, sym, _∙_}
+use mathlib.Core.List.{List}
+use Prim.Native.Nat.{ℕ, _^_, _≤_, _<_}
 use native.Mathlib.Omega.{arith}
-use lib.ListN.{length}
-use Rattle.table.specs.Limits.{maxLetters}
-use Rattle.table.specs.Rule.{Grid, Rule}
+use lib.ListN.{getD}
+use Rattle.table.specs.Limits.{maxStates, maxLetters, maxSets}
+use Rattle.table.specs.Rule.{Rule}
 use Rattle.table.specs.Table.{Every}
 use Rattle.table.specs.HeldRule.{HoldsRule}
 use Rattle.table.specs.declared.header.Header.{Header}
-use Rattle.table.proofs.Logic.{clash}
-use Rattle.table.proofs.BitSet.{member-none}
 use Rattle.table.proofs.Every.{every-weaker}
-use Rattle.word.specs.Walk.{rounds}
-use Rattle.word.specs.Judging.{Judgeable}
 use Rattle.word.specs.Loop.{Loop}
 use Rattle.word.specs.Verdict.{Decides}
-use Rattle.plain.specs.Ways.{entry, rowsOf}
-use Rattle.plain.specs.Lead.{startRow, after}
-use Rattle.plain.specs.TailWays.{TailFits, tailWays}
+use Rattle.word.specs.WalkTables.{Tables, Tabled, TablesFor}
+use Rattle.plain.specs.Ways.{ways, AreWays}
+use Rattle.plain.specs.Letters.{statesAfter, rowAfter}
 use Rattle.plain.specs.Rounds.{widened}
 use Rattle.plain.specs.Search.{SomeLoop}
-use Rattle.plain.specs.Walkable.{Walkable}
-use Rattle.plain.proofs.RowLaws.{rows-at}
-use Rattle.plain.proofs.HeldBytes.{bytes-fit}
-use Rattle.plain.proofs.RoundsLead.{RoundsWays, rounds-ways}
-use Rattle.plain.proofs.LoopSearch.{found-loop, loop-found}
+use Rattle.plain.specs.Walks.{Walks}
+use Rattle.plain.proofs.WaysLead.{states-out, states-in, tail-out, tail-in}
+use Rattle.plain.proofs.RoundsLead.{TailWays, RoundsWays, rounds-ways}
+use Rattle.plain.proofs.LoopSearch.{LeadStates, found-loop, loop-found}
 use Rattle.plain.proofs.Searching.{decides-same}
 
--- what can be judged can be walked
-pub judgeable-walkable : {header : Header} {cells : Grid} {u v scratch : List ℕ} {needed : ℕ} → Judgeable header cells u v needed scratch → Walkable header cells u v
-judgeable-walkable {header} {cells} {u} {v} j = record {
-  states = rw (h .numbers) (h .states);
-  sets = rw (h .numbers) (h .sets);
-  bytes = bytes-fit (j .rule) (h .well) (h .sets) cells (h .transitions);
-  lead = below u (j .lead);
-  tail = below v (j .tail);
-}
-  where
-    h : HoldsRule (j .rule) header cells
-    h = j .holds
+-- THE TABLES
 
-    few : header .letters ≤ maxLetters
-    few = rw (h .numbers) (h .letters)
-
-    below : (w : List ℕ) → Every (λ a. a < header .letters) w → Every (λ a. a < maxLetters) w
-    below w all = every-weaker _ _ w (λ a less. omega (arith, few)) all
-
--- and so can its tail
-pub walkable-tail : {header : Header} {cells : Grid} {u v : List ℕ} → Walkable header cells u v → 1 ≤ length v → TailFits cells v
-walkable-tail w some = record { some = some; letters = w .tail; bytes = w .bytes }
-
--- NO TAIL
-
--- no letter takes a transition
-rounds-none : (j : ℕ) → rounds j [] ≡ []
-unfolding rounds
-rounds-none zero = refl
-rounds-none (suc j) = rounds-none j
-
--- so there is no loop
-pub no-loop : {R : Rule} {header : Header} {cells : Grid} (u v : List ℕ) → HoldsRule R header cells → length v ≡ 0 → Decides 0 (Loop R u v)
-no-loop {R} u [] h none = inr (refl, λ L. clash (member-none 0) (rw (rw (rounds-none (L .turns)) at (L .loops) .1) at (L .every 0 (h .some-set))))
-no-loop u (a ∷ v) h none = absurd (omega arith)
+-- with the tables of its letters a walk can be judged
+pub held-walks : {R : Rule} {header : Header} {words : List (List ℕ)} → HoldsRule R header words
+    → (u v : List ℕ) → Every (λ a. a < header .letters) u → Every (λ a. a < header .letters) v
+    → (tables : Tables) → TablesFor words u v tables → Walks R header tables u v
+unfolding TablesFor
+held-walks {R} h u v lead tail tables for =
+    let (lead-tabled, tail-tabled) = for R (h .images) (rw (h .numbers) at lead) (rw (h .numbers) at tail) in
+    record {
+      numbers = h .numbers;
+      well = h .well;
+      states = h .states;
+      letters = h .letters;
+      sets = h .sets;
+      lead = lead-tabled;
+      tail = tail-tabled;
+    }
 
 -- THE VERDICT
 
--- what is found is a loop of the rule, and a loop is found
-pub verdict-right : {header : Header} {cells : Grid} {u v : List ℕ} → Walkable header cells u v → {R : Rule} → HoldsRule R header cells
-    → (verdict : ℕ) (from : List ℕ) (tail wide : List (List ℕ)) → from ≡ after cells u (startRow (header .start)) → tail ≡ rowsOf (tailWays cells v)
-    → ((C : ℕ → ℕ → ℕ) → tail ≡ rowsOf C → wide ≡ rowsOf (widened (header .states) C))
-    → Decides verdict (SomeLoop (entry wide) (header .states) (header .sets) from) → Decides verdict (Loop R u v)
-verdict-right {header} {cells} {u} {v} w {R} h verdict from tail wide start one more d =
-    decides-same (found-loop R (h .well) (h .states) (h .letters) (h .sets) cells (h .transitions) u v (w .lead) (entry wide) ways)
-    (loop-found R (h .well) (h .states) (h .letters) (h .sets) cells (h .transitions) u v (w .lead) (entry wide) ways) (rw (start, h .numbers) at d)
-  where
-    rows : wide ≡ rowsOf (widened (R .states) (tailWays cells v))
-    rows = rw (h .numbers) at (more (tailWays cells v) one)
+module _ {R : Rule} {header : Header} {tables : Tables} {u v : List ℕ} (w : Walks R header tables u v) where
+  -- the numbers and the letters are within the limits
+  pub states-few : header .states ≤ maxStates
+  states-few = rw (w .numbers) (w .states)
 
-    ways : RoundsWays R v (entry wide)
-    ways = rounds-ways R (h .well) (h .states) (h .letters) (h .sets) cells (h .transitions) v (w .tail) (entry wide) λ s t s-lt t-lt.
-        rw rows (rows-at (widened (R .states) (tailWays cells v)) s t s-lt t-lt)
+  pub sets-few : header .sets ≤ maxSets
+  sets-few = rw (w .numbers) (w .sets)
+
+  tabled-small : (l : List ℕ) → Every (Tabled R tables) l → Every (λ a. a < maxLetters) l
+  tabled-small l all = every-weaker _ _ l (λ a t. omega (arith, t .below, w .letters)) all
+
+  pub lead-small : Every (λ a. a < maxLetters) u
+  lead-small = tabled-small u (w .lead)
+
+  pub tail-small : Every (λ a. a < maxLetters) v
+  tail-small = tabled-small v (w .tail)
+
+  -- what is found is a loop of the rule, and a loop is found
+  pub verdict-right : (verdict from : ℕ) (tail wide : List ℕ) → from ≡ statesAfter tables u (header .start)
+      → ((s : ℕ) → s < header .states → getD tail s 0 ≡ rowAfter tables v (2 ^ s))
+      → AreWays (header .states) (widened (header .states) (ways tail)) wide
+      → Decides verdict (SomeLoop (ways wide) (header .states) (header .sets) from) → Decides verdict (Loop R u v)
+  unfolding ways
+  verdict-right verdict from tail wide start rows more d =
+      decides-same (found-loop R (w .well) (w .sets) u v from lead (ways wide) rounds)
+      (loop-found R (w .well) (w .sets) u v from lead (ways wide) rounds) (rw (w .numbers) at d)
+    where
+      lead : LeadStates R u from
+      lead = record {
+        sound = λ t m. states-out R (w .well) (w .states) tables u (R .start) t (w .lead) (rw (start, w .numbers) at m);
+        complete = λ origin c t m p. rw (start, w .numbers)
+            (states-in R (w .well) (w .states) tables u (R .start) origin c t (w .lead) m p);
+      }
+
+      row : (s : ℕ) → s < R .states → getD tail s 0 ≡ rowAfter tables v (2 ^ s)
+      row = rw (w .numbers) at rows
+
+      one : TailWays R v (ways tail)
+      one = record {
+        sound = λ s t i s-lt h m. tail-out R (w .well) (w .states) tables v (w .tail) s (omega (arith, w .states)) t i h (rw (row s s-lt) at m);
+        complete = λ s c t i s-lt h p takes. rw (row s s-lt)
+            (tail-in R (w .well) (w .states) tables v (w .tail) s (omega (arith, w .states)) c t i h p takes);
+      }
+
+      are : AreWays (R .states) (widened (R .states) (ways tail)) wide
+      are = rw (w .numbers) at more
+
+      all : RoundsWays R v (widened (R .states) (ways tail))
+      all = rounds-ways R (w .well) v (ways tail) one
+
+      rounds : RoundsWays R v (ways wide)
+      rounds = record {
+        sound = λ s t i s-lt h m. all .sound s t i s-lt h (sym (are s t i s-lt h) ∙ m);
+        complete = λ s c t j i s-lt h p takes. are s t i s-lt h ∙ all .complete s c t j i s-lt h p takes;
+      }

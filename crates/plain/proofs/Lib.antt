@@ -1,14 +1,9 @@
-pub mod WayLaws
 pub mod RowLaws
-pub mod LeadRows
-pub mod MoveLists
-pub mod LetterSteps
-pub mod TailSteps
+pub mod LetterLaws
 pub mod RoundRows
-pub mod HeldBytes
+pub mod WayLaws
 pub mod WaysLead
 pub mod Closure
-pub mod LeadStates
 pub mod RoundsLead
 pub mod LoopSearch
 pub mod Searching

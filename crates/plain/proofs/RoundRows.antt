@@ -1,32 +1,108 @@
--- The rows of one or more tails (specs/Rounds.antt), as the code's loops make them.
-use mathlib.Core.Path.{_≡_, _∙_, ap}
-use mathlib.Core.List.{List, []}
-use Prim.Native.Nat.{ℕ, _+_, _<_}
+-- The rows of one or more tails (specs/Rounds.antt), as the code makes them: products keep maps or drop them, and the rows have
+-- the ways that may pass one state after the other.
+use mathlib.Core.Path.{_≡_, refl, sym, _∙_, ap, ap₂}
+use mathlib.Core.Bool.{Bool, true, false, _&&_, _||_}
+use mathlib.Core.List.{List}
+use Prim.Native.Nat.{ℕ, suc, _+_, _*_, _/_, _%_, _^_, _≤_, _<_}
+use native.Mathlib.Nat.{mul-le-mul, mul-le-mul-left}
 use native.Mathlib.Numerals.{add-one}
-use lib.Bits.{bitOr}
+use native.Mathlib.Omega.{arith}
+use borrow.Author.Tests.{eqb-true, eqb-false}
+use lib.Bits.{bitAnd, and-le-r}
+use lib.Dec.{eqb}
 use lib.ListN.{getD}
-use Rattle.table.specs.Limits.{maxStates}
-use Rattle.table.specs.Lookup.{tabulate}
-use Rattle.table.proofs.Tabulate.{getD-tabulate, tabulate-ext}
-use Rattle.plain.specs.Ways.{entry, joined, joinedRow, rowsOf}
-use Rattle.plain.specs.Rounds.{passing, widened}
-use Rattle.plain.proofs.RowLaws.{rows-ext, rows-at}
+use Rattle.table.specs.Limits.{maxStates, maxSets}
+use Rattle.table.specs.BitSet.{member}
+use Rattle.table.proofs.BitSet.{member-none, member-union}
+use Rattle.plain.specs.Ways.{Ways, joined, mapOf, packed, ways, AreWays, Changed}
+use Rattle.plain.specs.Rounds.{passing, widened, marks, continued}
+use Rattle.plain.proofs.RowLaws.{map-zero, map-none, map-union, packed-at, packed-times, packed-marks, mark, column}
 
--- one row with a state that may be passed
-pub passing-row : (rows : List (List ℕ)) (m s : ℕ) (behind : List ℕ) → behind ≡ joinedRow (getD rows m []) (entry rows m m) (getD rows m [])
-    → joinedRow (getD rows s []) (entry rows s m) behind ≡ tabulate maxStates (passing m (entry rows) s)
-unfolding joinedRow passing
-passing-row rows m s behind e = tabulate-ext maxStates _ _ λ t t-lt. ap (λ (x : ℕ). bitOr (entry rows s t) (joined (entry rows s m) x))
-    (ap (λ (row : List ℕ). getD row t 0) e ∙ getD-tabulate maxStates (λ t. bitOr (entry rows m t) (joined (entry rows m m) (entry rows m t))) t 0 t-lt)
+-- PRODUCTS WITH 1 OR 0
 
--- all rows, one state more
-pub widened-more : (C : ℕ → ℕ → ℕ) (m : ℕ) (rows more : List (List ℕ)) → m < maxStates → rows ≡ rowsOf (widened m C)
-    → more ≡ rowsOf (passing m (entry rows)) → more ≡ rowsOf (widened (m + 1) C)
-unfolding widened passing
-widened-more C m rows more m-lt e new = new ∙ rw (add-one, e) (rows-ext _ _ λ s t s-lt t-lt.
-    rw (
-      rows-at (widened m C) s t s-lt t-lt,
-      rows-at (widened m C) s m s-lt m-lt,
-      rows-at (widened m C) m t m-lt t-lt,
-      rows-at (widened m C) m m m-lt m-lt,
-    ))
+module _ (x b : ℕ) (bit : b ≤ 1) where
+  -- such a product is kept, or 0
+  pub kept : (P : ℕ → Bool) → P 0 ≡ false → P (x * b) ≡ (eqb b 1 && P x)
+  kept P none = go (eqb b 1) refl
+    where
+      go : (one : Bool) → eqb b 1 ≡ one → P (x * b) ≡ (one && P x)
+      go true e = let same : x * 1 ≡ x = omega arith in rw (eqb-true b 1 e, same)
+      go false e =
+          let none-left : b ≡ 0 = omega (arith, eqb-false b 1 e) in
+          let same : x * 0 ≡ 0 = omega arith in
+          rw (none-left, same) none
+
+  pub kept-le : x * b ≤ x
+  kept-le = omega (arith, mul-le-mul-left x bit)
+
+-- the product with a bit for each relation fits in 64 bits
+pub kept-maps-lt : (x z : ℕ) → x % 2 ^ maxStates * bitAnd z (marks (suc maxSets)) < 2 ^ 64
+unfolding marks packed
+kept-maps-lt x z = omega (arith, mul-le-mul {n₁ = x % 2 ^ maxStates} {n₂ = 2 ^ maxStates} (omega arith) (and-le-r z (marks (suc maxSets))))
+
+-- ONE ROW
+
+-- what stands in a continued row: what the row has, and what the two rows have one behind the other
+continued-at : (row m behind i t : ℕ) → m < maxStates → i ≤ maxSets
+    → member (mapOf (continued row m behind) i) t
+    ≡ (member (mapOf row i) t || joined (λ i. member (mapOf row i) m) (λ i. member (mapOf behind i) t) i)
+unfolding continued joined marks packed
+continued-at row m behind i t m-lt h = ap (λ (x : ℕ). member x t) (map-union row _ i) ∙ member-union (mapOf row i) _ t
+    ∙ ap (λ (b : Bool). member (mapOf row i) t || b)
+    (ap (λ (x : ℕ). member x t) (map-union _ _ i) ∙ member-union _ _ t ∙ ap₂ (λ (a b : Bool). a || b) first second)
+  where
+    way : ℕ
+    way = bitAnd (row / 2 ^ m) (marks (suc maxSets))
+
+    bits : ℕ → ℕ
+    bits = mark (row / 2 ^ m)
+
+    are : way ≡ packed (suc maxSets) bits
+    are = packed-marks (row / 2 ^ m) (suc maxSets)
+
+    low : ℕ
+    low = behind % 2 ^ maxStates
+
+    lowest : way % 2 ≡ bits 0
+    lowest = rw are (omega arith)
+
+    first : member (mapOf (behind * (way % 2)) i) t ≡ (member (mapOf row 0) m && member (mapOf behind i) t)
+    first = ap (λ (x : ℕ). member (mapOf (behind * x) i) t) lowest
+        ∙ kept behind (bits 0) (omega arith) (λ x. member (mapOf x i) t) (ap (λ (x : ℕ). member x t) (map-none i) ∙ member-none t)
+        ∙ ap (λ (b : Bool). b && member (mapOf behind i) t) (column row m 0 m-lt)
+
+    second : member (mapOf (low * way) i) t ≡ (member (mapOf row i) m && member (mapOf behind 0) t)
+    second = ap (λ (x : ℕ). member (mapOf x i) t) (ap (λ (x : ℕ). low * x) are ∙ packed-times low (suc maxSets) bits)
+        ∙ ap (λ (x : ℕ). member x t) (packed-at (suc maxSets) (λ i. low * bits i) i
+        (λ j. omega (arith, kept-le low (bits j) (omega arith))) (omega arith))
+        ∙ kept low (bits i) (omega arith) (λ x. member x t) (member-none t)
+        ∙ ap₂ (λ (a b : Bool). a && b) (column row m i m-lt) (ap (λ (x : ℕ). member x t) (sym (map-zero behind)))
+
+-- ALL ROWS
+
+-- one state more that may be passed
+pub through-ways : (m n behind : ℕ) (before after : List ℕ) → m < maxStates → behind ≡ continued (getD before m 0) m (getD before m 0)
+    → Changed (λ row. continued row m behind) n before after → AreWays n (passing m (ways before)) after
+unfolding passing ways joined
+through-ways m n behind before after m-lt own changed s t i s-lt h =
+    ap (λ (row : ℕ). member (mapOf row i) t) (changed .first s s-lt) ∙ continued-at (getD before s 0) m behind i t m-lt h
+    ∙ rw (back i h, back 0 (omega arith))
+  where
+    back : (i : ℕ) → i ≤ maxSets → member (mapOf behind i) t
+        ≡ (ways before m t i || joined (ways before m m) (ways before m t) i)
+    back i h = ap (λ (row : ℕ). member (mapOf row i) t) own ∙ continued-at (getD before m 0) m (getD before m 0) i t m-lt h
+
+-- and one state after the other
+pub widened-more : (W : Ways) (n m : ℕ) (rows more : List ℕ) → m < n → AreWays n (widened m W) rows
+    → AreWays n (passing m (ways rows)) more → AreWays n (widened (m + 1) W) more
+unfolding widened passing joined
+widened-more W n m rows more m-lt are new s t i s-lt h = new s t i s-lt h ∙ rw (
+  add-one,
+  are s t i s-lt h,
+  are s m 0 s-lt (omega arith),
+  are s m i s-lt h,
+  are m t 0 m-lt (omega arith),
+  are m t i m-lt h,
+  are m m 0 m-lt (omega arith),
+  are m m i m-lt h,
+)

@@ -1,48 +1,130 @@
--- The laws of rows by their entries (specs/Ways.antt).
-use mathlib.Core.Path.{_≡_, refl, sym, _∙_, ap}
-use mathlib.Core.List.{List, []}
-use Prim.Native.Nat.{ℕ, _<_}
+-- The laws of rows (specs/Ways.antt): the map for each relation, rows made of maps, and rows changed one after the other.
+use mathlib.Core.Path.{_≡_, refl, sym, _∙_, ap, ap₂}
+use mathlib.Core.List.{List}
+use Prim.Native.Nat.{ℕ, zero, suc, _+_, _*_, _/_, _%_, _^_, _<_}
 use native.Mathlib.Decide.{ℕ-discrete}
 use native.Mathlib.Omega.{arith}
-use lib.ListN.{length, getD, set, replicate, length-set}
-use lib.Seq.{getD-set-same, getD-set-other, ext-getD}
+use lib.Bits.{bitAnd, bitOr, and-block, and-mask, and-zero-r, or-block, or-shr, or-mod, or-zero-l, or-zero-r}
+use lib.Dec.{eqb}
+use lib.ListN.{length, getD, set, length-set}
+use lib.Pow.{shr-shr, pow-add}
+use lib.Seq.{getD-set-same, getD-set-other}
 use Rattle.table.specs.Limits.{maxStates}
-use Rattle.table.specs.Lookup.{tabulate}
-use Rattle.table.proofs.Tabulate.{length-tabulate, getD-tabulate, tabulate-ext}
-use Rattle.plain.specs.Ways.{entry, rowsOf}
+use Rattle.table.specs.BitSet.{member}
+use Rattle.table.proofs.BitSet.{member-mod}
+use Rattle.plain.specs.Ways.{mapOf, packed, Changed}
 
--- rows with the same entries
-pub rows-ext : (f g : ℕ → ℕ → ℕ) → ((s t : ℕ) → s < maxStates → t < maxStates → f s t ≡ g s t) → rowsOf f ≡ rowsOf g
-unfolding rowsOf
-rows-ext f g same = tabulate-ext maxStates _ _ λ s s-lt. tabulate-ext maxStates (f s) (g s) λ t t-lt. same s t s-lt t-lt
+-- THE MAPS OF A ROW
 
-module _ (f : ℕ → ℕ → ℕ) where
-  -- a row, and an entry
-  pub rows-row : (s : ℕ) → s < maxStates → getD (rowsOf f) s [] ≡ tabulate maxStates (f s)
-  unfolding rowsOf
-  rows-row s s-lt = getD-tabulate maxStates (λ s. tabulate maxStates (f s)) s [] s-lt
+-- the map for relation 0 stands lowest
+pub map-zero : (x : ℕ) → mapOf x 0 ≡ x % 2 ^ maxStates
+map-zero x = omega arith
 
-  pub rows-at : (s t : ℕ) → s < maxStates → t < maxStates → entry (rowsOf f) s t ≡ f s t
-  rows-at s t s-lt t-lt = ap (λ (row : List ℕ). getD row t 0) (rows-row s s-lt) ∙ getD-tabulate maxStates (f s) t 0 t-lt
+-- the map for relation i + 1 is one further up
+next-place : (i : ℕ) → maxStates * suc i ≡ maxStates + maxStates * i
+next-place i = omega arith
 
-  pub rows-size : length (rowsOf f) ≡ maxStates
-  unfolding rowsOf
-  rows-size = length-tabulate maxStates _
+pub shift-suc : (x i : ℕ) → x / 2 ^ (maxStates * suc i) ≡ x / 2 ^ maxStates / 2 ^ (maxStates * i)
+shift-suc x i = rw (next-place i) (sym (shr-shr x maxStates (maxStates * i)))
 
--- one row changed
-pub rows-set : (f g : ℕ → ℕ → ℕ) (m : ℕ) (row : List ℕ) → m < maxStates → row ≡ tabulate maxStates (g m)
-    → ((s : ℕ) → s < maxStates → (s ≡ m → ⊥) → tabulate maxStates (f s) ≡ tabulate maxStates (g s)) → set (rowsOf f) m row ≡ rowsOf g
-rows-set f g m row m-lt new same = ext-getD [] (set (rowsOf f) m row) (rowsOf g) (size ∙ sym (rows-size g)) λ s s-lt.
-    at s (omega (arith, size)) (ℕ-discrete s m)
-  where
-    size : length (set (rowsOf f) m row) ≡ maxStates
-    size = length-set (rowsOf f) m row ∙ rows-size f
+map-suc : (x i : ℕ) → mapOf x (suc i) ≡ mapOf (x / 2 ^ maxStates) i
+map-suc x i = ap (λ (y : ℕ). y % 2 ^ maxStates) (shift-suc x i)
 
-    at : (s : ℕ) → s < maxStates → Dec (s ≡ m) → getD (set (rowsOf f) m row) s [] ≡ getD (rowsOf g) s []
-    at s s-lt (yes e) = rw (e, getD-set-same (rowsOf f) m row [] (omega (arith, rows-size f)), rows-row g m m-lt) new
-    at s s-lt (no other) = getD-set-other (rowsOf f) m s row [] other ∙ rows-row f s s-lt ∙ same s s-lt other ∙ sym (rows-row g s s-lt)
+-- its members
+pub map-member : (x i t : ℕ) → t < maxStates → member (mapOf x i) t ≡ member x (maxStates * i + t)
+unfolding member
+map-member x i t small = member-mod maxStates (x / 2 ^ (maxStates * i)) t small ∙ ap (λ (y : ℕ). eqb (y % 2) 1) (shr-shr x (maxStates * i) t)
 
--- no way yet
-pub rows-blank : replicate maxStates (replicate maxStates 0) ≡ rowsOf (λ s t. 0)
-unfolding rowsOf tabulate
-rows-blank = refl
+-- no states
+pub map-none : (i : ℕ) → mapOf 0 i ≡ 0
+map-none zero = refl
+map-none (suc i) = map-suc 0 i ∙ map-none i
+
+-- a union
+pub map-union : (a b i : ℕ) → mapOf (bitOr a b) i ≡ bitOr (mapOf a i) (mapOf b i)
+map-union a b i = ap (λ (x : ℕ). x % 2 ^ maxStates) (or-shr a b (maxStates * i))
+    ∙ or-mod (a / 2 ^ (maxStates * i)) (b / 2 ^ (maxStates * i)) maxStates
+
+-- ROWS MADE OF MAPS
+
+-- the same maps, the same row
+pub packed-ext : (k : ℕ) (f g : ℕ → ℕ) → ((i : ℕ) → i < k → f i ≡ g i) → packed k f ≡ packed k g
+unfolding packed
+packed-ext zero f g same = refl
+packed-ext (suc k) f g same = ap₂ (λ (x y : ℕ). x + 2 ^ maxStates * y) (same 0 (omega arith))
+    (packed-ext k (λ i. f (suc i)) (λ i. g (suc i)) (λ i small. same (suc i) (omega arith)))
+
+-- its maps
+pub packed-at : (k : ℕ) (f : ℕ → ℕ) (i : ℕ) → ((j : ℕ) → f j < 2 ^ maxStates) → i < k → mapOf (packed k f) i ≡ f i
+unfolding packed
+packed-at zero f i fit small = absurd (omega arith)
+packed-at (suc k) f zero fit small = omega (arith, fit 0)
+packed-at (suc k) f (suc i) fit small =
+    let y = packed k (λ i. f (suc i)) in
+    let rest : (f 0 + 2 ^ maxStates * y) / 2 ^ maxStates ≡ y = omega (arith, fit 0) in
+    map-suc (f 0 + 2 ^ maxStates * y) i ∙ ap (λ (x : ℕ). mapOf x i) rest ∙ packed-at k (λ i. f (suc i)) i (λ j. fit (suc j)) (omega arith)
+
+-- one map more
+pub packed-more : (k : ℕ) (f : ℕ → ℕ) → ((j : ℕ) → f j < 2 ^ maxStates)
+    → bitOr (packed k f) (f k * 2 ^ (maxStates * k)) ≡ packed (suc k) f
+unfolding packed
+packed-more zero f fit = omega (arith, or-zero-l (f 0 * 1))
+packed-more (suc k) f fit =
+    let y = packed k (λ i. f (suc i)) in
+    let z = f (suc k) * 2 ^ (maxStates * k) in
+    let front : f 0 + 2 ^ maxStates * y ≡ y * 2 ^ maxStates + f 0 = omega arith in
+    let last : f (suc k) * 2 ^ (maxStates * suc k) ≡ z * 2 ^ maxStates + 0 =
+    rw (next-place k, pow-add 2 maxStates (maxStates * k)) (omega arith) in
+    let joins = packed-more k (λ i. f (suc i)) (λ j. fit (suc j)) in
+    rw (front, last, or-block maxStates y z (f 0) 0 (fit 0) (omega arith), or-zero-r (f 0), joins) (omega arith)
+
+-- each map a multiple
+pub packed-times : (x k : ℕ) (f : ℕ → ℕ) → x * packed k f ≡ packed k (λ i. x * f i)
+unfolding packed
+packed-times x zero f = omega arith
+packed-times x (suc k) f = omega (arith, packed-times x k (λ i. f (suc i)))
+
+-- 1 if the map for relation i has state 0, otherwise 0
+abbrev pub mark : ℕ → ℕ → ℕ
+mark x i = x / 2 ^ (maxStates * i) % 2
+
+-- state 0 kept in each map, and no other state
+pub packed-marks : (x k : ℕ) → bitAnd x (packed k (λ i. 1)) ≡ packed k (mark x)
+unfolding packed
+packed-marks x zero = and-zero-r x
+packed-marks x (suc k) =
+    let y = packed k (λ i. 1) in
+    let maps : x ≡ x / 2 ^ maxStates * 2 ^ maxStates + x % 2 ^ maxStates = omega arith in
+    let mask : 1 + 2 ^ maxStates * y ≡ y * 2 ^ maxStates + 1 = omega arith in
+    ap₂ bitAnd maps mask ∙ and-block maxStates (x / 2 ^ maxStates) y (x % 2 ^ maxStates) 1 (omega arith) (omega arith)
+    ∙ omega (
+      arith,
+      and-mask (x % 2 ^ maxStates) 1,
+      packed-marks (x / 2 ^ maxStates) k,
+      packed-ext k _ _ (λ i small. ap (λ (y : ℕ). y % 2) (shift-suc x i)),
+    )
+
+-- does a row lead to state m by relation i?
+pub column : (row m i : ℕ) → m < maxStates → eqb (mark (row / 2 ^ m) i) 1 ≡ member (mapOf row i) m
+unfolding member
+column row m i m-lt = let e : m + maxStates * i ≡ maxStates * i + m = omega arith in
+    ap (λ (x : ℕ). eqb (x % 2) 1) (shr-shr row m (maxStates * i)) ∙ ap (λ (k : ℕ). eqb (row / 2 ^ k % 2) 1) e
+    ∙ sym (map-member row i m m-lt)
+
+-- ROWS CHANGED ONE AFTER THE OTHER
+
+module _ (f : ℕ → ℕ) (before : List ℕ) where
+  pub changed-none : Changed f 0 before before
+  changed-none = record { size = refl; first = λ s small. absurd (omega arith); others = λ s h. refl }
+
+  pub changed-more : (s : ℕ) (rows : List ℕ) (row : ℕ) → Changed f s before rows → s < length rows → row ≡ f (getD rows s 0)
+      → Changed f (s + 1) before (set rows s row)
+  changed-more s rows row h inside new = record {
+    size = length-set rows s row ∙ h .size;
+    first = λ q small. go q small (ℕ-discrete q s);
+    others = λ q large. getD-set-other rows s q row 0 (λ e. omega arith) ∙ h .others q (omega arith);
+  }
+    where
+      go : (q : ℕ) → q < s + 1 → Dec (q ≡ s) → getD (set rows s row) q 0 ≡ f (getD before q 0)
+      go q small (yes e) = rw e (getD-set-same rows s row 0 inside ∙ new ∙ ap f (h .others s (omega arith)))
+      go q small (no other) = getD-set-other rows s q row 0 other ∙ h .first q (omega arith)

@@ -1,96 +1,158 @@
--- The ways that letters open are the paths of the rule: bit i stands for s and t just if the letters lead from s to t by
--- transitions whose sets c have set i, or i is 0. The number of such a path is 1 + 2c.
-use mathlib.Core.Path.{_≡_, refl, sym, _∙_, ap, subst}
-use mathlib.Core.Logic.{⊎-elim, inl, inr}
+-- Letters read by their tables lead where the paths of the rule lead: the states after the lead-in, and the rows of a tail.
+use mathlib.Core.Path.{_≡_, refl, sym, _∙_, subst}
+use mathlib.Core.Logic.{_⊎_, ⊎-elim, inl, inr}
 use mathlib.Core.Bool.{true}
 use mathlib.Core.List.{List, [], _∷_}
-use Prim.Native.Nat.{ℕ, _+_, _*_, _≤_, _<_}
+use Prim.Native.Nat.{ℕ, zero, suc, _+_, _*_, _^_, _≤_, _<_}
 use native.Mathlib.Omega.{arith}
-use borrow.Author.Tests.{eqb-false, eq-eqb, ne-eqb}
+use borrow.Author.Tests.{eqb-true, eq-eqb}
 use lib.Bits.{bitOr}
 use lib.ListN.{getD}
-use Rattle.table.specs.Limits.{maxStates, maxLetters, maxSets, noTransition}
+use Rattle.table.specs.Limits.{maxStates, maxSets}
 use Rattle.table.specs.BitSet.{member}
-use Rattle.table.specs.Rule.{Grid, Rule, cellAt, edge}
+use Rattle.table.specs.Lookup.{LetterTable, lookUp}
+use Rattle.table.specs.Rule.{Rule, cellAt, edge, edgeIn, successors, successorsIn}
 use Rattle.table.specs.Table.{Every, WellFormed}
-use Rattle.table.specs.Held.{held}
-use Rattle.table.proofs.Logic.{not-out, not-in}
-use Rattle.table.proofs.Edges.{edge-inside}
+use Rattle.table.proofs.BitSet.{member-none, member-single, member-union, member-lt, image-in, image-out}
+use Rattle.table.proofs.Edges.{edge-inside, edgeIn-edge, edgeIn-member, member-edgeIn}
+use Rattle.table.proofs.Logic.{clash, or-l, or-r, or-in}
+use Rattle.table.proofs.LookupTable.{look-up-successors, look-up-successors-in}
 use Rattle.word.specs.Loop.{Leads}
-use Rattle.plain.specs.Ways.{entry, joined}
-use Rattle.plain.specs.TailWays.{cellWays, letterWays, tailWays}
-use Rattle.plain.proofs.WayLaws.{joined-in, joined-out, any-in, any-out, way-of, way-there, way-first, way-union, way-apart}
-use Rattle.plain.proofs.TailSteps.{stay-in, stay-out}
-use Rattle.plain.proofs.HeldBytes.{byte-at}
+use Rattle.word.specs.WalkTables.{Tables, Tabled}
+use Rattle.plain.specs.Ways.{mapOf}
+use Rattle.plain.specs.Letters.{over, statesAfter, extended, rowAfter}
+use Rattle.plain.proofs.RowLaws.{map-member}
+use Rattle.plain.proofs.LetterLaws.{extended-at}
+use Rattle.plain.proofs.WayLaws.{Takes, takes-union, takes-apart}
 
--- where a bit stands, bit 0 stands
-pub ways-whole : (cells : Grid) (w : List ℕ) (s t i : ℕ) → member (tailWays cells w s t) i ≡ true → member (tailWays cells w s t) 0 ≡ true
-unfolding tailWays letterWays
-ways-whole cells [] s t i h =
-    let (e, _) = stay-out s t i h in
-    rw e (stay-in t)
-ways-whole cells (a ∷ w) s t i h =
-    let f : ℕ → ℕ = λ r. joined (cellWays (getD cells a []) s r) (tailWays cells w r t) in
-    let (r, r-lt, m) = any-out maxStates f i h in
-    let (first, second, _) = joined-out (cellWays (getD cells a []) s r) (tailWays cells w r t) i m in
-    any-in maxStates f r 0 r-lt (joined-in (cellWays (getD cells a []) s r) (tailWays cells w r t) 0 first second (inl first))
+-- a way of a row to q, and behind it one whose transitions have the sets c: relation i has the two together
+abbrev Behind : ℕ → ℕ → ℕ → ℕ → Type 0
+Behind row q c i = (member (mapOf row i) q ≡ true) ⊎ ((member (mapOf row 0) q ≡ true) × Takes c i)
 
-module _ (R : Rule) (well : WellFormed R) (states : R .states ≤ maxStates) (letters : R .letters ≤ maxLetters) (sets : R .sets ≤ maxSets)
-    (cells : Grid) (holds : cells ≡ held (R .grid)) where
-  -- a byte and its transition
-  module _ (a s r : ℕ) (a-lt : a < maxLetters) (s-lt : s < maxStates) (r-lt : r < maxStates) where
-    abbrev byte : ℕ
-    byte = entry (getD cells a []) s r
+-- the row of no letter: its state by relation 0
+own-out : (s i t : ℕ) → s < maxStates → member (mapOf (2 ^ s) i) t ≡ true → (s ≡ t) × (i ≡ 0)
+own-out s i t s-lt m =
+    let t-lt : t < maxStates = member-lt maxStates (mapOf (2 ^ s) i) t (omega arith) m in
+    let e : s ≡ maxStates * i + t = eqb-true _ _ (sym (member-single s (maxStates * i + t)) ∙ sym (map-member (2 ^ s) i t t-lt) ∙ m) in
+    (omega arith, omega arith)
 
-    same : byte ≡ cellAt (R .grid) a s r
-    same = byte-at R well sets cells holds a s r a-lt s-lt r-lt
+own-in : (s : ℕ) → s < maxStates → member (mapOf (2 ^ s) 0) s ≡ true
+own-in s s-lt = let e : s ≡ maxStates * 0 + s = omega arith in
+    map-member (2 ^ s) 0 s s-lt ∙ member-single s (maxStates * 0 + s) ∙ eq-eqb s (maxStates * 0 + s) e
 
-    pub edge-there : (byte ≡ noTransition → ⊥) → edge (R .grid) a s r ≡ true
-    unfolding edge
-    edge-there there = not-out _ (ne-eqb _ _ (λ e. there (same ∙ e)))
+module _ (R : Rule) (well : WellFormed R) (states : R .states ≤ maxStates) (tables : Tables) where
+  -- ONE LETTER
 
-    pub there-edge : edge (R .grid) a s r ≡ true → byte ≡ noTransition → ⊥
-    unfolding edge
-    there-edge h e = eqb-false _ _ (not-in _ h) (sym same ∙ e)
+  module _ (a : ℕ) (tabled : Tabled R tables a) where
+    abbrev table : LetterTable
+    table = getD tables a []
 
-    -- its way
-    edge-way : edge (R .grid) a s r ≡ true → cellWays (getD cells a []) s r ≡ 1 + 2 * cellAt (R .grid) a s r
-    unfolding cellWays
-    edge-way h = way-of byte (there-edge h) ∙ ap (λ (x : ℕ). 1 + 2 * x) same
+    -- a look-up has the states that transitions lead to
+    look-out : (i S r : ℕ) → i ≤ maxSets → member (lookUp table i S) r ≡ true
+        → (q : ℕ) × (member S q ≡ true) × (edge (R .grid) a q r ≡ true) × Takes (cellAt (R .grid) a q r) i
+    unfolding successors successorsIn
+    look-out zero S r h m =
+        let (q, _, _, inside, e) = image-out (R .states) (edge (R .grid) a) S r
+        (rw (tabled .entries, look-up-successors R well states a S) at m) in
+        (q, inside, e, tt)
+    look-out (suc i) S r h m =
+        let (q, _, _, inside, e) = image-out (R .states) (edgeIn (R .grid) (suc i) a) S r
+        (rw (tabled .entries, look-up-successors-in R well states (suc i) a S (omega arith) h) at m) in
+        (q, inside, edgeIn-edge (R .grid) (suc i) a q r e, edgeIn-member (R .grid) i a q r e)
 
-    way-edge : (i : ℕ) → member (cellWays (getD cells a []) s r) i ≡ true → edge (R .grid) a s r ≡ true
-    unfolding cellWays
-    way-edge i h = edge-there (way-there byte i h)
+    look-in : (i S q r : ℕ) → i ≤ maxSets → member S q ≡ true → edge (R .grid) a q r ≡ true → Takes (cellAt (R .grid) a q r) i
+        → member (lookUp table i S) r ≡ true
+    unfolding successors successorsIn
+    look-in zero S q r h m e takes =
+        let (_, q-lt, r-lt) = edge-inside R well a q r e in
+        rw (tabled .entries, look-up-successors R well states a S) (image-in (R .states) (edge (R .grid) a) S q r q-lt r-lt m e)
+    look-in (suc i) S q r h m e takes =
+        let (_, q-lt, r-lt) = edge-inside R well a q r e in
+        rw (tabled .entries, look-up-successors-in R well states (suc i) a S (omega arith) h)
+        (image-in (R .states) (edgeIn (R .grid) (suc i) a) S q r q-lt r-lt m (member-edgeIn (R .grid) i a q r e takes))
 
-  -- what stands is a path
-  pub ways-lead : (w : List ℕ) (s t i : ℕ) → Every (λ a. a < maxLetters) w → s < maxStates → member (tailWays cells w s t) i ≡ true
-      → (c : ℕ) × Leads R w s c t × (member (1 + 2 * c) i ≡ true)
-  unfolding tailWays letterWays
-  ways-lead [] s t i fit s-lt h =
-      let (e, z) = stay-out s t i h in
-      (0, (e, refl), rw z (way-first 0))
-  ways-lead (a ∷ w) s t i fit s-lt h =
-      let W : ℕ → ℕ = λ r. cellWays (getD cells a []) s r in
-      let (r, r-lt, m) = any-out maxStates (λ r. joined (W r) (tailWays cells w r t)) i h in
-      let (first, second, either) = joined-out (W r) (tailWays cells w r t) i m in
-      let (a-lt, fit′) = fit in
-      let e = way-edge a s r a-lt s-lt r-lt 0 first in
-      let x = cellAt (R .grid) a s r in
-      let behind : (i : ℕ) → member (tailWays cells w r t) i ≡ true → (d : ℕ) × Leads R w r d t × (member (1 + 2 * d) i ≡ true) =
-      λ i. ways-lead w r t i fit′ r-lt in
-      ⊎-elim
-      (λ k. let (d, p, _) = behind 0 second in
-      (bitOr x d, (r, d, e, p, refl), way-union x d i (inl (rw (edge-way a s r a-lt s-lt r-lt e) at k))))
-      (λ k. let (d, p, m′) = behind i k in (bitOr x d, (r, d, e, p, refl), way-union x d i (inr m′))) either
+    -- the ways of a row with the letter behind it: a way of the row, and a transition behind it
+    extended-out : (row r i : ℕ) → i ≤ maxSets → member (mapOf (extended table row) i) r ≡ true
+        → (q : ℕ) × (edge (R .grid) a q r ≡ true) × Behind row q (cellAt (R .grid) a q r) i
+    extended-out row r i h m = ⊎-elim
+        (λ k. let (q, inside, e, takes) = look-out i (mapOf row 0) r h k in (q, e, inr (inside, takes)))
+        (λ k. let (q, inside, e, _) = look-out 0 (mapOf row i) r (omega arith) k in (q, e, inl inside))
+        (or-in (member (lookUp table i (mapOf row 0)) r) _ (sym (member-union _ _ r) ∙ (rw (extended-at table row i h) at m)))
 
-  -- and a path stands
-  pub lead-ways : (w : List ℕ) (s c t i : ℕ) → Leads R w s c t → member (1 + 2 * c) i ≡ true → member (tailWays cells w s t) i ≡ true
-  unfolding tailWays letterWays
-  lead-ways [] s c t i (e, z) h = rw (e, eq-eqb t t refl) (rw z at h)
-  lead-ways (a ∷ w) s c t i (r, d, e, p, z) h =
-      let (a-in, s-in, r-in) = edge-inside R well a s r e in
-      let x = cellAt (R .grid) a s r in
-      let way : cellWays (getD cells a []) s r ≡ 1 + 2 * x = edge-way a s r (omega arith) (omega arith) (omega arith) e in
-      any-in maxStates (λ r. joined (cellWays (getD cells a []) s r) (tailWays cells w r t)) r i (omega arith)
-      (joined-in (cellWays (getD cells a []) s r) (tailWays cells w r t) i (rw way (way-first x)) (lead-ways w r d t 0 p (way-first d))
-      (⊎-elim (λ k. inl (rw way k)) (λ k. inr (lead-ways w r d t i p k)) (way-apart x d i (subst (λ c. member (1 + 2 * c) i ≡ true) z h))))
+    extended-in : (row q r i : ℕ) → i ≤ maxSets → edge (R .grid) a q r ≡ true → Behind row q (cellAt (R .grid) a q r) i
+        → member (mapOf (extended table row) i) r ≡ true
+    extended-in row q r i h e (inl k) = rw (extended-at table row i h) (member-union _ _ r
+        ∙ or-r (member (lookUp table i (mapOf row 0)) r) _ (look-in 0 (mapOf row i) q r (omega arith) k e tt))
+    extended-in row q r i h e (inr (k, takes)) = rw (extended-at table row i h) (member-union _ _ r
+        ∙ or-l (member (lookUp table i (mapOf row 0)) r) _ (look-in i (mapOf row 0) q r h k e takes))
+
+  -- THE LEAD-IN
+
+  pub states-out : (w : List ℕ) (S t : ℕ) → Every (Tabled R tables) w → member (statesAfter tables w S) t ≡ true
+      → (s : ℕ) × (c : ℕ) × (member S s ≡ true) × Leads R w s c t
+  unfolding statesAfter over
+  states-out [] S t fit m = (t, 0, m, (refl, refl))
+  states-out (a ∷ w) S t (tabled, fit) m =
+      let (r, d, inside, p) = states-out w (lookUp (getD tables a []) 0 S) t fit m in
+      let (s, inside′, e, _) = look-out a tabled 0 S r (omega arith) inside in
+      (s, _, inside′, (r, d, e, p, refl))
+
+  pub states-in : (w : List ℕ) (S s c t : ℕ) → Every (Tabled R tables) w → member S s ≡ true → Leads R w s c t
+      → member (statesAfter tables w S) t ≡ true
+  unfolding statesAfter over
+  states-in [] S s c t fit m (e, _) = rw e at m
+  states-in (a ∷ w) S s c t (tabled, fit) m (r, d, e, p, _) =
+      states-in w (lookUp (getD tables a []) 0 S) r d t fit (look-in a tabled 0 S s r (omega arith) m e tt) p
+
+  -- THE TAIL
+
+  -- the ways of a row with letters behind it: a way of the row, and a path behind it
+  row-out : (w : List ℕ) (row t i : ℕ) → Every (Tabled R tables) w → i ≤ maxSets → member (mapOf (rowAfter tables w row) i) t ≡ true
+      → (q : ℕ) × (c : ℕ) × Leads R w q c t × Behind row q c i
+  unfolding rowAfter over
+  row-out [] row t i fit h m = (t, 0, (refl, refl), inl m)
+  row-out (a ∷ w) row t i (tabled, fit) h m =
+      let (r, d, p, either) = row-out w (extended (getD tables a []) row) t i fit h m in
+      go r d p either
+    where
+      go : (r d : ℕ) → Leads R w r d t → Behind (extended (getD tables a []) row) r d i
+          → (q : ℕ) × (c : ℕ) × Leads R (a ∷ w) q c t × Behind row q c i
+      go r d p (inl k) =
+          let (q, e, either) = extended-out a tabled row r i h k in
+          let x = cellAt (R .grid) a q r in
+          (q, bitOr x d, (r, d, e, p, refl), ⊎-elim inl (λ (z, takes). inr (z, takes-union x d i (inl takes))) either)
+      go r d p (inr (k, takes)) =
+          let (q, e, either) = extended-out a tabled row r 0 (omega arith) k in
+          let x = cellAt (R .grid) a q r in
+          (q, bitOr x d, (r, d, e, p, refl), inr (⊎-elim (λ m. m) (λ m. m .0) either, takes-union x d i (inr takes)))
+
+  row-in : (w : List ℕ) (row q c t i : ℕ) → Every (Tabled R tables) w → i ≤ maxSets → Leads R w q c t → Behind row q c i
+      → member (mapOf (rowAfter tables w row) i) t ≡ true
+  unfolding rowAfter over
+  row-in [] row q c t i fit h (e, z) (inl m) = rw e at m
+  row-in [] row q c t zero fit h (e, z) (inr (m, _)) = rw e at m
+  row-in [] row q c t (suc i) fit h (e, z) (inr (_, takes)) = clash (member-none i) (rw z at takes)
+  row-in (a ∷ w) row q c t i (tabled, fit) h (r, d, e, p, z) either =
+      row-in w (extended (getD tables a []) row) r d t i fit h p (go either)
+    where
+      x : ℕ
+      x = cellAt (R .grid) a q r
+
+      go : Behind row q c i → Behind (extended (getD tables a []) row) r d i
+      go (inl m) = inl (extended-in a tabled row q r i h e (inl m))
+      go (inr (m, takes)) = ⊎-elim (λ k. inl (extended-in a tabled row q r i h e (inr (m, k))))
+          (λ k. inr (extended-in a tabled row q r 0 (omega arith) e (inl m), k))
+          (takes-apart x d i (subst (λ c. Takes c i) z takes))
+
+  -- the ways of the tail from one state
+  module _ (v : List ℕ) (fit : Every (Tabled R tables) v) (s : ℕ) (s-lt : s < maxStates) where
+    pub tail-out : (t i : ℕ) → i ≤ maxSets → member (mapOf (rowAfter tables v (2 ^ s)) i) t ≡ true
+        → (c : ℕ) × Leads R v s c t × Takes c i
+    tail-out t i h m = let (q, c, p, either) = row-out v (2 ^ s) t i fit h m in go q c p either
+      where
+        go : (q c : ℕ) → Leads R v q c t → Behind (2 ^ s) q c i → (c : ℕ) × Leads R v s c t × Takes c i
+        go q c p (inl k) = let (e, z) = own-out s i q s-lt k in (c, rw e p, rw z tt)
+        go q c p (inr (k, takes)) = let (e, _) = own-out s 0 q s-lt k in (c, rw e p, takes)
+
+    pub tail-in : (c t i : ℕ) → i ≤ maxSets → Leads R v s c t → Takes c i → member (mapOf (rowAfter tables v (2 ^ s)) i) t ≡ true
+    tail-in c t i h p takes = row-in v (2 ^ s) s c t i fit h p (inr (own-in s s-lt, takes))

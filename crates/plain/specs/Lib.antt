@@ -1,8 +1,6 @@
 pub mod PlainCall
 pub mod Ways
-pub mod Lead
-pub mod TailWays
-pub mod Moves
+pub mod Letters
 pub mod Rounds
 pub mod Search
-pub mod Walkable
+pub mod Walks

@@ -1,13 +1,26 @@
 -- One or more tails, inside the plain judge: the ways that may pass some states between two tails.
-use Prim.Native.Nat.{ℕ, zero, suc}
-use lib.Bits.{bitOr}
-use Rattle.plain.specs.Ways.{joined}
+use mathlib.Core.Bool.{_||_}
+use Prim.Native.Nat.{ℕ, zero, suc, _*_, _/_, _%_, _^_}
+use lib.Bits.{bitAnd, bitOr}
+use Rattle.table.specs.Limits.{maxStates, maxSets}
+use Rattle.plain.specs.Ways.{Ways, joined, packed}
 
--- the ways C, and those that pass state m, once or over and over
-unfoldable pub passing : ℕ → (ℕ → ℕ → ℕ) → ℕ → ℕ → ℕ
-passing m C s t = bitOr (C s t) (joined (C s m) (bitOr (C m t) (joined (C m m) (C m t))))
+-- the ways W, and those that pass state m, once or over and over
+unfoldable pub passing : ℕ → Ways → Ways
+passing m W s t i = W s t i || joined (W s m) (λ i. W m t i || joined (W m m) (W m t) i) i
 
 -- the ways that may pass all states below m
-unfoldable pub widened : ℕ → (ℕ → ℕ → ℕ) → ℕ → ℕ → ℕ
-widened zero C s t = C s t
-widened (suc m) C s t = passing m (widened m C) s t
+unfoldable pub widened : ℕ → Ways → Ways
+widened zero W s t i = W s t i
+widened (suc m) W s t i = passing m (widened m W) s t i
+
+-- state 0 in each of k maps
+unfoldable pub marks : ℕ → ℕ
+marks k = packed k (λ i. 1)
+
+-- a row, and its ways to m with one of the row `behind` behind them
+unfoldable pub continued : ℕ → ℕ → ℕ → ℕ
+continued row m behind = bitOr row (bitOr (behind * (way % 2)) (behind % 2 ^ maxStates * way))
+  where
+    way : ℕ
+    way = bitAnd (row / 2 ^ m) (marks (suc maxSets))

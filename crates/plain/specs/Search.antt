@@ -2,14 +2,28 @@
 -- or more tails lead back to it, by ways that take all sets.
 use mathlib.Core.Path.{_≡_}
 use mathlib.Core.Logic.{_⊎_}
+use mathlib.Core.Bool.{true}
 use mathlib.Core.List.{List}
-use Prim.Native.Nat.{ℕ, suc, _-_, _^_, _<_}
+use Prim.Native.Nat.{ℕ, zero, suc, _*_, _/_, _%_, _^_, _≤_, _<_}
+use lib.Bits.{bitOr}
 use lib.ListN.{getD}
+use Rattle.table.specs.Limits.{maxStates}
+use Rattle.table.specs.BitSet.{member}
+use Rattle.plain.specs.Ways.{Ways}
 
--- state t is one of the states `from`, or ways of one or more tails (C) lead to it from one of them
-abbrev pub Reaches : (ℕ → ℕ → ℕ) → ℕ → List ℕ → ℕ → Type 0
-Reaches C n from t = (getD from t 0 ≡ 0 → ⊥) ⊎ ((s : ℕ) × (s < n) × (getD from s 0 ≡ 0 → ⊥) × (C s t ≡ 0 → ⊥))
+-- the states `from`, and those that the rows of the states below n lead to from them
+unfoldable pub reached : ℕ → List ℕ → ℕ → ℕ
+reached zero rows from = from
+reached (suc n) rows from = bitOr (reached n rows from) (getD rows n 0 % 2 ^ maxStates * (from / 2 ^ n % 2))
 
--- such a state, from which ways of one or more tails lead back to it, and they take all k sets
-abbrev pub SomeLoop : (ℕ → ℕ → ℕ) → ℕ → ℕ → List ℕ → Type 0
-SomeLoop C n k from = (t : ℕ) × (t < n) × Reaches C n from t × (C t t ≡ 2 ^ suc k - 1)
+-- state t is one of the states `from`, or ways of one or more tails (W) lead to it from one of them
+abbrev pub Reaches : Ways → ℕ → ℕ → ℕ → Type 0
+Reaches W n from t = (member from t ≡ true) ⊎ ((s : ℕ) × (s < n) × (member from s ≡ true) × (W s t 0 ≡ true))
+
+-- and from t ways of one or more tails lead back to t, and they take all k sets
+abbrev pub LoopAt : Ways → ℕ → ℕ → ℕ → ℕ → Type 0
+LoopAt W n k from t = Reaches W n from t × ((i : ℕ) → i ≤ k → W t t i ≡ true)
+
+-- there is such a state
+abbrev pub SomeLoop : Ways → ℕ → ℕ → ℕ → Type 0
+SomeLoop W n k from = (t : ℕ) × (t < n) × LoopAt W n k from t

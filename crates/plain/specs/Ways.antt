@@ -1,31 +1,41 @@
--- Ways between two states, inside the plain judge, as a number: 0 where there is no way. Otherwise bit 0 stands, and bit i
--- just if one of the ways takes a transition of set i. A row has such a number for each state that the ways lead to.
-use mathlib.Core.Bool.{_&&_, cond}
-use mathlib.Core.List.{List, []}
-use Prim.Native.Nat.{ℕ, zero, suc}
-use lib.Bits.{bitOr}
-use lib.ListN.{getD}
-use Rattle.table.specs.Limits.{maxStates}
+-- Ways between two states, inside the plain judge. Relation 0 has the pairs of states with a way from the one to the other,
+-- relation i those with a way that takes a transition of set i. A row has the ways from one state, in one number: for each
+-- relation a map of the states that they lead to.
+use mathlib.Core.Path.{_≡_}
+use mathlib.Core.Bool.{Bool, _&&_, _||_}
+use mathlib.Core.List.{List}
+use Prim.Native.Nat.{ℕ, zero, suc, _+_, _*_, _/_, _%_, _^_, _≤_, _<_}
+use lib.ListN.{length, getD}
+use Rattle.table.specs.Limits.{maxStates, maxSets}
 use Rattle.table.specs.BitSet.{member}
-use Rattle.table.specs.Lookup.{tabulate}
 
--- the entry of some rows for two states
-abbrev pub entry : List (List ℕ) → ℕ → ℕ → ℕ
-entry rows s t = getD (getD rows s []) t 0
+-- by the state that the ways come from, the state that they lead to, and the relation
+abbrev pub Ways : Type 0
+Ways = ℕ → ℕ → ℕ → Bool
 
--- rows by their entries
-unfoldable pub rowsOf : (ℕ → ℕ → ℕ) → List (List ℕ)
-rowsOf f = tabulate maxStates (λ s. tabulate maxStates (f s))
+-- one of the ways a, and one of the ways b behind it: one of the two takes the transition of set i
+unfoldable pub joined : (ℕ → Bool) → (ℕ → Bool) → ℕ → Bool
+joined a b i = (a 0 && b i) || (a i && b 0)
 
--- one of the ways a, and behind it one of the ways b
-unfoldable pub joined : ℕ → ℕ → ℕ
-joined a b = cond (member a 0 && member b 0) (bitOr a b) 0
+-- the map of a row for relation i
+abbrev pub mapOf : ℕ → ℕ → ℕ
+mapOf row i = row / 2 ^ (maxStates * i) % 2 ^ maxStates
 
--- the ways f 0, f 1, .., f (n−1) together
-unfoldable pub anyOf : ℕ → (ℕ → ℕ) → ℕ
-anyOf zero f = 0
-anyOf (suc n) f = bitOr (anyOf n f) (f n)
+-- the row with the maps f 0, f 1, .., f (k−1)
+unfoldable pub packed : ℕ → (ℕ → ℕ) → ℕ
+packed zero f = 0
+packed (suc k) f = f 0 + 2 ^ maxStates * packed k (λ i. f (suc i))
 
--- a row with more ways: one of the ways `way`, and behind it one of the row `behind`
-unfoldable pub joinedRow : List ℕ → ℕ → List ℕ → List ℕ
-joinedRow row way behind = tabulate maxStates (λ t. bitOr (getD row t 0) (joined way (getD behind t 0)))
+-- the ways of some rows
+unfoldable pub ways : List ℕ → Ways
+ways rows s t i = member (mapOf (getD rows s 0) i) t
+
+-- the rows of the states below n have the ways W
+abbrev pub AreWays : ℕ → Ways → List ℕ → Type 0
+AreWays n W rows = (s t i : ℕ) → s < n → i ≤ maxSets → ways rows s t i ≡ W s t i
+
+-- the first n rows are changed by f, and the others kept
+pub record Changed (f : ℕ → ℕ) (n : ℕ) (before after : List ℕ) : Type 0 where
+  pub size : length after ≡ length before
+  pub first : (s : ℕ) → s < n → getD after s 0 ≡ f (getD before s 0)
+  pub others : (s : ℕ) → n ≤ s → getD after s 0 ≡ getD before s 0

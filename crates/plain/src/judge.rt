@@ -1,17 +1,20 @@
 // The plain judge. It knows the table and nothing of trees.
 use crate::lead::states_after;
-use crate::rounds::widened_rows;
+use crate::rounds::widen_rows;
 use crate::scratch::SCRATCH_LENGTH;
 use crate::scratch::clear;
 use crate::search::some_loop;
 use crate::tail::tail_rows;
 use table::header::Header;
-use table::limits::Cells;
 use table::limits::LETTERS;
 use table::limits::NO_TRANSITION;
 use table::limits::STATES;
+use table::limits::Words;
+use table::lookup::ENTRIES;
 use table::reader::Reading;
 use table::reader::read_rule;
+use word::tables::AllTables;
+use word::tables::walk_tables;
 use word::walk::walk_number;
 ghost use mathlib.Core.Path.{_≡_};
 ghost use lib.ListN.{replicate};
@@ -22,7 +25,7 @@ ghost use Rattle.word.specs.Judging.{Judgeable};
 ghost use Rattle.word.specs.Loop.{Loop};
 ghost use Rattle.word.specs.Verdict.{Decides};
 ghost use Rattle.plain.specs.PlainCall.{PlainAnswers, plainOutcome, scratchAfter, scratchLength};
-ghost use Rattle.plain.specs.Walkable.{Walkable};
+ghost use Rattle.plain.specs.Walks.{Walks};
 
 // The plain judge's answer: 0 and the verdict (1 yes, 0 no), or the number of the question that failed and zero.
 #[repr(C)]
@@ -31,33 +34,32 @@ pub struct PlainAnswer {
     pub verdict: u8,
 }
 
-// The verdict on a walk, right for every rule that the table holds.
-fn walk_verdict(cells: &Cells, header: Header, u: &[u8], v: &[u8]) -> u8
-    requires { ⌜ Walkable header (now cells) (now u) (now v) ⌝ }
-    ensures { λ r. ⌜ ((R : Rule) → HoldsRule R header (now (cells .entry)) → Decides r (Loop R (now (u .entry)) (now (v .entry)))) ⌝ }
+// The verdict on a walk, right for every rule with these numbers and these tables of the walk's letters.
+fn walk_verdict(tables: &AllTables, header: Header, u: &[u8], v: &[u8]) -> u8
+    requires { ⌜ ((R : Rule) × Walks R header (now tables) (now u) (now v)) ⌝ }
+    ensures { λ r. ⌜ ((R : Rule) → Walks R header (now (tables .entry)) (now (u .entry)) (now (v .entry))
+        → Decides r (Loop R (now (u .entry)) (now (v .entry)))) ⌝ }
 {
-    // without a letter no transition is taken
-    if v.len() == 0 {
-        return 0;
-    }
     let n = header.states;
     // the states that "u" leads to from a starting state
-    let from = states_after(cells, header.start, u);
-    // the ways that one tail, and that one or more tails, open between any two states
-    let tail = tail_rows(cells, v);
-    let wide = widened_rows(tail, n);
+    let from = states_after(tables, header.start, u);
+    // the ways that one tail opens between any two states, then those of one or more tails
+    let mut rows = tail_rows(tables, v, n);
+    widen_rows(&mut rows, n);
     // a state s such that "u and i tails lead from a starting state to s, and j further tails lead from s back to s
     // taking at least one transition of each set"
-    some_loop(&wide, from, n, header.sets)
+    some_loop(&rows, from, n, header.sets)
 }
 
 // The judge on a read table, for any walk over its letters. Its verdict is right for every rule that the table holds.
-fn judge_walk(cells: &Cells, header: Header, u: &[u8], v: &[u8], scratch: &mut [u8]) -> u8
-    requires { ⌜ Judgeable header (now cells) (now u) (now v) scratchLength (now scratch) ⌝ }
-    ensures { λ r. ⌜ ((R : Rule) → HoldsRule R header (now (cells .entry)) → Decides r (Loop R (now (u .entry)) (now (v .entry))))
+fn judge_walk(words: &Words, header: Header, u: &[u8], v: &[u8], scratch: &mut [u8]) -> u8
+    requires { ⌜ Judgeable header (now words) (now u) (now v) scratchLength (now scratch) ⌝ }
+    ensures { λ r. ⌜ ((R : Rule) → HoldsRule R header (now (words .entry)) → Decides r (Loop R (now (u .entry)) (now (v .entry))))
         × (now (scratch .exit) ≡ stored 0 (replicate scratchLength 0) (now (scratch .entry))) ⌝ }
 {
-    let verdict = walk_verdict(cells, header, u, v);
+    let mut tables = [[0u64; ENTRIES]; LETTERS];
+    walk_tables(words, u, v, &mut tables);
+    let verdict = walk_verdict(&tables, header, u, v);
     // "leaves them zero"
     clear(scratch);
     verdict
@@ -71,7 +73,8 @@ pub fn plain_judge(table: &[u8], u: &[u8], v: &[u8], scratch: &mut [u8]) -> Plai
         ≡ scratchAfter (plainOutcome (now (table .entry)) (now (u .entry)) (now (v .entry)) (now (scratch .entry))) (now (scratch .entry))) ⌝ }
 {
     let mut cells = [[[NO_TRANSITION; STATES]; STATES]; LETTERS];
-    match read_rule(table, &mut cells) {
+    let mut words = [[0u64; STATES]; LETTERS];
+    match read_rule(table, &mut cells, &mut words) {
         Reading::Refused(number) => PlainAnswer {
             number: number,
             verdict: 0,
@@ -90,7 +93,7 @@ pub fn plain_judge(table: &[u8], u: &[u8], v: &[u8], scratch: &mut [u8]) -> Plai
                     verdict: 0,
                 };
             }
-            let verdict = judge_walk(&cells, header, u, v, scratch);
+            let verdict = judge_walk(&words, header, u, v, scratch);
             PlainAnswer {
                 number: 0,
                 verdict: verdict,

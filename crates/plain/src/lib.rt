@@ -1,9 +1,7 @@
 // The plain judge. It knows the table and nothing of trees.
 pub mod judge;
 mod lead;
-mod moves;
 mod rounds;
-mod rows;
 mod scratch;
 mod search;
 mod tail;

@@ -1,41 +1,48 @@
-// One or more tails: for each pair of states the ways that they open between them.
-use crate::rows::Rows;
-use crate::rows::join;
-use table::limits::STATES;
+// "j further tails", one or more: the ways that they open between any two states.
+use crate::tail::Rows;
 ghost use mathlib.Core.Path.{_≡_};
-ghost use Prim.Native.Nat.{ℕ, _<_, _≤_};
+ghost use Prim.Native.Nat.{_<_, _≤_};
+ghost use lib.ListN.{length};
 ghost use Rattle.table.specs.Limits.{maxStates};
-ghost use Rattle.plain.specs.Ways.{entry, rowsOf};
-ghost use Rattle.plain.specs.Rounds.{passing, widened};
+ghost use Rattle.plain.specs.Ways.{AreWays, ways};
+ghost use Rattle.plain.specs.Rounds.{continued, passing, widened};
 
-// The rows with one more state that the ways may pass, once or over and over.
-fn through_state(rows: &Rows, middle: usize) -> Rows
+// Bit 8·i for each relation i.
+pub const RELATIONS: u64 = 4311810305;
+
+// A row with more ways: each way to `middle`, and behind it a way of the row `behind`. The sets are those of both. No branch: a
+// product with 1 or 0 keeps a map or drops it, and one product does so for the maps of all relations.
+fn continued(row: u64, middle: usize, behind: u64) -> u64
     requires { ⌜ middle < maxStates ⌝ }
-    ensures { λ r. ⌜ r ≡ rowsOf (passing middle (entry (now (rows .entry)))) ⌝ }
+    ensures { λ r. ⌜ r ≡ continued row middle behind ⌝ }
 {
-    let row = rows[middle];
-    let behind = join(row, row[middle], row);
-    let mut wide = [[0u16; STATES]; STATES];
-    let mut state = 0usize;
-    while state < STATES {
-        let first = rows[state];
-        wide[state] = join(first, first[middle], behind);
-        state += 1;
-    }
-    wide
+    let way = (row >> middle) & RELATIONS;
+    row | ((behind * (way % 2)) | ((behind % 256) * way))
 }
 
-// The rows of one or more tails: all states below n may be passed between two tails.
-pub fn widened_rows(tail: Rows, n: usize) -> Rows
-    requires { ⌜ n ≤ maxStates ⌝ }
-    ensures { λ r. ⌜ ((C : ℕ → ℕ → ℕ) → tail ≡ rowsOf C → r ≡ rowsOf (widened n C)) ⌝ }
+// One more state that a way may pass between two tails, once or over and over.
+fn through_state(rows: &mut Rows, middle: usize, n: usize)
+    requires { ⌜ (n ≤ maxStates) × ((middle < n) × (length (now rows) ≡ maxStates)) ⌝ }
+    ensures { λ _. ⌜ (length (now (rows .exit)) ≡ maxStates)
+        × AreWays n (passing middle (ways (now (rows .entry)))) (now (rows .exit)) ⌝ }
 {
-    let mut rows = tail;
+    let own = rows[middle];
+    let behind = continued(own, middle, own);
+    let mut state = 0usize;
+    while state < n {
+        rows[state] = continued(rows[state], middle, behind);
+        state += 1;
+    }
+}
+
+// From the rows of one tail to those of one or more tails: between two tails a way may pass any state.
+pub fn widen_rows(rows: &mut Rows, n: usize)
+    requires { ⌜ (n ≤ maxStates) × (length (now rows) ≡ maxStates) ⌝ }
+    ensures { λ _. ⌜ AreWays n (widened n (ways (now (rows .entry)))) (now (rows .exit)) ⌝ }
+{
     let mut middle = 0usize;
     while middle < n {
-        let more = through_state(&rows, middle);
-        rows = more;
+        through_state(rows, middle, n);
         middle += 1;
     }
-    rows
 }

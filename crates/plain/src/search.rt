@@ -1,49 +1,47 @@
-// The search for a loop: the states that the lead-in leads to, and those among the states reached from them from which
-// one or more tails lead back, by ways that take all sets.
-use crate::rows::Row;
-use crate::rows::Rows;
-ghost use Prim.Native.Nat.{_<_, _≤_};
+// The search for a loop: a state that the lead-in and some tails lead to, and from which one or more tails lead back to it, by
+// ways that take all sets.
+use crate::rounds::RELATIONS;
+use crate::tail::Rows;
+use table::limits::SETS;
+ghost use mathlib.Core.Path.{_≡_};
+ghost use Prim.Native.Nat.{_≤_};
 ghost use Rattle.table.specs.Limits.{maxSets, maxStates};
 ghost use Rattle.word.specs.Verdict.{Decides};
-ghost use Rattle.plain.specs.Ways.{entry};
-ghost use Rattle.plain.specs.Search.{Reaches, SomeLoop};
+ghost use Rattle.plain.specs.Ways.{ways};
+ghost use Rattle.plain.specs.Search.{SomeLoop, reached};
 
-// Is state t one of the states `from`, or reached from one of them by one or more tails? 1 for yes, 0 for no.
-fn reaches(wide: &Rows, from: Row, t: usize, n: usize) -> u8
-    requires { ⌜ (n ≤ maxStates) × (t < n) ⌝ }
-    ensures { λ r. ⌜ Decides r (Reaches (entry (now (wide .entry))) n from t) ⌝ }
+// "u and i tails lead from a starting state to s": the states `from`, and those that one or more tails lead to from them.
+fn reached(wide: &Rows, from: u16, n: usize) -> u16
+    requires { ⌜ n ≤ maxStates ⌝ }
+    ensures { λ r. ⌜ r ≡ reached n (now (wide .entry)) from ⌝ }
 {
-    if from[t] != 0 {
-        return 1;
-    }
+    let mut all = from;
     let mut state = 0usize;
     while state < n {
-        let s = state;
+        let next = (wide[state] % 256) as u16;
+        all = all | (next * ((from >> state) % 2));
         state += 1;
-        if from[s] == 0 {
-            continue;
-        }
-        if wide[s][t] != 0 {
-            return 1;
-        }
     }
-    0
+    all
 }
 
-// Is there such a state from which one or more tails lead back to it, taking all k sets? 1 for yes, 0 for no.
-pub fn some_loop(wide: &Rows, from: Row, n: usize, k: usize) -> u8
+// "j further tails lead from s back to s taking at least one transition of each set": is there such a state among those
+// reached? 1 for yes, 0 for no.
+pub fn some_loop(wide: &Rows, from: u16, n: usize, k: usize) -> u8
     requires { ⌜ (n ≤ maxStates) × (k ≤ maxSets) ⌝ }
-    ensures { λ r. ⌜ Decides r (SomeLoop (entry (now (wide .entry))) n k from) ⌝ }
+    ensures { λ r. ⌜ Decides r (SomeLoop (ways (now (wide .entry))) n k from) ⌝ }
 {
-    let full = (2u16 << k) - 1;
+    let all = reached(wide, from, n);
+    // the relations up to k
+    let full = RELATIONS >> (8 * (SETS - k));
     let mut state = 0usize;
     while state < n {
         let t = state;
         state += 1;
-        if wide[t][t] != full {
+        if (wide[t] >> t) & full != full {
             continue;
         }
-        if reaches(wide, from, t, n) == 1 {
+        if (all >> t) % 2 == 1 {
             return 1;
         }
     }

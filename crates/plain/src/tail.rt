@@ -1,64 +1,73 @@
-// One tail: for each pair of states the ways that the tail opens between them.
-use crate::moves::PLACES;
-use crate::moves::UNLISTED;
-use crate::moves::letter_rows;
-use crate::moves::list_letter;
-use crate::rows::Row;
-use crate::rows::Rows;
-use table::limits::Cells;
-use table::limits::LETTERS;
+// One tail: the ways that it opens between any two states.
+use table::limits::SETS;
 use table::limits::STATES;
-use table::limits::Square;
-use table::lookup::relations_of;
+use table::lookup::LetterTable;
+use table::lookup::look_up;
+use word::tables::AllTables;
 ghost use mathlib.Core.Path.{_≡_};
-ghost use Prim.Native.Nat.{_<_};
-ghost use Rattle.table.specs.Limits.{maxStates};
-ghost use Rattle.plain.specs.Ways.{rowsOf};
-ghost use Rattle.plain.specs.TailWays.{TailFits, cellRow, cellWays, tailWays};
+ghost use Prim.Native.Nat.{ℕ, _^_, _<_, _≤_};
+ghost use lib.ListN.{getD, length};
+ghost use Rattle.table.specs.Limits.{maxLetters, maxStates};
+ghost use Rattle.table.specs.Lookup.{tabulate};
+ghost use Rattle.table.specs.Table.{Every};
+ghost use Rattle.plain.specs.Ways.{Changed};
+ghost use Rattle.plain.specs.Letters.{extended, rowAfter};
 
-// One letter, for one state: its transitions.
-fn cell_row(square: &Square, state: usize) -> Row
-    requires { ⌜ state < maxStates ⌝ }
-    ensures { λ r. ⌜ r ≡ cellRow (now (square .entry)) state ⌝ }
+// A row for each state that the ways come from. A row is one word, with a map of states for each relation, eight bits each: bit
+// 8·i + t stands where a way leads to t, for i = 0, and where one takes a transition of set i on it, for i from 1 to 4.
+pub type Rows = [u64; STATES];
+
+// A row with one letter more behind its ways. The transition of set i is taken at this letter, or before it.
+fn extended(table: &LetterTable, row: u64) -> u64
+    ensures { λ r. ⌜ r ≡ extended (now (table .entry)) row ⌝ }
 {
-    let mut row = [0u16; STATES];
-    let mut next = 0usize;
-    while next < STATES {
-        row[next] = relations_of(square[state][next]);
-        next += 1;
+    let states = (row % 256) as u16;
+    let mut all = 0u64;
+    let mut relation = 0usize;
+    while relation <= SETS {
+        let by = ((row >> (8 * relation)) % 256) as u16;
+        let more = look_up(table, relation, states) | look_up(table, 0, by);
+        all = all | ((more as u64) << (8 * relation));
+        relation += 1;
     }
-    row
+    all
 }
 
-// One letter, for all states.
-fn cell_rows(square: &Square) -> Rows
-    ensures { λ r. ⌜ r ≡ rowsOf (cellWays (now (square .entry))) ⌝ }
+// One letter more, for the first n rows.
+fn letter_rows(table: &LetterTable, rows: &mut Rows, n: usize)
+    requires { ⌜ (n ≤ maxStates) × (length (now rows) ≡ maxStates) ⌝ }
+    ensures { λ _. ⌜ Changed (extended (now (table .entry))) n (now (rows .entry)) (now (rows .exit)) ⌝ }
 {
-    let mut rows = [[0u16; STATES]; STATES];
+    let mut state = 0usize;
+    while state < n {
+        rows[state] = extended(table, rows[state]);
+        state += 1;
+    }
+}
+
+// The rows of no letter: each state leads to itself, and no transition is taken.
+fn own_rows() -> Rows
+    ensures { λ r. ⌜ r ≡ tabulate maxStates (λ s. 2 ^ s) ⌝ }
+{
+    let mut rows = [0u64; STATES];
     let mut state = 0usize;
     while state < STATES {
-        rows[state] = cell_row(square, state);
+        rows[state] = 1u64 << state;
         state += 1;
     }
     rows
 }
 
-// The tail, its letters taken from the last to the first.
-pub fn tail_rows(cells: &Cells, v: &[u8]) -> Rows
-    requires { ⌜ TailFits (now cells) (now v) ⌝ }
-    ensures { λ r. ⌜ r ≡ rowsOf (tailWays (now (cells .entry)) (now (v .entry))) ⌝ }
+// The rows of the tail v, from its first letter to its last, for the states below n.
+pub fn tail_rows(tables: &AllTables, v: &[u8], n: usize) -> Rows
+    requires { ⌜ (n ≤ maxStates) × Every (λ a. a < maxLetters) (now v) ⌝ }
+    ensures { λ r. ⌜ ((s : ℕ) → s < n → getD r s 0 ≡ rowAfter (now (tables .entry)) (now (v .entry)) (2 ^ s)) ⌝ }
 {
-    let mut lists = [[0u8; PLACES]; LETTERS];
-    let mut counts = [UNLISTED; LETTERS];
-    let mut at = v.len() - 1;
-    let last = cell_rows(&cells[v[at] as usize]);
-    let mut rows = last;
-    while 0 < at {
-        at -= 1;
-        let letter = v[at] as usize;
-        list_letter(&mut lists, &mut counts, cells, letter);
-        let more = letter_rows(&rows, &cells[letter], &lists[letter], counts[letter]);
-        rows = more;
+    let mut rows = own_rows();
+    let mut at = 0usize;
+    while at < v.len() {
+        letter_rows(&tables[v[at] as usize], &mut rows, n);
+        at += 1;
     }
     rows
 }

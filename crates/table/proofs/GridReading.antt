@@ -14,6 +14,7 @@ use Rattle.table.specs.Table.{Every, WellFormed, gridBytes, readRule}
 use Rattle.table.specs.Storing.{stored}
 use Rattle.table.specs.HeldRule.{HoldsRule}
 use Rattle.table.specs.Held.{pad, heldRow, heldSquare, held, narrow}
+use Rattle.table.specs.Lookup.{gridWords}
 use Rattle.table.specs.ReadCall.{readOutcome, readAnswer, gridAfter, readingOf, cellsAfter}
 use Rattle.table.specs.declared.header.Header.{Header}
 use Rattle.table.specs.declared.reader.Reading.the-variants.{Refused, Rule as Reading·Rule}
@@ -60,10 +61,11 @@ pub record RuleRead (table : List ℕ) (header : Header) (cells : Grid) : Type 0
   pub range : InRange (rule .states) (rule .letters) (rule .sets)
 
 -- the read table holds it
-pub read-holds : {table : List ℕ} {header : Header} {cells : Grid} (r : RuleRead table header cells) → HoldsRule (r .rule) header cells
-read-holds r = record {
+pub read-holds : {table : List ℕ} {header : Header} {cells : Grid} (r : RuleRead table header cells) {words : List (List ℕ)}
+    → words ≡ gridWords cells → HoldsRule (r .rule) header words
+read-holds r are = record {
   numbers = r .numbers;
-  transitions = r .holds;
+  images = are ∙ ap gridWords (r .holds);
   well = r .well;
   states = r .range .states;
   letters = r .range .letters;

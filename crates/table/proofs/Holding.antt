@@ -14,12 +14,6 @@ use Rattle.table.proofs.Logic.{bool-ext}
 use Rattle.table.proofs.BitSet.{set-ext, image-in, image-out}
 use Rattle.table.proofs.Edges.{edge-inside, edgeIn-edge}
 
--- inside a list the default plays no part
-pub any-default : {A : Type 0} (l : List A) (i : ℕ) (d e : A) → i < length l → getD l i d ≡ getD l i e
-any-default [] i d e h = absurd (omega arith)
-any-default (x ∷ l) zero d e h = refl
-any-default (x ∷ l) (suc i) d e h = any-default l i d e (omega arith)
-
 -- a view of elements to which the padding z looks like the default d
 module _ {A B : Type 0} (view : A → B) (z d : A) (same : view z ≡ view d) where
   view-behind : (l : List A) (c i : ℕ) → view (getD (l ++ replicate c z) i d) ≡ view (getD l i d)
@@ -45,7 +39,7 @@ module _ {A B : Type 0} (view : A → B) (z d : A) (same : view z ≡ view d) wh
       mapped (x ∷ l) (suc i) = mapped l i
 
 -- no transition in a blank row
-blank-row : (r : ℕ) → getD blankRow r noTransition ≡ noTransition
+pub blank-row : (r : ℕ) → getD blankRow r noTransition ≡ noTransition
 blank-row r = view-behind (λ x. x) noTransition noTransition refl [] maxStates r
 
 -- the byte that the arrays hold at a place is the grid's

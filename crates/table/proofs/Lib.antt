@@ -15,6 +15,7 @@ pub mod Ranges
 pub mod CellByte
 pub mod LowestBit
 pub mod RowReading
+pub mod RowWords
 pub mod ManyReading
 pub mod HeldReading
 pub mod RuleReading

@@ -1,87 +1,29 @@
 -- The steps by which the code makes a letter's table (specs/LookupSteps.antt) give the table of specs/Lookup.antt.
 use mathlib.Core.Path.{_≡_, refl, sym, _∙_, ap, ap₂}
-use mathlib.Core.Bool.{Bool, true, false, not, _&&_, _||_, cond, or-false}
+use mathlib.Core.Bool.{Bool, true, false, not, _&&_, cond}
 use mathlib.Core.List.{List, [], _++_}
 use Prim.Native.Nat.{ℕ, zero, suc, _+_, _*_, _-_, _/_, _%_, _^_, _<_}
 use native.Mathlib.Decide.{decLt, ℕ-discrete}
 use native.Mathlib.Nat.{pow-suc}
 use native.Mathlib.Omega.{arith}
-use borrow.Author.Tests.{eqb-true, eq-eqb, ne-eqb, lt-ltb, le-ltb}
-use lib.Bits.{bitAnd, bitOr}
-use lib.Dec.{eqb, ltb}
+use borrow.Author.Tests.{eqb-true, eq-eqb, lt-ltb}
+use lib.Bits.{bitOr}
+use lib.Dec.{eqb}
 use lib.ListN.{length, getD, set, length-append, length-set, List·getD-append}
 use lib.Pow.{pow-add, pow-mono}
 use lib.Seq.{ext-getD, getD-append-add, getD-set-same, getD-set-other}
 use Rattle.table.specs.Limits.{maxStates, noTransition}
 use Rattle.table.specs.BitSet.{member, collect, some}
-use Rattle.table.specs.Rule.{cellAt, edge, edgeIn, image}
-use Rattle.table.specs.Lookup.{relationsOf, tabulate, relation, byRelation, images, LetterTable, letterTable}
-use Rattle.table.specs.LookupSteps.{spread, rowWord, Filled}
-use Rattle.table.proofs.BitSet.{member-zero, member-suc, member-none, member-single, member-mod, union-above, member-collect, collect-ext}
+use Rattle.table.specs.Rule.{Grid, cellAt, edge, edgeIn, image}
+use Rattle.table.specs.Lookup.{relationsOf, tabulate, relation, rowWord, squareWords, gridWords, images, LetterTable, letterTable}
+use Rattle.table.specs.LookupSteps.{Filled}
+use Rattle.table.proofs.BitSet.{member-zero, member-suc, member-none, member-single, union-above, member-collect, collect-ext}
 use Rattle.table.proofs.BitSet.{some-in, some-out, image-none}
-use Rattle.table.proofs.ByRelation.{relations-ext, relations-none, relations-union}
-use Rattle.table.proofs.Holding.{any-default}
-use Rattle.table.proofs.Logic.{clash, and-in, and-both, not-out, bool-ext}
+use Rattle.table.proofs.ByRelation.{relations-ext, relations-none}
+use Rattle.table.proofs.Logic.{and-in, and-both, bool-ext}
 use Rattle.table.proofs.LookupTable.{images-union}
+use Rattle.table.proofs.RowWords.{words-at}
 use Rattle.table.proofs.Tabulate.{length-tabulate, getD-tabulate}
-
--- A ROW
-
--- values of two functions that a test below n finds the same
-same-below : (n : ℕ) (f g : ℕ → ℕ) → some n (λ x. not (eqb (f x) (g x))) ≡ false → (x : ℕ) → x < n → f x ≡ g x
-same-below n f g none x l = eqb-true (f x) (g x) (go (eqb (f x) (g x)) refl)
-  where
-    go : (b : Bool) → eqb (f x) (g x) ≡ b → eqb (f x) (g x) ≡ true
-    go true e = e
-    go false e = clash none (some-in n (λ x. not (eqb (f x) (g x))) x l (not-out _ e))
-
--- of the relations only those up to `maxSets` count
-spread-mod : (p relations : ℕ) → spread p (relations % 32) ≡ spread p relations
-unfolding spread
-spread-mod p relations = relations-ext _ _ (λ i r h l. ap (λ (b : Bool). eqb r p && b) (member-mod 5 relations i (omega arith)))
-
--- the product and the mask
-pub spread-code : (relations : ℕ) → bitAnd (relations % 32 * 270549121) 4311810305 ≡ spread 0 relations
-unfolding spread byRelation collect some member
-spread-code relations = same-below 32 (λ x. bitAnd (x * 270549121) 4311810305) (spread 0) refl (relations % 32) (omega arith)
-    ∙ spread-mod 0 relations
-
--- moved to place p
-spread-moved : (p relations : ℕ) → p < maxStates → spread 0 relations * 2 ^ p % 2 ^ 64 ≡ spread p relations
-unfolding spread byRelation collect some member
-spread-moved p relations h =
-    let x : ℕ = 32 * p + relations % 32 in
-    let place : x / 32 ≡ p = omega arith in
-    let which : x % 32 ≡ relations % 32 = omega arith in
-    rw (place, which, spread-mod 0 relations, spread-mod p relations) at
-    (same-below 256 (λ x. spread 0 (x % 32) * 2 ^ (x / 32) % 2 ^ 64) (λ x. spread (x / 32) (x % 32)) refl x (omega arith))
-
--- no next states are below 0
-pub row-none : (row : List ℕ) → 0 ≡ rowWord 0 row
-unfolding rowWord
-row-none row = sym (relations-ext _ _ (λ i r h l. ap (λ (b : Bool). b && member (relationsOf (getD row r noTransition)) i)
-    (le-ltb r 0 (omega arith))) ∙ relations-none)
-
--- the next states below w + 1 of a row from those below w
-pub row-more : (w : ℕ) (row : List ℕ) (word relations bits : ℕ) → length row ≡ maxStates → w < maxStates → word ≡ rowWord w row
-    → relations ≡ relationsOf (getD row w 0) → bits ≡ spread 0 relations → bitOr word (bits * 2 ^ w % 2 ^ 64) ≡ rowWord (w + 1) row
-unfolding rowWord spread
-row-more w row word relations bits size inside passed is spreads = ap₂ bitOr passed (ap (λ (x : ℕ). x * 2 ^ w % 2 ^ 64) spreads
-    ∙ spread-moved w relations inside) ∙ joins
-  where
-    byte : relations ≡ relationsOf (getD row w noTransition)
-    byte = is ∙ ap relationsOf (any-default row w 0 noTransition (omega arith))
-
-    go : (i r : ℕ) → Dec (r < w) → Dec (r ≡ w)
-        → ((ltb r w && member (relationsOf (getD row r noTransition)) i) || (eqb r w && member relations i))
-        ≡ (ltb r (w + 1) && member (relationsOf (getD row r noTransition)) i)
-    go i r (yes l) e = rw (lt-ltb r w l, lt-ltb r (w + 1) (omega arith), ne-eqb r w (λ z. omega arith)) (or-false _)
-    go i r (no l) (yes e) = rw (le-ltb r w (omega arith), lt-ltb r (w + 1) (omega arith), eq-eqb r w e, e)
-        (ap (λ (x : ℕ). member x i) byte)
-    go i r (no l) (no e) = rw (le-ltb r w (omega arith), le-ltb r (w + 1) (omega arith), ne-eqb r w e)
-
-    joins : bitOr (rowWord w row) (spread w relations) ≡ rowWord (w + 1) row
-    joins = relations-union _ _ ∙ relations-ext _ _ (λ i r h l. go i r (decLt r w) (ℕ-discrete r w))
 
 -- a byte's map of relations says which relations its transition stands in
 relation-byte : (square : List (List ℕ)) (i q r : ℕ)
@@ -122,14 +64,14 @@ images-none square = relations-ext _ _ (λ i r h l. ap (λ (x : ℕ). member x r
     ∙ relations-none
 
 -- of one state
-images-single : (square : List (List ℕ)) (q : ℕ) → q < maxStates → images square (2 ^ q) ≡ rowWord maxStates (getD square q [])
+images-single : (square : List (List ℕ)) (q : ℕ) → q < maxStates → images square (2 ^ q) ≡ rowWord (getD square q [])
 unfolding images rowWord
 images-single square q h = relations-ext _ _ (λ i r k l. ap (λ (x : ℕ). member x r) (image-single maxStates (relation square i) q h)
-    ∙ member-collect maxStates (relation square i q) r ∙ ap (λ (b : Bool). ltb r maxStates && b) (relation-byte square i q r))
+    ∙ member-collect maxStates (relation square i q) r ∙ rw (lt-ltb r maxStates l) (relation-byte square i q r))
 
 -- of a set with highest state q
 images-more : (square : List (List ℕ)) (q j : ℕ) → q < maxStates → j < 2 ^ q
-    → bitOr (images square j) (rowWord maxStates (getD square q [])) ≡ images square (2 ^ q + j)
+    → bitOr (images square j) (rowWord (getD square q [])) ≡ images square (2 ^ q + j)
 images-more square q j l h = ap (bitOr (images square j)) (sym (images-single square q l)) ∙ sym (images-union square j (2 ^ q))
     ∙ ap (images square) (union-above q j h)
 
@@ -151,7 +93,7 @@ filled-none square table size = record { entries = simp length-set size; low = n
 
 -- one more entry in each half: a smaller set's images joined with those of the state q, or 4 + q
 pub filled-more : (square : List (List ℕ)) (q made j : ℕ) (table : LetterTable) → Filled square (made + j) table → made ≡ 2 ^ q → q < 4
-    → j < made → (low high : ℕ) → low ≡ rowWord maxStates (getD square q []) → high ≡ rowWord maxStates (getD square (4 + q) [])
+    → j < made → (low high : ℕ) → low ≡ rowWord (getD square q []) → high ≡ rowWord (getD square (4 + q) [])
     → let first = set table (made + j) (bitOr (getD table j 0) low) in
     Filled square (made + (j + 1)) (set first (16 + (made + j)) (bitOr (getD first (16 + j) 0) high))
 filled-more square q made j table v em hq hj low high el eh =
@@ -221,3 +163,8 @@ filled-all square table v = ext-getD 0 table (lows ++ highs)
         let l : i - 16 < 16 = omega (arith, v .entries) in
         rw e (v .high (i - 16) l ∙ sym (ap (λ (n : ℕ). getD (lows ++ highs) (n + (i - 16)) 0) (sym (length-tabulate 16 low))
         ∙ getD-append-add lows highs (i - 16) 0 ∙ getD-tabulate 16 high (i - 16) 0 l))
+
+-- of the letter a of the arrays, from the words that stand beside them
+pub table-made : (cells : Grid) {words : List (List ℕ)} → words ≡ gridWords cells → (a : ℕ) {table : LetterTable}
+    → ((square : List (List ℕ)) → getD words a [] ≡ squareWords square → table ≡ letterTable square) → table ≡ letterTable (getD cells a [])
+table-made cells are a made = made (getD cells a []) (rw are (words-at cells a))

@@ -71,11 +71,10 @@ over-lowest k (suc w) (x ∷ row) rest bytes le some small =
         let odd : rest % 2 ≡ 1 = omega arith in
         rw (odd, lowest-here w rest odd, cleared-even rest, cleared-here rest odd)
 
--- `left` bits of `rest` stand, and their bytes are still to come; read over the row they give the whole row
-pub record RowSoFar (s : List ℕ) (k w : ℕ) (whole : Read (List ℕ)) (row : List ℕ) (at rest left : ℕ) : Type 0 where
+-- the bytes of the bits of `rest` are still to come; read over the row they give the whole row
+pub record RowSoFar (s : List ℕ) (k w : ℕ) (whole : Read (List ℕ)) (row : List ℕ) (at rest : ℕ) : Type 0 where
   pub size : length row ≡ w
   pub small : rest < 2 ^ w
-  pub count : left ≡ ones rest
   pub ahead : readOver k row rest (drop at s) ≡ whole
 
 -- a map that counts no standing bit is empty
@@ -84,17 +83,16 @@ ones-none = bin-ind (λ n. ones n ≡ 0 → n ≡ 0) (λ e. refl) (λ n ih e.
     let z : n / 2 ≡ 0 = ih (omega (arith, ones-step n)) in omega (arith, ones-step n))
 
 pub row-start : (s : List ℕ) (k w at standing : ℕ) → standing < 2 ^ w
-    → RowSoFar s k w (readRow k w standing (drop at s)) (replicate w noTransition) at standing (ones standing)
+    → RowSoFar s k w (readRow k w standing (drop at s)) (replicate w noTransition) at standing
 row-start s k w at standing h = record {
   size = length-replicate w noTransition;
   small = h;
-  count = refl;
   ahead = over-blank k w standing (drop at s);
 }
 
-module _ {s : List ℕ} {k w : ℕ} {whole : Read (List ℕ)} {row : List ℕ} {at rest left : ℕ}
-    (v : RowSoFar s k w whole row at rest left) where
-  module _ (h : 0 < left) where
+module _ {s : List ℕ} {k w : ℕ} {whole : Read (List ℕ)} {row : List ℕ} {at rest : ℕ}
+    (v : RowSoFar s k w whole row at rest) where
+  module _ (h : 0 < ones rest) where
     -- while bytes are to come, a bit stands
     pub row-some : 0 < rest
     unfolding ones onesIn
@@ -104,11 +102,15 @@ module _ {s : List ℕ} {k w : ℕ} {whole : Read (List ℕ)} {row : List ℕ} {
         go (yes l) = l
         go (no l) =
             let z : rest ≡ 0 = omega arith in
-            let o : left ≡ ones 0 = v .count ∙ ap ones z in
+            let o : ones rest ≡ ones 0 = ap ones z in
             absurd (omega arith)
 
+    -- and with its byte one less is to come
+    pub row-less : ones (bitAnd rest (rest - 1)) < ones rest
+    row-less = omega (arith, cleared-ones rest row-some)
+
     module _ (width : ℕ) (wide : w ≤ width) where
-      -- and it has a place in the row
+      -- it has a place in the row
       pub row-inside : trailingZeros width rest < w
       row-inside = lowest-inside width w rest wide row-some (v .small)
 
@@ -118,11 +120,10 @@ module _ {s : List ℕ} {k w : ℕ} {whole : Read (List ℕ)} {row : List ℕ} {
 
       -- its set byte is there
       pub row-take : (x at′ : ℕ) → accepted (x, drop at′ s) ≡ readByte k (drop at s)
-          → RowSoFar s k w whole (set row (trailingZeros width rest) x) at′ (bitAnd rest (rest - 1)) (left - 1)
+          → RowSoFar s k w whole (set row (trailingZeros width rest) x) at′ (bitAnd rest (rest - 1))
       row-take x at′ e = record {
         size = length-set row (trailingZeros width rest) x ∙ v .size;
         small = omega (arith, v .small, and-le-l rest (rest - 1));
-        count = omega (arith, v .count, cleared-ones rest row-some);
         ahead = rw (← e) at next;
       }
 
@@ -131,7 +132,7 @@ module _ {s : List ℕ} {k w : ℕ} {whole : Read (List ℕ)} {row : List ℕ} {
       row-refused number e = rw (← e) at next
 
   -- no bit is left
-  pub row-done : left ≤ 0 → accepted (row, drop at s) ≡ whole
+  pub row-done : ones rest ≤ 0 → accepted (row, drop at s) ≡ whole
   row-done h =
-      let z : rest ≡ 0 = ones-none rest (omega (arith, v .count)) in
+      let z : rest ≡ 0 = ones-none rest (omega arith) in
       sym (over-none k row (drop at s)) ∙ rw z at (v .ahead)

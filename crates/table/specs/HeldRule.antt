@@ -1,16 +1,18 @@
--- A read table: the arrays and the numbers of a rule, for the judges that work on them.
+-- A read table, for the judges that work on it: the numbers of a rule, and the words of its states' images.
 use mathlib.Core.Path.{_≡_}
-use Prim.Native.Nat.{_≤_}
+use mathlib.Core.List.{List}
+use Prim.Native.Nat.{ℕ, _≤_}
 use Rattle.table.specs.Limits.{maxStates, maxLetters, maxSets}
-use Rattle.table.specs.Rule.{Grid, Rule}
+use Rattle.table.specs.Rule.{Rule}
 use Rattle.table.specs.Table.{WellFormed}
 use Rattle.table.specs.Held.{held}
+use Rattle.table.specs.Lookup.{gridWords}
 use Rattle.table.specs.declared.header.Header.{Header}
 
--- the numbers and the arrays are those of the well-formed rule R, which is within the limits
-pub record HoldsRule (R : Rule) (header : Header) (cells : Grid) : Type 0 where
+-- the numbers and the words are those of the well-formed rule R, which is within the limits
+pub record HoldsRule (R : Rule) (header : Header) (words : List (List ℕ)) : Type 0 where
   pub numbers : header ≡ record { states = R .states; letters = R .letters; sets = R .sets; start = R .start }
-  pub transitions : cells ≡ held (R .grid)
+  pub images : words ≡ gridWords (held (R .grid))
   pub well : WellFormed R
   pub states : R .states ≤ maxStates
   pub letters : R .letters ≤ maxLetters

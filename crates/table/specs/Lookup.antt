@@ -1,14 +1,14 @@
 -- The look-up of a set's successors inside the code: a letter has a table of the images of all sets of states within the
 -- lowest four bits, then of those within the next four. Two entries give the image of any set.
 use mathlib.Core.Bool.{Bool, cond}
-use mathlib.Core.List.{List, [], _∷_, _++_}
+use mathlib.Core.List.{List, [], _∷_, _++_, map}
 use Prim.Native.Nat.{ℕ, zero, suc, _+_, _*_, _/_, _%_, _^_}
 use lib.Bits.{bitOr}
 use lib.Dec.{eqb}
 use lib.ListN.{getD}
 use Rattle.table.specs.Limits.{maxStates, maxSets, noTransition}
 use Rattle.table.specs.BitSet.{member, collect}
-use Rattle.table.specs.Rule.{edge, edgeIn, image}
+use Rattle.table.specs.Rule.{Grid, edge, edgeIn, image}
 
 -- f 0, f 1, .., f (n−1)
 unfoldable pub tabulate : {A : Type 0} → ℕ → (ℕ → A) → List A
@@ -27,6 +27,17 @@ relationsOf x = cond (eqb x noTransition) 0 (1 + 2 * x)
 -- a map of states for each relation, in one number: bit 8·i + r stands where r is in the map for relation i
 unfoldable pub byRelation : (ℕ → ℕ → Bool) → ℕ
 byRelation f = collect (maxStates * suc maxSets) (λ b. f (b / maxStates) (b % maxStates))
+
+-- the images of a state alone, whose row this is: by each relation
+unfoldable pub rowWord : List ℕ → ℕ
+rowWord row = byRelation (λ i r. member (relationsOf (getD row r noTransition)) i)
+
+-- those of a letter's states, and of all letters' states
+unfoldable pub squareWords : List (List ℕ) → List ℕ
+squareWords square = map rowWord square
+
+unfoldable pub gridWords : Grid → List (List ℕ)
+gridWords cells = map squareWords cells
 
 -- the images of s: under all transitions, then by those of each set
 unfoldable pub images : List (List ℕ) → ℕ → ℕ

@@ -3,19 +3,14 @@ use mathlib.Core.Path.{_≡_}
 use mathlib.Core.Bool.{_&&_}
 use mathlib.Core.List.{List}
 use Prim.Native.Nat.{ℕ, _+_, _*_, _<_}
-use lib.Dec.{eqb, ltb}
+use lib.Dec.{eqb}
 use lib.ListN.{length, getD}
-use Rattle.table.specs.Limits.{noTransition}
 use Rattle.table.specs.BitSet.{member}
-use Rattle.table.specs.Lookup.{LetterTable, relationsOf, byRelation, images}
+use Rattle.table.specs.Lookup.{LetterTable, byRelation, images}
 
 -- state p alone in the map for each member of `relations`, no state in the other maps
 unfoldable pub spread : ℕ → ℕ → ℕ
 spread p relations = byRelation (λ i r. eqb r p && member relations i)
-
--- the next states below w of a row, by each relation
-unfoldable pub rowWord : ℕ → List ℕ → ℕ
-rowWord w row = byRelation (λ i r. ltb r w && member (relationsOf (getD row r noTransition)) i)
 
 -- the first c entries of each half of a letter's table are made
 pub record Filled (square : List (List ℕ)) (c : ℕ) (table : LetterTable) : Type 0 where

@@ -1,16 +1,20 @@
-// Reading the cells of a table (questions 4 and 5) into arrays of arrays.
+// Reading the cells of a table (questions 4 and 5) into arrays of arrays, and each state's images into a word.
 use crate::cursor::Cursor;
 use crate::cursor::Next;
 use crate::limits::Cells;
 use crate::limits::Row;
 use crate::limits::Square;
+use crate::limits::SquareWords;
+use crate::limits::Words;
 use crate::source::byte_at;
 ghost use mathlib.Core.Path.{_≡_};
 ghost use Prim.Native.Nat.{_^_, _<_, _≤_};
 ghost use lib.ListN.{drop};
-ghost use Rattle.table.specs.Limits.{maxLetters, maxStates};
+ghost use Rattle.table.specs.Limits.{maxLetters, maxSets, maxStates};
 ghost use Rattle.table.specs.Table.{readByte, readCell, readRow};
 ghost use Rattle.table.specs.Held.{blankCells, blankRow, blankSquare};
+ghost use Rattle.table.specs.Lookup.{gridWords, rowWord, squareWords};
+ghost use Rattle.table.specs.LookupSteps.{spread};
 ghost use Rattle.table.specs.Cursor.{byteRead, progress, readHeld, readSquare};
 
 // A cell byte with the cursor behind it, or the number of the question that it fails.
@@ -33,13 +37,13 @@ fn widen(x: u8) -> u16
 
 // Questions 4 and 5 at one cell byte, in which the bits below `width` may stand.
 fn read_byte(s: &[u8], c: Cursor, width: usize) -> CellByte
-    requires { ⌜ width < 16 ⌝ }
+    requires { ⌜ width ≤ maxStates ⌝ }
     ensures { λ r. ⌜ byteRead (now (s .entry)) r ≡ readByte width (drop (c .at) (now (s .entry))) ⌝ }
 {
     match byte_at(s, c.at) {
         Next::End => CellByte::Refused(4),
         Next::Byte(x, next) => {
-            if widen(x) < 1u16 << width {
+            if widen(x) <= 255u16 >> (8 - width) {
                 CellByte::Byte(x, next)
             } else {
                 CellByte::Refused(5)
@@ -48,51 +52,79 @@ fn read_byte(s: &[u8], c: Cursor, width: usize) -> CellByte
     }
 }
 
-// The set bytes of a cell, "as many as the map has standing bits, lowest bit first", into a blank row.
-fn read_row(s: &[u8], from: Cursor, standing: u16, k: usize, row: &mut Row) -> Progress
-    requires { ⌜ ((standing < 2 ^ maxStates) × (k < 16)) × (now row ≡ blankRow) ⌝ }
-    ensures { λ r. ⌜ progress (now (s .entry)) r (now (row .exit)) ≡ readRow k maxStates standing (drop (from .at) (now (s .entry))) ⌝ }
+// The relations of a transition spread over a word: bit i to bit 8·i. The factor has the bits 0, 7, 14, 21 and 28; of the product
+// the bits 0, 8, 16, 24 and 32 are kept.
+fn spread(relations: u16) -> u64
+    requires { ⌜ relations < 32 ⌝ }
+    ensures { λ r. ⌜ r ≡ spread 0 relations ⌝ }
+{
+    (relations as u64 * 270549121) & 4311810305
+}
+
+// The set bytes of a cell, "as many as the map has standing bits, lowest bit first", into a blank row, and its word.
+fn read_row(
+    s: &[u8],
+    from: Cursor,
+    standing: u16,
+    k: usize,
+    row: &mut Row,
+    word: &mut u64,
+) -> Progress
+    requires { ⌜ ((standing < 2 ^ maxStates) × (k ≤ maxSets)) × (now row ≡ blankRow) ⌝ }
+    ensures { λ r. ⌜ (progress (now (s .entry)) r (now (row .exit)) ≡ readRow k maxStates standing (drop (from .at) (now (s .entry))))
+        × (now (word .exit) ≡ rowWord (now (row .exit))) ⌝ }
 {
     let mut at = from;
     let mut rest = standing;
-    let mut left = u16::count_ones(standing);
-    while 0 < left {
+    let mut made = 0u64;
+    while 0 < u16::count_ones(rest) {
         let r = u16::trailing_zeros(rest) as usize;
         match read_byte(s, at, k) {
             CellByte::Refused(number) => {
+                *word = made;
                 return Progress::Refused(number);
             }
             CellByte::Byte(sets, next) => {
                 row[r] = sets;
+                made = made | (spread(1 + 2 * widen(sets)) << r);
                 at = next;
                 rest = rest & (rest - 1);
-                left -= 1;
             }
         }
     }
+    *word = made;
     Progress::At(at)
 }
 
 // A cell: its map byte, in which bits below n may stand, then its set bytes, into a blank row.
-fn read_cell(s: &[u8], from: Cursor, n: usize, k: usize, row: &mut Row) -> Progress
-    requires { ⌜ ((n < 16) × (k < 16)) × (now row ≡ blankRow) ⌝ }
-    ensures { λ r. ⌜ progress (now (s .entry)) r (now (row .exit)) ≡ readCell n k maxStates (drop (from .at) (now (s .entry))) ⌝ }
+fn read_cell(s: &[u8], from: Cursor, n: usize, k: usize, row: &mut Row, word: &mut u64) -> Progress
+    requires { ⌜ ((n ≤ maxStates) × (k ≤ maxSets)) × ((now row ≡ blankRow) × (now word ≡ rowWord (now row))) ⌝ }
+    ensures { λ r. ⌜ (progress (now (s .entry)) r (now (row .exit)) ≡ readCell n k maxStates (drop (from .at) (now (s .entry))))
+        × (now (word .exit) ≡ rowWord (now (row .exit))) ⌝ }
 {
     match read_byte(s, from, n) {
         CellByte::Refused(number) => Progress::Refused(number),
-        CellByte::Byte(map, next) => read_row(s, next, map as u16, k, row),
+        CellByte::Byte(map, next) => read_row(s, next, map as u16, k, row, word),
     }
 }
 
 // The n cells of one letter, states 0 to n−1.
-fn read_letter(s: &[u8], from: Cursor, n: usize, k: usize, square: &mut Square) -> Progress
-    requires { ⌜ ((n ≤ maxStates) × (k < 16)) × (now square ≡ blankSquare) ⌝ }
-    ensures { λ r. ⌜ progress (now (s .entry)) r (now (square .exit)) ≡ readSquare n k (drop (from .at) (now (s .entry))) ⌝ }
+fn read_letter(
+    s: &[u8],
+    from: Cursor,
+    n: usize,
+    k: usize,
+    square: &mut Square,
+    words: &mut SquareWords,
+) -> Progress
+    requires { ⌜ ((n ≤ maxStates) × (k ≤ maxSets)) × ((now square ≡ blankSquare) × (now words ≡ squareWords (now square))) ⌝ }
+    ensures { λ r. ⌜ (progress (now (s .entry)) r (now (square .exit)) ≡ readSquare n k (drop (from .at) (now (s .entry))))
+        × (now (words .exit) ≡ squareWords (now (square .exit))) ⌝ }
 {
     let mut at = from;
     let mut state = 0usize;
     while state < n {
-        match read_cell(s, at, n, k, &mut square[state]) {
+        match read_cell(s, at, n, k, &mut square[state], &mut words[state]) {
             Progress::Refused(number) => {
                 return Progress::Refused(number);
             }
@@ -113,14 +145,16 @@ pub fn read_cells(
     m: usize,
     k: usize,
     cells: &mut Cells,
+    words: &mut Words,
 ) -> Progress
-    requires { ⌜ ((n ≤ maxStates) × (m ≤ maxLetters)) × ((k < 16) × (now cells ≡ blankCells)) ⌝ }
-    ensures { λ r. ⌜ progress (now (s .entry)) r (now (cells .exit)) ≡ readHeld n m k (drop (from .at) (now (s .entry))) ⌝ }
+    requires { ⌜ ((n ≤ maxStates) × (m ≤ maxLetters)) × ((k ≤ maxSets) × ((now cells ≡ blankCells) × (now words ≡ gridWords (now cells)))) ⌝ }
+    ensures { λ r. ⌜ (progress (now (s .entry)) r (now (cells .exit)) ≡ readHeld n m k (drop (from .at) (now (s .entry))))
+        × (now (words .exit) ≡ gridWords (now (cells .exit))) ⌝ }
 {
     let mut at = from;
     let mut letter = 0usize;
     while letter < m {
-        match read_letter(s, at, n, k, &mut cells[letter]) {
+        match read_letter(s, at, n, k, &mut cells[letter], &mut words[letter]) {
             Progress::Refused(number) => {
                 return Progress::Refused(number);
             }

@@ -14,3 +14,9 @@ pub type Row = [u8; STATES];
 pub type Square = [Row; STATES];
 
 pub type Cells = [Square; LETTERS];
+
+// The images of each state alone, by letter and state: one word each, made while the state's cell is read. Bit 8·i + r stands where
+// the state has a transition to r under relation i (0: all transitions, i: those of set i).
+pub type SquareWords = [u64; STATES];
+
+pub type Words = [SquareWords; LETTERS];

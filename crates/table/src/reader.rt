@@ -9,12 +9,14 @@ use crate::limits::Cells;
 use crate::limits::LETTERS;
 use crate::limits::NO_TRANSITION;
 use crate::limits::STATES;
+use crate::limits::Words;
 ghost use mathlib.Core.Path.{_≡_};
-ghost use Prim.Native.Nat.{_<_, _≤_};
+ghost use Prim.Native.Nat.{_≤_};
 ghost use lib.ListN.{drop};
-ghost use Rattle.table.specs.Limits.{maxLetters, maxStates};
+ghost use Rattle.table.specs.Limits.{maxLetters, maxSets, maxStates};
 ghost use Rattle.table.specs.Outcome.{refused};
 ghost use Rattle.table.specs.Held.{blankCells};
+ghost use Rattle.table.specs.Lookup.{gridWords};
 ghost use Rattle.table.specs.Table.{readBody, readRule};
 ghost use Rattle.table.specs.ReadCall.{cellsAfter, gridAfter, readAnswer, readOutcome, readingOf};
 
@@ -34,20 +36,22 @@ pub struct ReadAnswer {
     pub start: u16,
 }
 
-// No transition anywhere.
-fn blank(cells: &mut Cells)
-    ensures { λ _. ⌜ now (cells .exit) ≡ blankCells ⌝ }
+// No transition anywhere, and no image.
+fn blank(cells: &mut Cells, words: &mut Words)
+    ensures { λ _. ⌜ (now (cells .exit) ≡ blankCells) × (now (words .exit) ≡ gridWords (now (cells .exit))) ⌝ }
 {
     *cells = [[[NO_TRANSITION; STATES]; STATES]; LETTERS];
+    *words = [[0u64; STATES]; LETTERS];
 }
 
 // Questions 4, 5 and 6: the cells behind the header, and the end of the table.
-fn read_body(table: &[u8], header: Header, cells: &mut Cells) -> Reading
-    requires { ⌜ (header .states ≤ maxStates) × ((header .letters ≤ maxLetters) × (header .sets < 16)) ⌝ }
+fn read_body(table: &[u8], header: Header, cells: &mut Cells, words: &mut Words) -> Reading
+    requires { ⌜ (header .states ≤ maxStates) × ((header .letters ≤ maxLetters) × (header .sets ≤ maxSets)) ⌝ }
     ensures { λ r. ⌜ (r ≡ readingOf (readBody (header .states) (header .letters) (header .sets) (header .start) (drop 4 (now (table .entry)))))
-        × (now (cells .exit) ≡ cellsAfter (readBody (header .states) (header .letters) (header .sets) (header .start) (drop 4 (now (table .entry))))) ⌝ }
+        × (now (cells .exit) ≡ cellsAfter (readBody (header .states) (header .letters) (header .sets) (header .start) (drop 4 (now (table .entry)))))
+        × (now (words .exit) ≡ gridWords (now (cells .exit))) ⌝ }
 {
-    blank(cells);
+    blank(cells, words);
     match read_cells(
         table,
         Cursor { at: 4 },
@@ -55,14 +59,15 @@ fn read_body(table: &[u8], header: Header, cells: &mut Cells) -> Reading
         header.letters,
         header.sets,
         cells,
+        words,
     ) {
         Progress::Refused(number) => {
-            blank(cells);
+            blank(cells, words);
             Reading::Refused(number)
         }
         Progress::At(end) => {
             if end.at < table.len() {
-                blank(cells);
+                blank(cells, words);
                 return Reading::Refused(6);
             }
             Reading::Rule(header)
@@ -70,12 +75,13 @@ fn read_body(table: &[u8], header: Header, cells: &mut Cells) -> Reading
     }
 }
 
-// Questions 1 to 6. On yes the arrays hold the rule's grid; on no they are blank.
-pub fn read_rule(table: &[u8], cells: &mut Cells) -> Reading
-    ensures { λ r. ⌜ (r ≡ readingOf (readRule (now (table .entry)))) × (now (cells .exit) ≡ cellsAfter (readRule (now (table .entry)))) ⌝ }
+// Questions 1 to 6. On yes the arrays hold the rule's grid; on no they are blank. The words are those of the grid.
+pub fn read_rule(table: &[u8], cells: &mut Cells, words: &mut Words) -> Reading
+    ensures { λ r. ⌜ (r ≡ readingOf (readRule (now (table .entry)))) × (now (cells .exit) ≡ cellsAfter (readRule (now (table .entry))))
+        × (now (words .exit) ≡ gridWords (now (cells .exit))) ⌝ }
 {
     if table.len() < 4 {
-        blank(cells);
+        blank(cells, words);
         return Reading::Refused(1);
     }
     let header = Header {
@@ -86,10 +92,10 @@ pub fn read_rule(table: &[u8], cells: &mut Cells) -> Reading
     };
     let number = header_number(header.states, header.letters, header.sets, header.start);
     if number != 0 {
-        blank(cells);
+        blank(cells, words);
         return Reading::Refused(number);
     }
-    read_body(table, header, cells)
+    read_body(table, header, cells, words)
 }
 
 // A refusal: its number and zero for all else.
@@ -111,7 +117,8 @@ pub fn read(table: &[u8], grid: &mut [u8]) -> ReadAnswer
         × (now (grid .exit) ≡ gridAfter (readOutcome (now (table .entry)) (now (grid .entry))) (now (grid .entry))) ⌝ }
 {
     let mut cells = [[[NO_TRANSITION; STATES]; STATES]; LETTERS];
-    match read_rule(table, &mut cells) {
+    let mut words = [[0u64; STATES]; LETTERS];
+    match read_rule(table, &mut cells, &mut words) {
         Reading::Refused(number) => refusal(number),
         Reading::Rule(header) => {
             let n = header.states;

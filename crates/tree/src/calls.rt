@@ -48,7 +48,8 @@ pub fn start(table: &[u8], buffer: &mut [u8]) -> StartAnswer
         × (now (buffer .exit) ≡ startAfter (startOutcome (now (table .entry)) (now (buffer .entry))) (now (buffer .entry))) ⌝ }
 {
     let mut cells = [[[NO_TRANSITION; STATES]; STATES]; LETTERS];
-    match read_rule(table, &mut cells) {
+    let mut words = [[0u64; STATES]; LETTERS];
+    match read_rule(table, &mut cells, &mut words) {
         Reading::Refused(number) => start_refusal(number),
         Reading::Rule(header) => {
             if buffer.len() < Tree::RECORD {
@@ -83,7 +84,8 @@ pub fn step(table: &[u8], letter: u8, bytes: &[u8], buffer: &mut [u8]) -> StepAn
         (now (buffer .entry))) ⌝ }
 {
     let mut cells = [[[NO_TRANSITION; STATES]; STATES]; LETTERS];
-    match read_rule(table, &mut cells) {
+    let mut words = [[0u64; STATES]; LETTERS];
+    match read_rule(table, &mut cells, &mut words) {
         Reading::Refused(number) => step_refusal(number),
         Reading::Rule(header) => {
             let a = letter as usize;
@@ -100,7 +102,7 @@ pub fn step(table: &[u8], letter: u8, bytes: &[u8], buffer: &mut [u8]) -> StepAn
                 return step_refusal(10);
             }
             let mut letter_table = [0u64; ENTRIES];
-            fill_table(&cells[a], &mut letter_table);
+            fill_table(&words[a], &mut letter_table);
             let mut sides = [[0u64; PLACES]; 2];
             let rows = tree.rows;
             sides[0] = rows;

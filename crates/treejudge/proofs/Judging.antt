@@ -7,14 +7,13 @@ use native.Mathlib.Omega.{arith}
 use native.Mathlib.Decide.{decLt}
 use lib.ListN.{length, getD, take, length-take}
 use Rattle.table.specs.BitSet.{member}
-use Rattle.table.specs.Limits.{maxStates, maxLetters}
-use Rattle.table.specs.Rule.{Grid, Rule}
+use Rattle.table.specs.Limits.{maxStates}
+use Rattle.table.specs.Rule.{Rule}
 use Rattle.table.specs.Table.{Every}
 use Rattle.table.specs.Storing.{stored}
 use Rattle.table.specs.HeldRule.{HoldsRule}
 use Rattle.table.specs.declared.header.Header.{Header}
 use Rattle.table.proofs.BitSet.{some-member}
-use Rattle.table.proofs.Every.{every-weaker}
 use Rattle.table.proofs.Logic.{clash}
 use Rattle.word.specs.Walk.{rounds, lettersLeft}
 use Rattle.history.specs.Forest.{size, names}
@@ -27,7 +26,7 @@ use Rattle.tree.specs.RecordRows.{startRows}
 use Rattle.tree.specs.PackedRows.{rowsIn}
 use Rattle.tree.proofs.StartCall.{start-rows-are}
 use Rattle.treejudge.specs.JudgeCall.{noName, treeAnswer, namesAfter, Judged}
-use Rattle.word.specs.WalkTables.{Tables, occurring, TablesOf}
+use Rattle.word.specs.WalkTables.{Tables, Tabled, TablesFor}
 use Rattle.treejudge.specs.Reading.{WithinLimits, Reads, ReadsTo}
 use Rattle.treejudge.specs.Cycles.{AtRound}
 use Rattle.treejudge.specs.Repeats.{RepeatOf}
@@ -36,7 +35,6 @@ use Rattle.treejudge.specs.declared.letters.CountedRows.{CountedRows}
 use Rattle.treejudge.specs.declared.repeat.Repeat.{Repeat}
 use Rattle.treejudge.specs.declared.name.Name.{Name}
 use Rattle.treejudge.specs.declared.judge.TreeAnswer.{TreeAnswer}
-use Rattle.word.proofs.WalkTables.{lead-tabled, tail-tabled}
 
 -- the letters still to be read, from the first of u or of v on
 lead-left : (u v w : List ℕ) → w ≡ lettersLeft false u v 0 → u ≡ w
@@ -52,7 +50,7 @@ pub judged-tail : (R : Rule) (u v w names : List ℕ) (answer : TreeAnswer) (aft
     → Judged R u w names answer after → Judged R u v names answer after
 judged-tail R u v w names answer after left J = rw (tail-left u v w left) J
 
-module _ (R : Rule) (header : Header) (cells : Grid) (h : HoldsRule R header cells) where
+module _ (R : Rule) (header : Header) (words : List (List ℕ)) (h : HoldsRule R header words) where
   -- the rule is within the limits
   within-limits : WithinLimits R (header .sets)
   within-limits = record {
@@ -68,23 +66,20 @@ module _ (R : Rule) (header : Header) (cells : Grid) (h : HoldsRule R header cel
   pub sets-small : header .sets < 256
   sets-small = rw (h .numbers) (omega (arith, h .sets))
 
-  -- and its letters in a map
-  pub letters-small : (w : List ℕ) → Every (λ a. a < header .letters) w → Every (λ a. a < maxLetters) w
-  letters-small w below = every-weaker _ _ w (λ a less. omega (arith, ap (λ (x : Header). x .letters) (h .numbers), h .letters)) below
-
   module _ (rows : List ℕ) (made : rowsIn rows ≡ startRows (header .start)) (u v w : List ℕ) (left : w ≡ lettersLeft false u v 0)
-      (lead : Every (λ a. a < header .letters) u) (lead-letters letters : ℕ) (lead-is : lead-letters ≡ occurring 0 u)
-      (letters-are : letters ≡ occurring lead-letters v) (tables : Tables) (of : TablesOf letters cells tables) where
-    -- the tables are those of the walk's letters
-    walk-tables : TablesOf (occurring (occurring 0 u) v) cells tables
-    walk-tables = rw (letters-are, lead-is) at of
+      (lead : Every (λ a. a < header .letters) u) (tail : Every (λ a. a < header .letters) v) (tables : Tables)
+      (for : TablesFor words u v tables) where
+    -- the letters of the walk have their tables
+    tabled : Every (Tabled R tables) u × Every (Tabled R tables) v
+    unfolding TablesFor
+    tabled = for R (h .images) (rw (h .numbers) at lead) (rw (h .numbers) at tail)
 
     -- u is read from the starting tree
     pub lead-reads : (x : CountedRows) → x ≡ record { rows = rows; count = 1 } → Reads R (startTree R) tables (header .sets) w x
     unfolding startTree size
     lead-reads x is = rw is (record {
       holds = within-limits;
-      tabled = rw (lead-left u v w left) at (lead-tabled R cells (h .transitions) tables u v walk-tables (rw (h .numbers) at lead));
+      tabled = rw (lead-left u v w left) at (tabled .0);
       tree = record {
         fits = start-is-tree R (h .well) (h .some-set);
         nodes = refl;
@@ -94,11 +89,11 @@ module _ (R : Rule) (header : Header) (cells : Grid) (h : HoldsRule R header cel
 
     -- and leads to t(0)
     pub first-round : (first : CountedRows) → ReadsTo tables (header .sets) w (record { rows = rows; count = 1 }) first
-        → (v′ : List ℕ) → v′ ≡ lettersLeft true u v 0 → Every (λ a. a < header .letters) v → AtRound R u v′ tables (header .sets) 0 first
+        → (v′ : List ℕ) → v′ ≡ lettersLeft true u v 0 → AtRound R u v′ tables (header .sets) 0 first
     unfolding ReadsTo roundTree rounds
-    first-round first to v′ left′ tail = record {
+    first-round first to v′ left′ = record {
       holds = within-limits;
-      tabled = rw (tail-left u v v′ left′) at (tail-tabled R cells (h .transitions) tables u v walk-tables (rw (h .numbers) at tail));
+      tabled = rw (tail-left u v v′ left′) at (tabled .1);
       tree = rw (append-nil u, lead-left u v w left) (to R (startTree R) (lead-reads _ refl));
     }
 

@@ -9,16 +9,15 @@ use crate::name::node_name;
 use crate::name::store_name;
 use crate::repeat::find_repeat;
 use table::header::Header;
-use table::limits::Cells;
 use table::limits::LETTERS;
 use table::limits::NO_TRANSITION;
 use table::limits::STATES;
+use table::limits::Words;
 use table::lookup::ENTRIES;
 use table::reader::Reading;
 use table::reader::read_rule;
 use tree::record::Tree;
-use word::tables::fill_tables;
-use word::tables::occurring;
+use word::tables::walk_tables;
 use word::walk::letters_left;
 use word::walk::walk_number;
 ghost use mathlib.Core.Path.{_≡_};
@@ -43,22 +42,19 @@ const NO_NAME: u8 = 255;
 
 // The judge on a read table, for any walk over its letters. Its answer is right for every rule that the table holds.
 fn judge_walk<'a>(
-    cells: &Cells,
+    words: &Words,
     header: Header,
     u: &'a [u8],
     v: &'a [u8],
     names: &mut [u8],
 ) -> TreeAnswer
-    requires { ⌜ Judgeable header (now cells) (now u) (now v) nameRoom (now names) ⌝ }
-    ensures { λ r. ⌜ ((R : Rule) → HoldsRule R header (now (cells .entry))
+    requires { ⌜ Judgeable header (now words) (now u) (now v) nameRoom (now names) ⌝ }
+    ensures { λ r. ⌜ ((R : Rule) → HoldsRule R header (now (words .entry))
         → Judged R (now (u .entry)) (now (v .entry)) (now (names .entry)) r (now (names .exit))) ⌝ }
 {
     let k = header.sets as u8;
-    // tables for the letters that occur in the walk, and for no others
-    let lead_letters = occurring(u, 0);
-    let letters = occurring(v, lead_letters);
     let mut tables = [[0u64; ENTRIES]; LETTERS];
-    fill_tables(cells, letters, &mut tables);
+    walk_tables(words, u, v, &mut tables);
     let root = Tree::start(header.start);
     let rows = root.rows;
     let start = CountedRows {
@@ -115,7 +111,8 @@ pub fn tree_judge<'a>(table: &[u8], u: &'a [u8], v: &'a [u8], names: &mut [u8]) 
         (now (u .entry)) (now (v .entry)) (now (names .entry)) r (now (names .exit)) ⌝ }
 {
     let mut cells = [[[NO_TRANSITION; STATES]; STATES]; LETTERS];
-    match read_rule(table, &mut cells) {
+    let mut words = [[0u64; STATES]; LETTERS];
+    match read_rule(table, &mut cells, &mut words) {
         Reading::Refused(number) => tree_refusal(number),
         Reading::Rule(header) => {
             let number = walk_number(header.letters, u, v);
@@ -125,7 +122,7 @@ pub fn tree_judge<'a>(table: &[u8], u: &'a [u8], v: &'a [u8], names: &mut [u8]) 
             if names.len() < Tree::NAME {
                 return tree_refusal(10);
             }
-            judge_walk(&cells, header, u, v, names)
+            judge_walk(&words, header, u, v, names)
         }
     }
 }

@@ -8,6 +8,7 @@ use borrow.Author.Tests.{le-leb, lt-leb, leb-true}
 use lib.Dec.{leb}
 use lib.ListN.{length}
 use Rattle.table.specs.Outcome.{Outcome, refused, accepted, ask, _then_, numberOf}
+use Rattle.table.specs.Lookup.{gridWords}
 use Rattle.table.specs.Rule.{Grid, Rule}
 use Rattle.table.specs.Table.{WellFormed, readRule}
 use Rattle.table.specs.declared.header.Header.{Header}
@@ -60,10 +61,11 @@ module _ (needed : ℕ) (table u v buffer : List ℕ) where
       all-yes room = behind ∙ walk-next (header .letters) u v next (sym e ∙ none) ∙ rw (le-leb needed (length buffer) room)
 
       -- then the read table can be judged
-      pub read-judgeable : needed ≤ length buffer → Judgeable header cells u v needed buffer
-      read-judgeable room =
+      pub read-judgeable : needed ≤ length buffer → {words : List (List ℕ)} → words ≡ gridWords cells
+          → Judgeable header words u v needed buffer
+      read-judgeable room are =
           let (_, _, _, below, below′) = walk-accepted (header .letters) u v (sym e ∙ none) in
-          record { rule = r .rule; holds = read-holds r; lead = below; tail = below′; room = room }
+          record { rule = r .rule; holds = read-holds r are; lead = below; tail = below′; room = room }
 
   -- AN ACCEPTED CALL
 

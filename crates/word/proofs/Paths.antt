@@ -3,15 +3,14 @@
 use mathlib.Core.Path.{_≡_, refl, sym, ap, _∙_, subst}
 use mathlib.Core.Bool.{true}
 use mathlib.Core.List.{List, [], _∷_, _++_, append-assoc, append-nil}
-use Prim.Native.Nat.{ℕ, zero, suc, _+_, _*_, _^_, _≤_, _<_}
+use Prim.Native.Nat.{ℕ, zero, suc, _+_, _*_, _≤_, _<_}
 use native.Mathlib.Omega.{arith}
 use native.Mathlib.Nat.{zero-add, zero-mul, suc-add}
-use lib.Bits.{bitOr, or-zero-r, or-self, or-lt}
-use lib.Pow.{pow-pos}
+use lib.Bits.{bitOr, or-zero-r, or-self}
 use Rattle.table.specs.Rule.{Rule, edge, cellAt}
 use Rattle.table.specs.Table.{WellFormed}
 use Rattle.table.proofs.BitSet.{union-assoc}
-use Rattle.table.proofs.Edges.{edge-inside, edge-byte-lt}
+use Rattle.table.proofs.Edges.{edge-inside}
 use Rattle.word.specs.Walk.{rounds}
 use Rattle.word.specs.Loop.{Leads}
 
@@ -79,12 +78,6 @@ module _ (R : Rule) where
   pub leads-inside : WellFormed R → (w : List ℕ) (s c t : ℕ) → Leads R w s c t → s < R .states → t < R .states
   leads-inside wf [] s c t (e, z) h = omega arith
   leads-inside wf (a ∷ w) s c t (r, d, e, p, z) h = leads-inside wf w r d t p (edge-inside R wf a s r e .2)
-
-  -- and takes only sets of the rule
-  pub leads-sets-lt : WellFormed R → (w : List ℕ) (s c t : ℕ) → Leads R w s c t → c < 2 ^ R .sets
-  leads-sets-lt wf [] s c t (e, z) = rw z (pow-pos (R .sets))
-  leads-sets-lt wf (a ∷ w) s c t (r, d, e, p, z) =
-      rw z (or-lt (R .sets) (cellAt (R .grid) a s r) d (edge-byte-lt R wf a s r e) (leads-sets-lt wf w r d t p))
 
   -- LOOPS
 

@@ -2,24 +2,29 @@
 use mathlib.Core.Path.{_≡_, refl, sym, _∙_, ap}
 use mathlib.Core.Bool.{true, false}
 use mathlib.Core.List.{List, [], _∷_, _++_}
-use Prim.Native.Nat.{ℕ, _+_, _^_, _≤_, _<_}
+use Prim.Native.Nat.{ℕ, _+_, _-_, _^_, _≤_, _<_}
 use native.Mathlib.Decide.{ℕ-discrete}
 use native.Mathlib.Numerals.{add-one}
 use native.Mathlib.Omega.{arith}
 use borrow.Author.Tests.{eq-eqb}
-use lib.Bits.{bitOr}
+use lib.Bits.{bitAnd, bitOr}
+use lib.Count.{trailingZeros}
 use lib.ListN.{length, getD, take, set, length-set}
 use lib.Seq.{take-suc, take-all, getD-set-same, getD-set-other}
 use Rattle.table.specs.Limits.{maxLetters}
 use Rattle.table.specs.BitSet.{member}
 use Rattle.table.specs.Rule.{Grid, Rule}
 use Rattle.table.specs.Table.{Every}
+use Rattle.table.specs.HeldRule.{HoldsRule}
+use Rattle.table.specs.declared.header.Header.{Header}
 use Rattle.table.specs.Held.{held}
-use Rattle.table.specs.Lookup.{LetterTable, letterTable}
-use Rattle.table.proofs.BitSet.{member-union, member-single, member-lt}
+use Rattle.table.specs.Lookup.{LetterTable, squareWords, gridWords, letterTable}
+use Rattle.table.proofs.BitSet.{member-none, member-union, member-single}
 use Rattle.table.proofs.Every.{every-weaker, every-both}
-use Rattle.table.proofs.Logic.{clash, or-l, or-r}
-use Rattle.word.specs.WalkTables.{Tables, occurring, TablesOf, Tabled}
+use Rattle.table.proofs.Logic.{clash, never, or-l, or-r}
+use Rattle.table.proofs.LowestBit.{lowest-inside, cleared-keeps}
+use Rattle.table.proofs.LookupSteps.{table-made}
+use Rattle.word.specs.WalkTables.{Tables, occurring, TablesOf, Tabled, TablesFor}
 
 -- THE LETTERS THAT OCCUR
 
@@ -69,56 +74,65 @@ module _ (others : ℕ) (w : List ℕ) (at letters : ℕ) (v : OccurringUpTo oth
 
 -- THEIR TABLES
 
--- an array with the table of each member of a map that is below `letter`
-pub record TablesUpTo (letters : ℕ) (cells : Grid) (letter : ℕ) (tables : Tables) : Type 0 where
-  pub upto : letter ≤ maxLetters
+-- an array with the table of each letter of the map that is no longer in `rest`
+pub record TablesBut (letters rest : ℕ) (words : List (List ℕ)) (tables : Tables) : Type 0 where
   pub places : length tables ≡ maxLetters
-  pub made : (a : ℕ) → a < letter → member letters a ≡ true → getD tables a [] ≡ letterTable (getD cells a [])
+  pub made : (cells : Grid) → words ≡ gridWords cells → (a : ℕ) → member letters a ≡ true → member rest a ≡ false
+      → getD tables a [] ≡ letterTable (getD cells a [])
 
 -- at the start
-pub tables-none : (letters : ℕ) (cells : Grid) (tables : Tables) → length tables ≡ maxLetters
-    → TablesUpTo letters cells 0 tables
-tables-none letters cells tables h = record { upto = omega arith; places = h; made = λ a l. absurd (omega arith) }
+pub tables-none : (letters : ℕ) (words : List (List ℕ)) (tables : Tables) → length tables ≡ maxLetters
+    → TablesBut letters letters words tables
+tables-none letters words tables h = record { places = h; made = λ cells are a m out. clash out m }
 
-module _ (letters : ℕ) (cells : Grid) (letter : ℕ) (tables : Tables) (v : TablesUpTo letters cells letter tables) where
-  -- one letter more, with its table
-  pub tables-more : letter < maxLetters → (made : LetterTable) → made ≡ letterTable (getD cells letter [])
-      → TablesUpTo letters cells (letter + 1) (set tables letter made)
-  tables-more h made is = record {
-    upto = omega arith;
-    places = length-set tables letter made ∙ v .places;
-    made = λ a l m. go a l m (ℕ-discrete a letter);
-  }
-    where
-      go : (a : ℕ) → a < letter + 1 → member letters a ≡ true → Dec (a ≡ letter) → getD (set tables letter made) a [] ≡ letterTable (getD cells a [])
-      go a l m (yes e) = rw e (getD-set-same tables letter made [] (omega (arith, v .places)) ∙ is)
-      go a l m (no e) = getD-set-other tables letter a made [] e ∙ v .made a (omega arith) m
+module _ (letters rest : ℕ) (words : List (List ℕ)) (tables : Tables) (v : TablesBut letters rest words tables) where
+  module _ (small : rest < 2 ^ maxLetters) (some : rest ≡ 0 → ⊥) where
+    abbrev letter : ℕ
+    letter = trailingZeros maxLetters rest
 
-  -- or no member of the map
-  pub tables-skip : letter < maxLetters → member letters letter ≡ false → TablesUpTo letters cells (letter + 1) tables
-  tables-skip h out = record { upto = omega arith; places = v .places; made = λ a l m. go a l m (ℕ-discrete a letter) }
-    where
-      go : (a : ℕ) → a < letter + 1 → member letters a ≡ true → Dec (a ≡ letter) → getD tables a [] ≡ letterTable (getD cells a [])
-      go a l m (yes e) = clash out (rw e at m)
-      go a l m (no e) = v .made a (omega arith) m
+    -- the next letter of the map
+    pub letter-inside : letter < maxLetters
+    letter-inside = lowest-inside maxLetters maxLetters rest (omega arith) (omega arith) small
+
+    -- with its table
+    pub tables-more : (made : LetterTable)
+        → ((square : List (List ℕ)) → getD words letter [] ≡ squareWords square → made ≡ letterTable square)
+        → TablesBut letters (bitAnd rest (rest - 1)) words (set tables letter made)
+    tables-more made is = record {
+      places = length-set tables letter made ∙ v .places;
+      made = λ cells are a m out. go cells are a m out (ℕ-discrete a letter);
+    }
+      where
+        go : (cells : Grid) → words ≡ gridWords cells → (a : ℕ) → member letters a ≡ true → member (bitAnd rest (rest - 1)) a ≡ false
+            → Dec (a ≡ letter) → getD (set tables letter made) a [] ≡ letterTable (getD cells a [])
+        go cells are a m out (yes e) = rw e (getD-set-same tables letter made [] (omega (arith, v .places, letter-inside))
+            ∙ table-made cells are letter is)
+        go cells are a m out (no e) = getD-set-other tables letter a made [] e ∙ v .made cells are a m
+            (never (member rest a) (λ stands. clash out (cleared-keeps maxLetters maxLetters rest (omega arith) (omega arith) small a stands e)))
 
   -- at the end
-  pub tables-end : letters < 2 ^ maxLetters → maxLetters ≤ letter → TablesOf letters cells tables
+  pub tables-end : rest ≡ 0 → (cells : Grid) → words ≡ gridWords cells → TablesOf letters cells tables
   unfolding TablesOf
-  tables-end small h a m = v .made a (omega (arith, member-lt maxLetters letters a small m)) m
+  tables-end none cells are a m = v .made cells are a m (rw none (member-none a))
 
 -- THE LETTERS OF A WALK
 
-module _ (R : Rule) (cells : Grid) (is : cells ≡ held (R .grid)) (tables : Tables) (u v : List ℕ)
-    (of : TablesOf (occurring (occurring 0 u) v) cells tables) where
-  has-table : (a : ℕ) → (a < R .letters) × (member (occurring (occurring 0 u) v) a ≡ true) → Tabled R tables a
-  unfolding TablesOf
-  has-table a (less, m) = record { below = less; entries = of a m ∙ ap (λ (g : Grid). letterTable (getD g a [])) is }
+-- each letter of u has its table, and each of v
+pub tables-for : (words : List (List ℕ)) (u v : List ℕ) (lead-letters letters : ℕ) → lead-letters ≡ occurring 0 u → letters ≡ occurring lead-letters v
+    → (tables : Tables) → ((cells : Grid) → words ≡ gridWords cells → TablesOf letters cells tables) → TablesFor words u v tables
+unfolding TablesFor TablesOf
+tables-for words u v lead-letters letters lead-are are tables of R is lead tail = (
+  every-weaker _ _ u has-table (every-both _ _ u lead (every-weaker _ _ u (λ a m. occurring-keeps (occurring 0 u) v a m) (occurring-all 0 u))),
+  every-weaker _ _ v has-table (every-both _ _ v tail (occurring-all (occurring 0 u) v)),
+)
+  where
+    all : letters ≡ occurring (occurring 0 u) v
+    all = rw lead-are at are
 
-  -- each of u has its table, and each of v
-  pub lead-tabled : Every (λ a. a < R .letters) u → Every (Tabled R tables) u
-  lead-tabled below = every-weaker _ _ u has-table (every-both _ _ u below
-      (every-weaker _ _ u (λ a m. occurring-keeps (occurring 0 u) v a m) (occurring-all 0 u)))
+    has-table : (a : ℕ) → (a < R .letters) × (member (occurring (occurring 0 u) v) a ≡ true) → Tabled R tables a
+    has-table a (less, m) = record { below = less; entries = of (held (R .grid)) is a (rw all m) }
 
-  pub tail-tabled : Every (λ a. a < R .letters) v → Every (Tabled R tables) v
-  tail-tabled below = every-weaker _ _ v has-table (every-both _ _ v below (occurring-all (occurring 0 u) v))
+-- the letters of a walk over a read table are within the limit
+pub letters-small : {R : Rule} {header : Header} {words : List (List ℕ)} → HoldsRule R header words → (w : List ℕ)
+    → Every (λ a. a < header .letters) w → Every (λ a. a < maxLetters) w
+letters-small h w below = every-weaker _ _ w (λ a less. omega (arith, ap (λ (x : Header). x .letters) (h .numbers), h .letters)) below

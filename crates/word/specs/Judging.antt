@@ -4,7 +4,7 @@ use Prim.Native.Nat.{ℕ, _≤_, _<_}
 use lib.Dec.{leb}
 use lib.ListN.{length}
 use Rattle.table.specs.Outcome.{Outcome, accepted, ask, _then_}
-use Rattle.table.specs.Rule.{Grid, Rule}
+use Rattle.table.specs.Rule.{Rule}
 use Rattle.table.specs.Table.{Every, readRule}
 use Rattle.table.specs.HeldRule.{HoldsRule}
 use Rattle.table.specs.declared.header.Header.{Header}
@@ -19,9 +19,9 @@ judgeQuestions needed table u v buffer =
     (accepted R))
 
 -- Inside: what a judge on a read table asks for. It holds some rule, the walk's letters are below m, and the buffer has room.
-pub record Judgeable (header : Header) (cells : Grid) (u v : List ℕ) (needed : ℕ) (buffer : List ℕ) : Type 0 where
+pub record Judgeable (header : Header) (words : List (List ℕ)) (u v : List ℕ) (needed : ℕ) (buffer : List ℕ) : Type 0 where
   pub rule : Rule
-  pub holds : HoldsRule rule header cells
+  pub holds : HoldsRule rule header words
   pub lead : Every (λ a. a < header .letters) u
   pub tail : Every (λ a. a < header .letters) v
   pub room : needed ≤ length buffer

@@ -8,7 +8,8 @@ use lib.ListN.{getD}
 use Rattle.table.specs.BitSet.{member}
 use Rattle.table.specs.Rule.{Grid, Rule}
 use Rattle.table.specs.Held.{held}
-use Rattle.table.specs.Lookup.{LetterTable, letterTable}
+use Rattle.table.specs.Lookup.{LetterTable, gridWords, letterTable}
+use Rattle.table.specs.Table.{Every}
 
 -- a table for each letter
 abbrev pub Tables : Type 0
@@ -27,3 +28,9 @@ TablesOf letters cells tables = (a : ℕ) → member letters a ≡ true → getD
 pub record Tabled (R : Rule) (tables : Tables) (a : ℕ) : Type 0 where
   pub below : a < R .letters
   pub entries : getD tables a [] ≡ letterTable (getD (held (R .grid)) a [])
+
+-- whatever rule the words are of: each letter of a walk over that rule has its table
+unfoldable pub TablesFor : List (List ℕ) → List ℕ → List ℕ → Tables → Type 0
+TablesFor words u v tables =
+    (R : Rule) → words ≡ gridWords (held (R .grid)) → Every (λ a. a < R .letters) u → Every (λ a. a < R .letters) v
+    → Every (Tabled R tables) u × Every (Tabled R tables) v

@@ -45,7 +45,7 @@ judge-walk-requires c κs =
     let read = told .before .before .read-rule .ensures in
     let r = reading-rule _ _ (read .1) _ (sym (told .header .given .1) ∙ read .0) in
     read-judgeable _ _ _ _ _ _ _ r _ (walk .walk-number .ensures) (c .before .before .before .if1 .left)
-    (omega (arith, c .before .before .if2 .left, scratch-length))
+    (omega (arith, c .before .before .if2 .left, scratch-length)) (read .2)
 
 returns-3 : tie.Need-returns-3
 returns-3 c =
@@ -66,7 +66,7 @@ returns-4 c =
     let room = c .before .before .before .before .before in
     plain-judged _ _ _ _ _
     (all-yes _ _ _ _ _ _ _ r _ (walk .walk-number .ensures) (room .before .if1 .left) (omega (arith, room .if2 .left, scratch-length)))
-    _ _ (judge .0 (r .rule) (read-holds r)) (judge .1)
+    _ _ (judge .0 (r .rule) (read-holds r (read .2))) (judge .1)
 
 pub plain-judge-spec : {M : Type 1} → statement M
 plain-judge-spec =

@@ -1,44 +1,35 @@
 -- `walk_verdict` meets its contract, by the laws of Judging.
-use native.Mathlib.Omega.{arith}
-use Rattle.plain.proofs.Judging.{walkable-tail, no-loop, verdict-right}
+use borrow.Author.Needs.{needs}
+use Rattle.plain.proofs.Judging.{states-few, sets-few, lead-small, tail-small, verdict-right}
 use Rattle.plain.proofs.judge.walk_verdict.Statement.{statement}
 use Rattle.plain.proofs.judge.walk_verdict.Tie as tie
 
-returns : tie.Need-returns
-returns c = λ R h. no-loop _ (c .before .before .before .args .v .now) h (c .if1 .taken)
-
 states-after-requires : tie.Need-states-after-requires
-states-after-requires c κs = c .before .before .before .pre .lead
+states-after-requires c κs = lead-small (c .before .before .pre .1)
 
 tail-rows-requires : tie.Need-tail-rows-requires
-tail-rows-requires c κs =
-    let start = c .before .before .before .before in
-    walkable-tail (start .pre) (omega (arith, c .before .if1 .left))
+tail-rows-requires c κs = let walks = c .before .before .before .pre .1 in (states-few walks, tail-small walks)
 
-widened-rows-requires : tie.Need-widened-rows-requires
-widened-rows-requires c κs = c .before .before .before .before .before .pre .states
+widen-rows-requires : tie.Need-widen-rows-requires
+widen-rows-requires c κs = (states-few (c .before .before .before .before .before .pre .1), search needs)
 
 some-loop-requires : tie.Need-some-loop-requires
-some-loop-requires c κs =
-    let start = c .before .before .before .before .before .before .before in
-    (start .pre .states, start .pre .sets)
+some-loop-requires c κs = let walks = c .before .before .before .before .before .before .before .pre .1 in (states-few walks, sets-few walks)
 
-returns-2 : tie.Need-returns-2
-returns-2 c =
+returns : tie.Need-returns
+returns c =
     let wide = c .before .before in
-    let tail = wide .before in
-    let from = tail .before in
-    let start = from .before .before .before .before in
-    λ R h. verdict-right (start .pre) h _ _ _ _ (from .states-after .ensures) (tail .tail-rows .ensures) (wide .widened-rows .ensures)
+    let tail = wide .before .before in
+    let lead = tail .before in
+    λ R walks. verdict-right walks _ _ _ _ (lead .states-after .ensures) (tail .tail-rows .ensures) (wide .widen-rows .ensures)
     (c .some-loop .ensures)
 
 pub walk-verdict-spec : {M : Type 1} → statement M
 walk-verdict-spec =
     tie.close
     (tie.spec
-    returns
     states-after-requires
     tail-rows-requires
-    widened-rows-requires
+    widen-rows-requires
     some-loop-requires
-    returns-2)
+    returns)

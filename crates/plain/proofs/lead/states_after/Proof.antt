@@ -1,43 +1,40 @@
 -- `states_after` meets its contract. What the letters from `at` on lead to from the states at hand is what all letters lead to.
 use borrow.Author.Needs.{needs}
 use native.Mathlib.Omega.{arith}
-use mathlib.Core.Path.{_≡_, sym, _∙_, ap}
+use mathlib.Core.Path.{_≡_, refl, sym, _∙_}
 use Prim.Native.Nat.{_-_, _≤_, _<_}
 use lib.ListN.{length, drop}
 use Rattle.table.specs.Limits.{maxLetters}
 use Rattle.table.proofs.Every.{every-at}
-use Rattle.plain.specs.Lead.{after, startRow}
-use Rattle.plain.proofs.LeadRows.{after-done, after-more}
+use Rattle.plain.specs.Letters.{statesAfter}
+use Rattle.plain.proofs.LetterLaws.{over-done, over-more}
 use Rattle.plain.proofs.lead.states_after.Statement.{statement}
 use Rattle.plain.proofs.lead.states_after.Tie as tie
 
 abbrev Inv-loop : tie.InvT-loop
-Inv-loop cells start u states₀ at₀ states at = (at ≤ length u) × (after cells (drop at u) states ≡ after cells u (startRow start))
+Inv-loop tables start u states₀ at₀ states at = (at ≤ length u) × (statesAfter tables (drop at u) states ≡ statesAfter tables u start)
 
 abbrev μ-loop : tie.MeasureT-loop
-μ-loop cells start u states₀ at₀ states at = length u - at
-
-start-row-requires : tie.Need-start-row-requires Inv-loop μ-loop
-start-row-requires c κs = search needs
+μ-loop tables start u states₀ at₀ states at = length u - at
 
 loop-holds : tie.Need-loop-holds Inv-loop μ-loop
-loop-holds c = (omega arith, ap (after _ _) (c .start-row .ensures))
+loop-holds c = (omega arith, refl)
 
-shared-slice-read-image : tie.Need-shared-slice-read-image Inv-loop μ-loop
-shared-slice-read-image c = search needs
+shared-slice-read-look-up : tie.Need-shared-slice-read-look-up Inv-loop μ-loop
+shared-slice-read-look-up c = search needs
 
-index-1-image : tie.Need-index-1-image Inv-loop μ-loop
-index-1-image c = let start = c .before .before .before .before .before in
+index-1-look-up : tie.Need-index-1-look-up Inv-loop μ-loop
+index-1-look-up c = let start = c .before .before .before .before in
     every-at (λ a. a < maxLetters) (start .args .u .now) _ 0 (start .pre) (c .before .loop-test .taken)
 
-cast-image : tie.Need-cast-image Inv-loop μ-loop
-cast-image c = omega (arith, index-1-image c)
+cast-look-up : tie.Need-cast-look-up Inv-loop μ-loop
+cast-look-up c = omega (arith, index-1-look-up c)
 
-mul-image : tie.Need-mul-image Inv-loop μ-loop
-mul-image c = omega (arith, index-1-image c)
+mul-look-up : tie.Need-mul-look-up Inv-loop μ-loop
+mul-look-up c = omega (arith, index-1-look-up c)
 
-image-requires : tie.Need-image-requires Inv-loop μ-loop
-image-requires c κs = search needs
+look-up-requires : tie.Need-look-up-requires Inv-loop μ-loop
+look-up-requires c κs = search needs
 
 add-at : tie.Need-add-at Inv-loop μ-loop
 add-at c = search needs
@@ -46,16 +43,18 @@ loop-less : tie.Need-loop-less Inv-loop μ-loop
 loop-less c = search needs
 
 loop-again : tie.Need-loop-again Inv-loop μ-loop
+unfolding statesAfter
 loop-again c =
     let at = c .before .before .before .before in
-    let u = at .before .before .before .args .u .now in
-    (omega arith, after-more _ u (at .loop .at) _ _ (omega arith) (c .image .ensures) ∙ at .loop .inv .1)
+    let u = at .before .before .args .u .now in
+    (omega arith, over-more _ _ u (at .loop .at) _ _ (omega arith) (c .look-up .ensures) ∙ at .loop .inv .1)
 
 returns : tie.Need-returns Inv-loop μ-loop
+unfolding statesAfter
 returns c =
     let at = c .before in
-    let u = at .before .before .before .args .u .now in
-    sym (after-done _ u (at .loop .at) _ (omega arith) (omega arith)) ∙ at .loop .inv .1
+    let u = at .before .before .args .u .now in
+    sym (over-done _ _ u (at .loop .at) _ (omega arith) (omega arith)) ∙ at .loop .inv .1
 
 pub states-after-spec : {M : Type 1} → statement M
 states-after-spec =
@@ -63,13 +62,12 @@ states-after-spec =
     (tie.spec
     Inv-loop
     μ-loop
-    start-row-requires
     loop-holds
-    shared-slice-read-image
-    cast-image
-    mul-image
-    index-1-image
-    image-requires
+    shared-slice-read-look-up
+    cast-look-up
+    mul-look-up
+    index-1-look-up
+    look-up-requires
     add-at
     loop-less
     loop-again

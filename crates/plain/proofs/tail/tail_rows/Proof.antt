@@ -1,109 +1,73 @@
--- `tail_rows` meets its contract. The loop has the ways of the letters from `at` on.
+-- `tail_rows` meets its contract. What the letters from `at` on make of the rows at hand is what all letters make of the rows of no letter.
 use borrow.Author.Needs.{needs}
 use native.Mathlib.Omega.{arith}
-use mathlib.Core.Path.{_≡_}
-use Prim.Native.Nat.{_<_}
-use lib.ListN.{length, drop}
-use Rattle.plain.specs.Ways.{rowsOf}
-use Rattle.plain.specs.TailWays.{tailWays}
-use Rattle.plain.specs.Moves.{ListsMade}
-use Rattle.plain.proofs.MoveLists.{lists-none}
-use Rattle.plain.proofs.TailSteps.{tail-letter, tail-last, tail-more}
+use mathlib.Core.Path.{_≡_, sym, _∙_, ap}
+use Prim.Native.Nat.{ℕ, _-_, _^_, _≤_, _<_}
+use lib.ListN.{length, drop, getD}
+use Rattle.table.specs.Limits.{maxStates, maxLetters}
+use Rattle.table.proofs.Every.{every-at}
+use Rattle.table.proofs.Tabulate.{getD-tabulate}
+use Rattle.plain.specs.Letters.{rowAfter}
+use Rattle.plain.proofs.LetterLaws.{over-done, over-more}
 use Rattle.plain.proofs.tail.tail_rows.Statement.{statement}
 use Rattle.plain.proofs.tail.tail_rows.Tie as tie
 
 abbrev Inv-loop : tie.InvT-loop
-Inv-loop cells v lists₀ counts₀ at₀ rows₀ lists counts at rows = (at < length v) × (rows ≡ rowsOf (tailWays cells (drop at v))) × ListsMade cells lists counts
+Inv-loop tables v n rows₀ at₀ rows at =
+    (at ≤ length v) × (length rows ≡ maxStates)
+    × ((s : ℕ) → s < n → rowAfter tables (drop at v) (getD rows s 0) ≡ rowAfter tables v (2 ^ s))
 
 abbrev μ-loop : tie.MeasureT-loop
-μ-loop cells v lists₀ counts₀ at₀ rows₀ lists counts at rows = at
+μ-loop tables v n rows₀ at₀ rows at = length v - at
 
-sub-at : tie.Need-sub-at Inv-loop μ-loop
-sub-at c = omega (arith, c .before .pre .some)
-
-shared-slice-read-cell-rows : tie.Need-shared-slice-read-cell-rows Inv-loop μ-loop
-shared-slice-read-cell-rows c = omega (arith, c .before .before .pre .some)
-
-index-1-cell-rows : tie.Need-index-1-cell-rows Inv-loop μ-loop
-index-1-cell-rows c = let start = c .before .before in tail-letter _ _ (start .pre) _ (shared-slice-read-cell-rows c)
-
-cast-cell-rows : tie.Need-cast-cell-rows Inv-loop μ-loop
-cast-cell-rows c = omega (arith, index-1-cell-rows c)
-
-mul-cell-rows : tie.Need-mul-cell-rows Inv-loop μ-loop
-mul-cell-rows c = omega (arith, index-1-cell-rows c)
-
-cell-rows-requires : tie.Need-cell-rows-requires Inv-loop μ-loop
-cell-rows-requires c κs = search needs
+own-rows-requires : tie.Need-own-rows-requires Inv-loop μ-loop
+own-rows-requires c κs = search needs
 
 loop-holds : tie.Need-loop-holds Inv-loop μ-loop
 loop-holds c =
-    let start = c .before .before .before .before in
-    (omega (arith, start .pre .some), tail-last _ (start .args .v .now) _ (start .pre .some) (c .cell-rows .ensures), lists-none _)
+    let n = c .before .before .args .n in
+    let made : (s : ℕ) → s < n → getD (c .own-rows .result) s 0 ≡ 2 ^ s =
+    λ s small. rw (c .own-rows .ensures) (getD-tabulate maxStates (λ s. 2 ^ s) s 0 (omega arith)) in
+    (omega arith, search needs, λ s small. ap (rowAfter _ _) (made s small))
 
-sub-at-2 : tie.Need-sub-at-2 Inv-loop μ-loop
-sub-at-2 c = search needs
-
-shared-slice-read-letter : tie.Need-shared-slice-read-letter Inv-loop μ-loop
-shared-slice-read-letter c = omega (arith, c .before .before .loop .inv .0)
-
-cast-letter : tie.Need-cast-letter Inv-loop μ-loop
-cast-letter c =
-    let at = c .before .before in
-    omega (arith, tail-letter _ _ (at .before .before .before .before .before .pre) _ (shared-slice-read-letter c))
-
-list-letter-requires : tie.Need-list-letter-requires Inv-loop μ-loop
-list-letter-requires c κs =
-    let at = c .before .before .before .before in
-    (tail-letter _ _ (at .before .before .before .before .before .pre) _ (shared-slice-read-letter (c .before .before)), at .loop .inv .2)
+shared-slice-read-letter-rows : tie.Need-shared-slice-read-letter-rows Inv-loop μ-loop
+shared-slice-read-letter-rows c = search needs
 
 index-1-letter-rows : tie.Need-index-1-letter-rows Inv-loop μ-loop
-index-1-letter-rows c =
-    let at = c .before .before .before .before .before .before in
-    tail-letter _ _ (at .before .before .before .before .before .pre) _ (shared-slice-read-letter (c .before .before .before .before))
+index-1-letter-rows c = let start = c .before .before .before .before .before in
+    every-at (λ a. a < maxLetters) (start .args .v .now) _ 0 (start .pre .1) (c .before .loop-test .taken)
+
+cast-letter-rows : tie.Need-cast-letter-rows Inv-loop μ-loop
+cast-letter-rows c = omega (arith, index-1-letter-rows c)
 
 mul-letter-rows : tie.Need-mul-letter-rows Inv-loop μ-loop
 mul-letter-rows c = omega (arith, index-1-letter-rows c)
 
-index-1-letter-rows-2 : tie.Need-index-1-letter-rows-2 Inv-loop μ-loop
-index-1-letter-rows-2 c = index-1-letter-rows (c .before)
-
-mul-letter-rows-2 : tie.Need-mul-letter-rows-2 Inv-loop μ-loop
-mul-letter-rows-2 c = omega (arith, index-1-letter-rows-2 c)
-
-array-read-letter-rows : tie.Need-array-read-letter-rows Inv-loop μ-loop
-array-read-letter-rows c = index-1-letter-rows-2 (c .before)
-
-mul-letter-rows-3 : tie.Need-mul-letter-rows-3 Inv-loop μ-loop
-mul-letter-rows-3 c = omega (arith, array-read-letter-rows c)
-
 letter-rows-requires : tie.Need-letter-rows-requires Inv-loop μ-loop
-letter-rows-requires c κs =
-    let made = c .before .before .before in
-    let at = made .before .before .before .before .before in
-    let start = at .before .before .before .before .before in
-    let (lists, few) = made .list-letter .ensures in
-    (start .pre .bytes _, lists .made _ (array-read-letter-rows c) few)
+letter-rows-requires c κs = search needs
+
+add-at : tie.Need-add-at Inv-loop μ-loop
+add-at c = search needs
 
 loop-less : tie.Need-loop-less Inv-loop μ-loop
 loop-less c = search needs
 
 loop-again : tie.Need-loop-again Inv-loop μ-loop
+unfolding rowAfter
 loop-again c =
-    let made = c .before .before .before .before in
-    let at = made .before .before .before .before .before in
-    let v = at .before .before .before .before .before .args .v .now in (
-      omega (arith, at .loop .inv .0),
-      tail-more _ v (at .loop .at) _ _ (omega arith) (omega (arith, at .loop .inv .0)) (at .loop .inv .1)
-          (c .letter-rows .ensures),
-      made .list-letter .ensures .0,
+    let at = c .before .before .before .before .before in
+    let v = at .before .before .before .args .v .now in (
+      omega arith,
+      search needs,
+      λ s small. over-more _ _ v (at .loop .at) _ _ (omega arith) (c .letter-rows .ensures .first s small) ∙ at .loop .inv .2 s small,
     )
 
 returns : tie.Need-returns Inv-loop μ-loop
+unfolding rowAfter
 returns c =
     let at = c .before in
-    let e : at .loop .at ≡ 0 = omega arith in
-    rw e at (at .loop .inv .1)
+    let v = at .before .before .before .args .v .now in
+    λ s small. sym (over-done _ _ v (at .loop .at) _ (omega arith) (omega arith)) ∙ at .loop .inv .2 s small
 
 pub tail-rows-spec : {M : Type 1} → statement M
 tail-rows-spec =
@@ -111,24 +75,14 @@ tail-rows-spec =
     (tie.spec
     Inv-loop
     μ-loop
-    sub-at
-    shared-slice-read-cell-rows
-    cast-cell-rows
-    mul-cell-rows
-    index-1-cell-rows
-    cell-rows-requires
+    own-rows-requires
     loop-holds
-    sub-at-2
-    shared-slice-read-letter
-    cast-letter
-    list-letter-requires
+    shared-slice-read-letter-rows
+    cast-letter-rows
     mul-letter-rows
     index-1-letter-rows
-    mul-letter-rows-2
-    index-1-letter-rows-2
-    mul-letter-rows-3
-    array-read-letter-rows
     letter-rows-requires
+    add-at
     loop-less
     loop-again
     returns)

@@ -17,11 +17,14 @@ enum-known-x c = search needs
 widen-requires : tie.Need-widen-requires
 widen-requires c κs = search needs
 
+sub-if1 : tie.Need-sub-if1
+sub-if1 c = search needs
+
 cast-if1 : tie.Need-cast-if1
 cast-if1 c = search needs
 
-shl-if1 : tie.Need-shl-if1
-shl-if1 c = search needs
+shr-if1 : tie.Need-shr-if1
+shr-if1 c = search needs
 
 returns : tie.Need-returns
 returns c = byte-missing _ _ _ (sym (c .before .before .byte-at .ensures) ∙ c .enum-told .given .1)
@@ -44,8 +47,9 @@ read-byte-spec =
     enum-told
     enum-known-x
     widen-requires
+    sub-if1
     cast-if1
-    shl-if1
+    shr-if1
     returns
     returns-2
     returns-3)

@@ -21,13 +21,16 @@ read-row-requires c κs = search needs
 
 returns : tie.Need-returns
 unfolding readCell
-returns c = rw (← (rw (c .before .number .given .1) at (c .before .before .before .read-byte .ensures)))
+returns c =
+    let r = c .before .before .before in
+    (rw (← (rw (c .before .number .given .1) at (r .read-byte .ensures))), r .before .before .pre .1 .1)
 
 returns-2 : tie.Need-returns-2
 unfolding readCell
 returns-2 c =
-    let r = c .before .before .before in
-    rw (← (rw (r .map .given .1) at (r .before .before .read-byte .ensures))) (c .read-row .ensures)
+    let m = c .before .before .before .before in
+    let r = m .before .before in
+    (rw (← (rw (m .map .given .1) at (r .read-byte .ensures))) (c .read-row .ensures .0), c .read-row .ensures .1)
 
 pub read-cell-spec : {M : Type 1} → statement M
 read-cell-spec =

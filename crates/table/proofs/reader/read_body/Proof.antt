@@ -1,5 +1,6 @@
 -- The cells and the end of the table, by the laws of RuleReading.
 use borrow.Author.Needs.{needs}
+use mathlib.Core.Path.{_∙_}
 use Rattle.table.proofs.RuleReading.{body-refused, body-unended, body-read}
 use Rattle.table.proofs.reader.read_body.Statement.{statement}
 use Rattle.table.proofs.reader.read_body.Tie as tie
@@ -24,27 +25,31 @@ blank-requires-3 c κs = search needs
 
 returns : tie.Need-returns
 returns c =
-    let e = c .before .before .before .before .before in
+    let if = c .before .before .before in
+    let e = if .before .before .before in
     let r = e .before .before in
-    let p = r .before .before .before .before .before in
-    let says = rw (e .end .given .1) at (r .read-cells .ensures) in
-    rw (c .blank3 .ensures) (body-unended _ _ _ _ _ (p .pre .0) _ _ _ says (c .before .before .if1 .taken))
+    let p = r .before .before .before .before .before .before .before in
+    let told = rw (e .end .given .1) at (r .read-cells .ensures .0) in
+    let says = body-unended _ _ _ _ _ (p .pre .0) _ _ _ told (if .if1 .taken) in
+    (says .0, c .blank3 .ensures .0 ∙ says .1, c .blank3 .ensures .1)
 
 returns-2 : tie.Need-returns-2
 returns-2 c =
-    let e = c .before .before .before in
+    let e = c .before .before .before .before in
     let r = e .before .before in
-    let p = r .before .before .before .before .before in
-    let says = rw (e .number .given .1) at (r .read-cells .ensures) in
-    rw (c .blank2 .ensures) (body-refused _ _ _ _ _ (p .pre .0) _ says)
+    let p = r .before .before .before .before .before .before .before in
+    let told = rw (e .number .given .1) at (r .read-cells .ensures .0) in
+    let says = body-refused _ _ _ _ _ (p .pre .0) _ told in
+    (says .0, c .blank2 .ensures .0 ∙ says .1, c .blank2 .ensures .1)
 
 returns-3 : tie.Need-returns-3
 returns-3 c =
     let e = c .before .before .before in
     let r = e .before .before in
-    let p = r .before .before .before .before .before in
-    let says = rw (e .end .given .1) at (r .read-cells .ensures) in
-    body-read _ _ _ _ _ (p .pre .0) _ _ _ says (c .if1 .left)
+    let p = r .before .before .before .before .before .before .before in
+    let told = rw (e .end .given .1) at (r .read-cells .ensures .0) in
+    let says = body-read _ _ _ _ _ (p .pre .0) _ _ _ told (c .if1 .left) in
+    (says .0, says .1, r .read-cells .ensures .1)
 
 pub read-body-spec : {M : Type 1} → statement M
 read-body-spec =

@@ -11,31 +11,33 @@ blank-requires : tie.Need-blank-requires
 blank-requires c κs = search needs
 
 returns : tie.Need-returns
-returns c = rw (c .blank .ensures) (rule-short _ (c .before .before .if1 .taken))
-
-shared-slice-read-t10 : tie.Need-shared-slice-read-t10
-shared-slice-read-t10 c = search needs
-
-cast-t5 : tie.Need-cast-t5
-cast-t5 c = omega (arith, c .shared-slice-known2 .given 0)
+returns c =
+    let says = rule-short _ (c .before .before .before .if1 .taken) in
+    (says .0, c .blank .ensures .0 ∙ says .1, c .blank .ensures .1)
 
 shared-slice-read-t12 : tie.Need-shared-slice-read-t12
 shared-slice-read-t12 c = search needs
 
-cast-t13 : tie.Need-cast-t13
-cast-t13 c = omega (arith, c .shared-slice-known3 .given 1)
+cast-t6 : tie.Need-cast-t6
+cast-t6 c = omega (arith, c .shared-slice-known2 .given 0)
 
-shared-slice-read-t15 : tie.Need-shared-slice-read-t15
-shared-slice-read-t15 c = search needs
+shared-slice-read-t14 : tie.Need-shared-slice-read-t14
+shared-slice-read-t14 c = search needs
 
-cast-t16 : tie.Need-cast-t16
-cast-t16 c = omega (arith, c .shared-slice-known4 .given 2)
+cast-t15 : tie.Need-cast-t15
+cast-t15 c = omega (arith, c .shared-slice-known3 .given 1)
 
-shared-slice-read-t18 : tie.Need-shared-slice-read-t18
-shared-slice-read-t18 c = search needs
+shared-slice-read-t17 : tie.Need-shared-slice-read-t17
+shared-slice-read-t17 c = search needs
 
-cast-t19 : tie.Need-cast-t19
-cast-t19 c = omega (arith, c .shared-slice-known5 .given 3)
+cast-t18 : tie.Need-cast-t18
+cast-t18 c = omega (arith, c .shared-slice-known4 .given 2)
+
+shared-slice-read-t20 : tie.Need-shared-slice-read-t20
+shared-slice-read-t20 c = search needs
+
+cast-t21 : tie.Need-cast-t21
+cast-t21 c = omega (arith, c .shared-slice-known5 .given 3)
 
 header-number-requires : tie.Need-header-number-requires
 header-number-requires c κs = search needs
@@ -45,20 +47,24 @@ blank-requires-2 c κs = search needs
 
 returns-2 : tie.Need-returns-2
 returns-2 c =
-    let h = c .before .before .before in
+    let no = c .before .before .before in
+    let h = no .before in
     let long = h .before .before .before .before .before .if1 .left in
-    rw (c .blank2 .ensures) (rule-header _ long _ (h .header-number .ensures) (c .before .before .if2 .taken))
+    let says = rule-header _ long _ (h .header-number .ensures) (no .if2 .taken) in
+    (says .0, c .blank2 .ensures .0 ∙ says .1, c .blank2 .ensures .1)
 
 read-body-requires : tie.Need-read-body-requires
 read-body-requires c κs =
-    let e = sym (c .before .before .header-number .ensures) ∙ c .before .if2 .left in
+    let yes-all = c .before .before in
+    let e = sym (yes-all .before .header-number .ensures) ∙ yes-all .if2 .left in
     let r = in-range (header-accepted _ _ _ _ e .0) in
     omega arith
 
 returns-3 : tie.Need-returns-3
 returns-3 c =
-    let h = c .before .before .before in
-    rw (rule-body _ (h .before .before .before .before .before .if1 .left) (sym (h .header-number .ensures) ∙ c .before .before .if2 .left)) (c .read-body .ensures)
+    let yes-all = c .before .before .before in
+    let h = yes-all .before in
+    rw (rule-body _ (h .before .before .before .before .before .if1 .left) (sym (h .header-number .ensures) ∙ yes-all .if2 .left)) (c .read-body .ensures)
 
 pub read-rule-spec : {M : Type 1} → statement M
 read-rule-spec =
@@ -66,14 +72,14 @@ read-rule-spec =
     (tie.spec
     blank-requires
     returns
-    shared-slice-read-t10
-    cast-t5
     shared-slice-read-t12
-    cast-t13
-    shared-slice-read-t15
-    cast-t16
-    shared-slice-read-t18
-    cast-t19
+    cast-t6
+    shared-slice-read-t14
+    cast-t15
+    shared-slice-read-t17
+    cast-t18
+    shared-slice-read-t20
+    cast-t21
     header-number-requires
     blank-requires-2
     returns-2

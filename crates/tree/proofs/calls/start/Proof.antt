@@ -38,7 +38,7 @@ put-record-requires c κs =
     let h = made .before .before .before in
     let r = h .before .before in
     let v = reading-rule _ _ (r .read-rule .ensures .1) _ (sym (h .header .given .1) ∙ r .read-rule .ensures .0) in
-    (start-recordable _ [] _ _ v _ (made .start .ensures), made .before .if1 .left, search needs)
+    (start-recordable _ [] _ _ v _ (made .start .ensures), made .before .if1 .left, let whole = made .start .ok in search needs)
 
 returns-2 : tie.Need-returns-2
 returns-2 c =

@@ -1,11 +1,14 @@
 -- One letter on a record, by the laws of StepCall.
 use borrow.Author.Needs.{needs}
 use mathlib.Core.List.{[]}
-use mathlib.Core.Path.{sym, _∙_}
+use mathlib.Core.Path.{_≡_, sym, _∙_}
 use Prim.Native.Nat.{_<_}
 use native.Mathlib.Omega.{arith}
+use lib.ListN.{getD}
 use Rattle.table.specs.Limits.{maxLetters}
+use Rattle.table.specs.Lookup.{letterTable}
 use Rattle.table.proofs.GridReading.{RuleRead, reading-refused, reading-rule}
+use Rattle.table.proofs.LookupSteps.{table-made}
 use Rattle.tree.proofs.StepCall.{step-refused, TreeRead, tree-refused, tree-read, numbers-fit, letter-fits}
 use Rattle.tree.proofs.StepCall.{step-no-letter, step-no-tree, step-no-room, step-ready, step-recordable, step-done}
 use Rattle.tree.proofs.calls.step.Statement.{statement}
@@ -13,21 +16,32 @@ use Rattle.tree.proofs.calls.step.Tie as tie
 
 -- the rule that was read
 rule : (c : tie.After-header) → let r = c .before .before in
-    RuleRead (r .before .before .before .before .before .args .table .now) (c .header .given .0 .0) (r .read-rule .last .1 .0)
+    RuleRead (r .before .before .before .before .before .before .args .table .now) (c .header .given .0 .0) (r .read-rule .last .1 .0)
 rule c = let r = c .before .before in reading-rule _ _ (r .read-rule .ensures .1) _ (sym (c .header .given .1) ∙ r .read-rule .ensures .0)
 
 -- the tree that was read
 tree : (c : tie.After-nodes) → let k = c .before .before .before in let h = k .before .before .before .before in
     TreeRead (h .header .given .0 .0 .states) (h .header .given .0 .0 .sets)
-    (h .before .before .before .before .before .before .before .args .bytes .now) (c .nodes .given .0 .0) (k .checked .result .tree .rows)
+    (h .before .before .before .before .before .before .before .before .args .bytes .now) (c .nodes .given .0 .0) (k .checked .result .tree .rows)
 tree c = let k = c .before .before .before in tree-read _ _ _ _ (k .checked .ensures) _ (c .nodes .given .1)
 
 -- the letter's square is one of the arrays
 letter : (c : tie.Else2) → let l = c .before .before .before .before .before .before in let h = l .before .before .before in
-    h .before .before .before .before .before .before .before .args .letter < maxLetters
+    h .before .before .before .before .before .before .before .before .args .letter < maxLetters
 letter c =
     let l = c .before .before .before .before .before .before in
     letter-fits _ _ [] [] _ _ (rule (l .before .before .before)) (l .if1 .left)
+
+-- its table is made from its states' words
+filled : (c : tie.After-fill-table) →
+    let l = c .before .before .before .before .before .before .before .before .before in
+    let h = l .before .before .before in
+    let r = h .before .before in
+    c .fill-table .last .1 .0 ≡ letterTable (getD (r .read-rule .last .1 .0) (h .before .before .before .before .before .before .before .before .args .letter) [])
+filled c =
+    let l = c .before .before .before .before .before .before .before .before .before in
+    let r = l .before .before .before .before .before in
+    table-made _ (r .read-rule .ensures .2) _ (c .fill-table .ensures)
 
 read-rule-requires : tie.Need-read-rule-requires
 read-rule-requires c κs = search needs
@@ -111,7 +125,7 @@ put-record-requires c κs =
     let n = s .before .before .before .before .before .before .before .before .before .before in
     let l = n .before .before .before .before in
     let (fits, long) = step-recordable _ _ _ [] _ _ (rule (l .before .before .before)) (l .if1 .left) _ _ (tree n) _ _ _ _
-    (s .before .before .before .before .before .fill-table .ensures) (s .step-rows .ensures) in
+    (filled (s .before .before .before .before .before)) (s .step-rows .ensures) in
     (fits, s .before .before .before .before .before .before .before .before .if2 .left, long)
 
 returns-4 : tie.Need-returns-4
@@ -130,7 +144,7 @@ returns-5 c =
     let n = s .before .before .before .before .before .before .before .before .before .before in
     let l = n .before .before .before .before in
     step-done _ _ _ _ _ _ (rule (l .before .before .before)) (l .if1 .left) _ _ (tree n) _ _ _ _
-    (s .before .before .before .before .before .fill-table .ensures) (s .step-rows .ensures)
+    (filled (s .before .before .before .before .before)) (s .step-rows .ensures)
     (s .before .before .before .before .before .before .before .before .if2 .left) _ _ (p .put-record .ensures .0) (p .put-record .ensures .1)
 
 pub step-spec : {M : Type 1} → statement M

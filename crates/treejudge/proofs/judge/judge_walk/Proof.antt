@@ -5,28 +5,29 @@ use mathlib.Core.List.{[]}
 use Rattle.table.specs.Rule.{Rule}
 use Rattle.table.specs.HeldRule.{HoldsRule}
 use Rattle.word.specs.Judging.{Judgeable}
+use Rattle.word.proofs.WalkTables.{letters-small}
 use Rattle.history.specs.Tree.{startTree}
 use Rattle.treejudge.specs.JudgeCall.{nameRoom}
 use Rattle.treejudge.specs.Reading.{Readable}
 use Rattle.treejudge.specs.Cycles.{AtRound, FirstRound}
 use Rattle.treejudge.specs.Repeats.{RepeatFound}
 use Rattle.treejudge.proofs.LettersRead.{tree-laid, reads-taken}
-use Rattle.treejudge.proofs.Judging.{sets-small, letters-small, judged-tail, lead-reads, first-round, says-no, some-node, says-yes}
+use Rattle.treejudge.proofs.Judging.{sets-small, judged-tail, lead-reads, first-round, says-no, some-node, says-yes}
 use Rattle.treejudge.proofs.judge.judge_walk.Statement.{statement}
 use Rattle.treejudge.proofs.judge.judge_walk.Tie as tie
 
 -- what the judge asks for
-known : (c : tie.After-fill-tables) →
-    let args = c .before .before .before .before .before .before .before .before .args in
-    Judgeable (args .header) (args .cells .now) (args .u .now) (args .v .now) nameRoom (args .names .now)
-known c = c .before .before .before .before .before .before .before .before .pre
+known : (c : tie.After-walk-tables) →
+    let args = c .before .before .before .before .before .before .args in
+    Judgeable (args .header) (args .words .now) (args .u .now) (args .v .now) nameRoom (args .names .now)
+known c = c .before .before .before .before .before .before .pre
 
 -- t(0) of the walk, over a rule that the table holds
 first-place : (c : tie.After-letters-left2) →
     let tables = c .before .before .before .before .before .before .before .before .before .before .before in
-    let args = tables .before .before .before .before .before .before .before .before .args in
-    (R : Rule) → HoldsRule R (args .header) (args .cells .now)
-    → AtRound R (args .u .now) (c .letters-left2 .result .now) (tables .fill-tables .last .1 .1 .0) (args .header .sets) 0
+    let args = tables .before .before .before .before .before .before .args in
+    (R : Rule) → HoldsRule R (args .header) (args .words .now)
+    → AtRound R (args .u .now) (c .letters-left2 .result .now) (tables .walk-tables .last .1 .1 .1 .0) (args .header .sets) 0
     (c .before .taken .result)
 first-place c R holds =
     let first = c .before in
@@ -36,31 +37,24 @@ first-place c R holds =
     let laid = lead .before .before in
     let made = laid .before .before in
     let tables = made .before in
-    let letters = tables .before .before in
-    let lead-letters = letters .before in
-    first-round R _ _ holds _ (made .start .ensures) _ _ _ (lead .letters-left .ensures) (known tables .lead)
-    _ _ (lead-letters .occurring .ensures) (letters .occurring2 .ensures) _ (tables .fill-tables .ensures) _
+    first-round R _ _ holds _ (made .start .ensures) _ _ _ (lead .letters-left .ensures) (known tables .lead) (known tables .tail)
+    _ (tables .walk-tables .ensures) _
     (reads-taken _ _ _ _ _ _ _ (tree-laid _ _ (laid .laid .ensures) _ (placed .on-first-side .ensures)) (first .taken .ensures)
     (read .read-letters .ensures .1))
-    _ (c .letters-left2 .ensures) (known tables .tail)
+    _ (c .letters-left2 .ensures)
 
 -- where the tables are made
-abbrev made-tables : tie.After-letters-left2 → tie.After-fill-tables
+abbrev made-tables : tie.After-letters-left2 → tie.After-walk-tables
 made-tables c = c .before .before .before .before .before .before .before .before .before .before .before
 
 cast-k : tie.Need-cast-k
 cast-k c = let pre = c .before .before .before .before .pre in omega (arith, sets-small (pre .rule) _ _ (pre .holds))
 
-occurring-requires : tie.Need-occurring-requires
-occurring-requires c κs = let start = c .before .before .before .before in
-    letters-small (start .pre .rule) _ _ (start .pre .holds) (start .args .u .now) (start .pre .lead)
-
-occurring-requires-2 : tie.Need-occurring-requires-2
-occurring-requires-2 c κs = let start = c .before .before .before .before .before in
-    letters-small (start .pre .rule) _ _ (start .pre .holds) (start .args .v .now) (start .pre .tail)
-
-fill-tables-requires : tie.Need-fill-tables-requires
-fill-tables-requires c κs = search needs
+walk-tables-requires : tie.Need-walk-tables-requires
+walk-tables-requires c κs =
+    let start = c .before .before .before .before .before in
+    let holds = start .pre .holds in
+    ((letters-small holds (start .args .u .now) (start .pre .lead), letters-small holds (start .args .v .now) (start .pre .tail)), search needs)
 
 start-requires : tie.Need-start-requires
 start-requires c κs = search needs
@@ -81,16 +75,13 @@ read-letters-requires c κs =
     let laid = lead .before .before in
     let made = laid .before .before in
     let tables = made .before in
-    let letters = tables .before .before in
-    let lead-letters = letters .before in
     let pre = known tables in (
       (laid .laid .ensures .arrays, rw (c .on-first-side .ensures) (omega arith)),
       (
         pre .rule,
         startTree (pre .rule),
-        lead-reads (pre .rule) _ _ (pre .holds) _ (made .start .ensures) _ _ _ (lead .letters-left .ensures) (pre .lead)
-            _ _ (lead-letters .occurring .ensures) (letters .occurring2 .ensures) _ (tables .fill-tables .ensures)
-            _ (tree-laid _ _ (laid .laid .ensures) _ (c .on-first-side .ensures)),
+        lead-reads (pre .rule) _ _ (pre .holds) _ (made .start .ensures) _ _ _ (lead .letters-left .ensures) (pre .lead) (pre .tail)
+            _ (tables .walk-tables .ensures) _ (tree-laid _ _ (laid .laid .ensures) _ (c .on-first-side .ensures)),
       ),
     )
 
@@ -132,8 +123,8 @@ store-name-requires c κs =
     let tail = c .before .before .before .before .before .before .before in
     (c .before .node-name .ensures .short, known (made-tables tail) .room)
 
-cast-t33 : tie.Need-cast-t33
-cast-t33 c = search needs
+cast-t31 : tie.Need-cast-t31
+cast-t31 c = search needs
 
 same-length : tie.Need-same-length
 same-length c = search needs
@@ -155,9 +146,7 @@ judge-walk-spec =
     tie.close
     (tie.spec
     cast-k
-    occurring-requires
-    occurring-requires-2
-    fill-tables-requires
+    walk-tables-requires
     start-requires
     laid-requires
     letters-left-requires
@@ -170,6 +159,6 @@ judge-walk-spec =
     first-node-requires
     node-name-requires
     store-name-requires
-    cast-t33
+    cast-t31
     same-length
     returns-2)

@@ -51,7 +51,7 @@ judge-walk-requires c κs =
     let told = walk .before .before in
     let read = told .before .before .read-rule .ensures in
     let r = reading-rule _ _ (read .1) _ (sym (told .header .given .1) ∙ read .0) in
-    read-judgeable _ _ _ _ _ _ _ r _ (walk .walk-number .ensures) (c .before .before .before .if1 .left) (c .before .before .if2 .left)
+    read-judgeable _ _ _ _ _ _ _ r _ (walk .walk-number .ensures) (c .before .before .before .if1 .left) (c .before .before .if2 .left) (read .2)
 
 returns-3 : tie.Need-returns-3
 returns-3 c =
@@ -70,7 +70,7 @@ returns-4 c =
     let r = reading-rule _ _ (read .1) _ (sym (told .header .given .1) ∙ read .0) in
     let room = c .before .before .before .before .before in
     tree-judged _ _ _ _ _ (all-yes _ _ _ _ _ _ _ r _ (walk .walk-number .ensures) (room .before .if1 .left) (room .if2 .left)) _ _
-    (c .before .before .judge-walk .ensures (r .rule) (read-holds r))
+    (c .before .before .judge-walk .ensures (r .rule) (read-holds r (read .2)))
 
 pub tree-judge-spec : {M : Type 1} → statement M
 tree-judge-spec =

@@ -1,60 +1,65 @@
--- `fill_tables` meets its contract. The loop fills the table of each letter of the map in turn.
+-- `fill_tables` meets its contract. The loop fills the table of each letter of the map, the lowest first.
 use borrow.Author.Needs.{needs}
-use mathlib.Core.Logic.{⊎-elim}
-use Prim.Native.Nat.{_-_}
-use borrow.Author.Tests.{ne-eqb}
+use Prim.Native.Nat.{_-_, _^_, _<_}
+use native.Mathlib.Omega.{arith}
+use lib.Bits.{and-le-r}
+use lib.Count.{trailingZeros}
 use Rattle.table.specs.Limits.{maxLetters}
-use Rattle.table.specs.BitSet.{member}
-use Rattle.word.proofs.WalkTables.{TablesUpTo, tables-none, tables-more, tables-skip, tables-end}
+use Rattle.word.proofs.WalkTables.{TablesBut, tables-none, letter-inside, tables-more, tables-end}
 use Rattle.word.proofs.tables.fill_tables.Statement.{statement}
 use Rattle.word.proofs.tables.fill_tables.Tie as tie
 
 abbrev Inv-loop : tie.InvT-loop
-Inv-loop cells letters tables₀ letter₀ tables letter = TablesUpTo letters cells letter tables
+Inv-loop words letters tables₀ rest₀ tables rest = (rest < 2 ^ maxLetters) × TablesBut letters rest words tables
 
 abbrev μ-loop : tie.MeasureT-loop
-μ-loop cells letters tables₀ letter₀ tables letter = maxLetters - letter
+μ-loop words letters tables₀ rest₀ tables rest = rest
 
 loop-holds : tie.Need-loop-holds Inv-loop μ-loop
-loop-holds c = tables-none _ _ _ (c .pre)
+loop-holds c = (search needs, tables-none _ _ _ (c .pre))
 
-cast-if1 : tie.Need-cast-if1 Inv-loop μ-loop
-cast-if1 c = search needs
+-- the letter is below the limit
+inside : (c : tie.In-loop Inv-loop μ-loop) → trailingZeros maxLetters (c .before .loop .rest) < maxLetters
+inside c = let inv = c .before .loop .inv in letter-inside _ _ _ _ (inv .1) (inv .0) (c .loop-test .taken)
 
-shr-if1 : tie.Need-shr-if1 Inv-loop μ-loop
-shr-if1 c = search needs
+cast-letter : tie.Need-cast-letter Inv-loop μ-loop
+cast-letter c = omega (arith, inside c)
 
 mul-fill-table : tie.Need-mul-fill-table Inv-loop μ-loop
-mul-fill-table c = search needs
+mul-fill-table c = omega (arith, inside c)
 
 index-1-fill-table : tie.Need-index-1-fill-table Inv-loop μ-loop
-index-1-fill-table c = search needs
+index-1-fill-table c = inside c
 
 mul-fill-table-2 : tie.Need-mul-fill-table-2 Inv-loop μ-loop
-mul-fill-table-2 c = search needs
+mul-fill-table-2 c = omega (arith, inside (c .before))
 
 index-1-fill-table-2 : tie.Need-index-1-fill-table-2 Inv-loop μ-loop
-index-1-fill-table-2 c = search needs
+index-1-fill-table-2 c = inside (c .before)
 
 fill-table-requires : tie.Need-fill-table-requires Inv-loop μ-loop
 fill-table-requires c κs = search needs
 
-add-letter : tie.Need-add-letter Inv-loop μ-loop
-add-letter c = search needs
+sub-rest : tie.Need-sub-rest Inv-loop μ-loop
+sub-rest c = let turn = c .before .before .before in omega (arith, turn .loop-test .taken)
 
 loop-less : tie.Need-loop-less Inv-loop μ-loop
-loop-less c = search needs
+loop-less c =
+    let turn = c .before .before .before in
+    let rest = turn .before .loop .rest in
+    omega (arith, turn .loop-test .taken, and-le-r rest (rest - 1))
 
 loop-again : tie.Need-loop-again Inv-loop μ-loop
-unfolding member
 loop-again c =
-    let inside = c .before in
-    let at = inside .before in
-    ⊎-elim (λ w. rw (w .4) (tables-more _ _ _ _ (at .loop .inv) (inside .loop-test .taken) _ (w .3 .ensures)))
-    (λ w. rw (w .1) (tables-skip _ _ _ _ (at .loop .inv) (inside .loop-test .taken) (ne-eqb _ _ (w .0 .left)))) (c .if1 .came)
+    let turn = c .before .before .before in
+    let inv = turn .before .loop .inv in
+    let rest = turn .before .loop .rest in (
+      omega (arith, inv .0, and-le-r rest (rest - 1)),
+      tables-more _ _ _ _ (inv .1) (inv .0) (turn .loop-test .taken) _ (c .fill-table .ensures),
+    )
 
 returns : tie.Need-returns Inv-loop μ-loop
-returns c = tables-end _ _ _ _ (c .before .loop .inv) (search needs) (search needs)
+returns c = tables-end _ _ _ _ (c .before .loop .inv .1) (c .loop-test .left)
 
 pub fill-tables-spec : {M : Type 1} → statement M
 fill-tables-spec =
@@ -63,14 +68,13 @@ fill-tables-spec =
     Inv-loop
     μ-loop
     loop-holds
-    cast-if1
-    shr-if1
+    cast-letter
     mul-fill-table
     index-1-fill-table
     mul-fill-table-2
     index-1-fill-table-2
     fill-table-requires
-    add-letter
+    sub-rest
     loop-less
     loop-again
     returns)

@@ -1,0 +1,31 @@
+-- Letters read by their tables, inside the plain judge: the states that they lead to, and the ways that they open.
+use mathlib.Core.List.{List, [], _∷_}
+use Prim.Native.Nat.{ℕ, suc}
+use lib.Bits.{bitOr}
+use lib.ListN.{getD}
+use Rattle.table.specs.Limits.{maxSets}
+use Rattle.table.specs.Lookup.{LetterTable, lookUp}
+use Rattle.word.specs.WalkTables.{Tables}
+use Rattle.plain.specs.Ways.{mapOf, packed}
+
+-- what f, which takes a letter's table, makes of x, letter by letter
+unfoldable pub over : (LetterTable → ℕ → ℕ) → Tables → List ℕ → ℕ → ℕ
+over f tables [] x = x
+over f tables (a ∷ w) x = over f tables w (f (getD tables a []) x)
+
+-- the states that the letters lead to
+unfoldable pub statesAfter : Tables → List ℕ → ℕ → ℕ
+statesAfter = over (λ table states. lookUp table 0 states)
+
+-- the map for relation i after a letter behind the ways of a row: the letter's transition is one of set i, or the way before
+-- it takes one
+unfoldable pub mapAfter : LetterTable → ℕ → ℕ → ℕ
+mapAfter table row i = bitOr (lookUp table i (mapOf row 0)) (lookUp table 0 (mapOf row i))
+
+-- a row with a letter behind its ways
+unfoldable pub extended : LetterTable → ℕ → ℕ
+extended table row = packed (suc maxSets) (mapAfter table row)
+
+-- and with the letters
+unfoldable pub rowAfter : Tables → List ℕ → ℕ → ℕ
+rowAfter = over extended
