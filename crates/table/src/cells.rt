@@ -35,7 +35,7 @@ fn widen(x: u8) -> u16
     x as u16
 }
 
-// Questions 4 and 5 at one cell byte, in which the bits below `width` may stand.
+// Questions 4 and 5 at one cell byte, in which the bits below `width` may stand: none is above 255 shifted down to these bits.
 fn read_byte(s: &[u8], c: Cursor, width: usize) -> CellByte
     requires { ⌜ width ≤ maxStates ⌝ }
     ensures { λ r. ⌜ byteRead (now (s .entry)) r ≡ readByte width (drop (c .at) (now (s .entry))) ⌝ }
@@ -61,7 +61,8 @@ fn spread(relations: u16) -> u64
     (relations as u64 * 270549121) & 4311810305
 }
 
-// The set bytes of a cell, "as many as the map has standing bits, lowest bit first", into a blank row, and its word.
+// The set bytes of a cell, "as many as the map has standing bits, lowest bit first", into a blank row, and the row's word. The count
+// of ones says how many set bytes follow; each takes its bit away.
 fn read_row(
     s: &[u8],
     from: Cursor,
