@@ -9,9 +9,9 @@ use lib.ListN.{length, getD, drop}
 use lib.Pow.{shl-exact}
 use lib.Seq.{drop-cons, drop-length}
 use Rattle.table.specs.Limits.{maxStates, maxSets}
-use Rattle.table.specs.Lookup.{LetterTable, lookUp}
+use Rattle.table.specs.Lookup.{mapOf, LetterTable, lookUp}
 use Rattle.word.specs.WalkTables.{Tables}
-use Rattle.plain.specs.Ways.{mapOf, packed}
+use Rattle.plain.specs.Ways.{packed}
 use Rattle.plain.specs.Letters.{over, mapAfter, extended}
 use Rattle.plain.proofs.RowLaws.{packed-more, packed-at}
 

@@ -9,10 +9,11 @@ use lib.Dec.{eqb}
 use lib.ListN.{length, getD, set, length-set}
 use lib.Pow.{shr-shr, pow-add}
 use lib.Seq.{getD-set-same, getD-set-other}
+use Rattle.table.specs.Lookup.{mapOf}
 use Rattle.table.specs.Limits.{maxStates}
 use Rattle.table.specs.BitSet.{member}
 use Rattle.table.proofs.BitSet.{member-mod}
-use Rattle.plain.specs.Ways.{mapOf, packed, Changed}
+use Rattle.plain.specs.Ways.{packed, Changed}
 
 -- THE MAPS OF A ROW
 

@@ -9,12 +9,13 @@ use native.Mathlib.Omega.{arith}
 use borrow.Author.Tests.{eqb-true, eq-eqb}
 use lib.Bits.{bitAnd}
 use lib.ListN.{getD}
+use Rattle.table.specs.Lookup.{mapOf}
 use Rattle.table.specs.Limits.{maxStates}
 use Rattle.table.specs.BitSet.{member}
 use Rattle.table.proofs.BitSet.{member-none, member-union}
 use Rattle.table.proofs.Logic.{and-both, and-in, or-l, or-r, or-in}
 use Rattle.word.specs.Verdict.{Decides}
-use Rattle.plain.specs.Ways.{mapOf, packed, ways}
+use Rattle.plain.specs.Ways.{packed, ways}
 use Rattle.plain.specs.Rounds.{marks}
 use Rattle.plain.specs.Search.{reached, Reaches}
 use Rattle.plain.proofs.RowLaws.{map-zero, shift-suc, packed-at, packed-ext, packed-marks, mark, column}

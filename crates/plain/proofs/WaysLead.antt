@@ -10,7 +10,7 @@ use lib.Bits.{bitOr}
 use lib.ListN.{getD}
 use Rattle.table.specs.Limits.{maxStates, maxSets}
 use Rattle.table.specs.BitSet.{member}
-use Rattle.table.specs.Lookup.{LetterTable, lookUp}
+use Rattle.table.specs.Lookup.{mapOf, LetterTable, lookUp}
 use Rattle.table.specs.Rule.{Rule, cellAt, edge, edgeIn, successors, successorsIn}
 use Rattle.table.specs.Table.{Every, WellFormed}
 use Rattle.table.proofs.BitSet.{member-none, member-single, member-union, member-lt, image-in, image-out}
@@ -19,7 +19,6 @@ use Rattle.table.proofs.Logic.{clash, or-l, or-r, or-in}
 use Rattle.table.proofs.LookupTable.{look-up-successors, look-up-successors-in}
 use Rattle.word.specs.Loop.{Leads}
 use Rattle.word.specs.WalkTables.{Tables, Tabled}
-use Rattle.plain.specs.Ways.{mapOf}
 use Rattle.plain.specs.Letters.{over, statesAfter, extended, rowAfter}
 use Rattle.plain.proofs.RowLaws.{map-member}
 use Rattle.plain.proofs.LetterLaws.{extended-at}

@@ -4,9 +4,9 @@ use Prim.Native.Nat.{ℕ, suc}
 use lib.Bits.{bitOr}
 use lib.ListN.{getD}
 use Rattle.table.specs.Limits.{maxSets}
-use Rattle.table.specs.Lookup.{LetterTable, lookUp}
+use Rattle.table.specs.Lookup.{mapOf, LetterTable, lookUp}
 use Rattle.word.specs.WalkTables.{Tables}
-use Rattle.plain.specs.Ways.{mapOf, packed}
+use Rattle.plain.specs.Ways.{packed}
 
 -- what f, which takes a letter's table, makes of x, letter by letter
 unfoldable pub over : (LetterTable → ℕ → ℕ) → Tables → List ℕ → ℕ → ℕ

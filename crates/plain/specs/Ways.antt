@@ -4,8 +4,9 @@
 use mathlib.Core.Path.{_≡_}
 use mathlib.Core.Bool.{Bool, _&&_, _||_}
 use mathlib.Core.List.{List}
-use Prim.Native.Nat.{ℕ, zero, suc, _+_, _*_, _/_, _%_, _^_, _≤_, _<_}
+use Prim.Native.Nat.{ℕ, zero, suc, _+_, _*_, _^_, _≤_, _<_}
 use lib.ListN.{length, getD}
+use Rattle.table.specs.Lookup.{mapOf}
 use Rattle.table.specs.Limits.{maxStates, maxSets}
 use Rattle.table.specs.BitSet.{member}
 
@@ -16,10 +17,6 @@ Ways = ℕ → ℕ → ℕ → Bool
 -- one of the ways a, and one of the ways b behind it: one of the two takes the transition of set i
 unfoldable pub joined : (ℕ → Bool) → (ℕ → Bool) → ℕ → Bool
 joined a b i = (a 0 && b i) || (a i && b 0)
-
--- the map of a row for relation i
-abbrev pub mapOf : ℕ → ℕ → ℕ
-mapOf row i = row / 2 ^ (maxStates * i) % 2 ^ maxStates
 
 -- the row with the maps f 0, f 1, .., f (k−1)
 unfoldable pub packed : ℕ → (ℕ → ℕ) → ℕ

@@ -150,6 +150,11 @@ union-assoc a b c = set-ext _ _ (λ q. member-union a (bitOr b c) q ∙ ap (λ (
 pub union-above : (n s : ℕ) → s < 2 ^ n → bitOr s (2 ^ n) ≡ 2 ^ n + s
 union-above n s h = ap (bitOr s) (sym (one-mul (2 ^ n))) ∙ or-shifted-r 1 n s h ∙ ap (λ (x : ℕ). x + s) (one-mul (2 ^ n))
 
+-- the members from place k up
+pub member-from : (k s q : ℕ) → member (s / 2 ^ k) q ≡ member s (k + q)
+unfolding member
+member-from k s q = ap (λ (x : ℕ). eqb (x % 2) 1) (shr-shr s k q)
+
 -- the members below n of a set are those of its remainder by 2^n
 pub member-mod : (n s q : ℕ) → q < n → member (s % 2 ^ n) q ≡ member s q
 unfolding member
@@ -186,6 +191,16 @@ unfolding collect
 collect-ext zero f g h = refl
 collect-ext (suc n) f g h = ap₂ (λ (b : Bool) (c : ℕ). cond b 1 0 + 2 * c) (h 0 (omega arith))
     (collect-ext n (λ q. f (suc q)) (λ q. g (suc q)) (λ q l. h (suc q) (omega arith)))
+
+-- comprehension of a union
+pub collect-union : (n : ℕ) (f g : ℕ → Bool) → bitOr (collect n f) (collect n g) ≡ collect n (λ q. f q || g q)
+collect-union n f g = set-ext _ _ λ q. member-union (collect n f) (collect n g) q
+    ∙ ap₂ (λ (a b : Bool). a || b) (member-collect n f q) (member-collect n g q)
+    ∙ go (ltb q n) (f q) (g q) ∙ sym (member-collect n (λ q. f q || g q) q)
+  where
+    go : (a b c : Bool) → ((a && b) || (a && c)) ≡ (a && (b || c))
+    go true b c = refl
+    go false b c = refl
 
 -- one more number, above the others
 pub collect-more : (n : ℕ) (f : ℕ → Bool) → collect (suc n) f ≡ bitOr (collect n f) (cond (f n) (2 ^ n) 0)

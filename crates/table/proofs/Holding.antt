@@ -53,7 +53,7 @@ unfolding heldSquare
 held-square square q r =
     view-pad-map (λ row. getD row r noTransition) blankRow [] (blank-row r) heldRow (λ row. held-row row r) maxStates square q
 
-pub held-cell : (grid : Grid) (a q r : ℕ) → cellAt (held grid) a q r ≡ cellAt grid a q r
+held-cell : (grid : Grid) (a q r : ℕ) → cellAt (held grid) a q r ≡ cellAt grid a q r
 unfolding cellAt held
 held-cell grid a q r =
     view-pad-map (λ square. getD (getD square q []) r noTransition) blankSquare []

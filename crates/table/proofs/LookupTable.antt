@@ -14,7 +14,7 @@ use Rattle.table.specs.BitSet.{member}
 use Rattle.table.specs.Rule.{Rule, cellAt, edge, edgeIn, image, successors, successorsIn}
 use Rattle.table.specs.Table.{WellFormed}
 use Rattle.table.specs.Held.{held}
-use Rattle.table.specs.Lookup.{tabulate, relation, images, LetterTable, letterTable, lookUp}
+use Rattle.table.specs.Lookup.{mapOf, tabulate, relation, images, LetterTable, letterTable, lookUp}
 use Rattle.table.proofs.BitSet.{member-union, member-mod, set-ext-below, member-collect, collect-lt, collect-ext, some-ext}
 use Rattle.table.proofs.BitSet.{image-lt, image-union}
 use Rattle.table.proofs.ByRelation.{relations-ext, relations-union, relations-at}
@@ -34,7 +34,7 @@ images-union square s t = relations-ext _ _ (λ i r h l. ap (λ (x : ℕ). membe
 
 -- an image from a table's entry
 images-at : (square : List (List ℕ)) (i s : ℕ) → i ≤ maxSets
-    → images square s / 2 ^ (maxStates * i) % 2 ^ maxStates ≡ image maxStates (relation square i) s
+    → mapOf (images square s) i ≡ image maxStates (relation square i) s
 unfolding images
 images-at square i s h = relations-at (λ i r. member (image maxStates (relation square i) s) r) i h
     ∙ set-ext-below maxStates _ _ (collect-lt maxStates _) (image-lt maxStates (relation square i) s) (λ r l. member-collect maxStates _ r
@@ -44,7 +44,7 @@ images-at square i s h = relations-at (λ i r. member (image maxStates (relation
 pub look-up-image : (square : List (List ℕ)) (i s : ℕ) → i ≤ maxSets
     → lookUp (letterTable square) i s ≡ image maxStates (relation square i) s
 unfolding lookUp letterTable
-look-up-image square i s h = ap (λ (x : ℕ). x / 2 ^ (maxStates * i) % 2 ^ maxStates) (ap₂ bitOr first second
+look-up-image square i s h = ap (λ (x : ℕ). mapOf x i) (ap₂ bitOr first second
     ∙ sym (images-union square (s % 16) (16 * (s / 16 % 16))) ∙ ap (images square) both)
     ∙ images-at square i (s % 2 ^ maxStates) h ∙ image-mod maxStates (relation square i) s
   where

@@ -28,6 +28,10 @@ relationsOf x = cond (eqb x noTransition) 0 (1 + 2 * x)
 unfoldable pub byRelation : (ℕ → ℕ → Bool) → ℕ
 byRelation f = collect (maxStates * suc maxSets) (λ b. f (b / maxStates) (b % maxStates))
 
+-- the map for relation i in such a number
+abbrev pub mapOf : ℕ → ℕ → ℕ
+mapOf word i = word / 2 ^ (maxStates * i) % 2 ^ maxStates
+
 -- the images of a state alone, whose row this is: by each relation
 unfoldable pub rowWord : List ℕ → ℕ
 rowWord row = byRelation (λ i r. member (relationsOf (getD row r noTransition)) i)
@@ -53,4 +57,4 @@ letterTable square = tabulate 16 (λ j. images square j) ++ tabulate 16 (λ j. i
 
 -- the image of s by a table: under all transitions at i = 0, by those of set i at i
 unfoldable pub lookUp : LetterTable → ℕ → ℕ → ℕ
-lookUp table i s = bitOr (getD table (s % 16) 0) (getD table (16 + s / 16 % 16) 0) / 2 ^ (maxStates * i) % 2 ^ maxStates
+lookUp table i s = mapOf (bitOr (getD table (s % 16) 0) (getD table (16 + s / 16 % 16) 0)) i

@@ -4,8 +4,9 @@ use native.Mathlib.Omega.{arith}
 use mathlib.Core.Path.{_≡_, refl}
 use Prim.Native.Nat.{suc, _-_, _≤_}
 use lib.Bits.{or-lt}
+use Rattle.table.specs.Lookup.{mapOf}
 use Rattle.table.specs.Limits.{maxSets}
-use Rattle.plain.specs.Ways.{mapOf, packed}
+use Rattle.plain.specs.Ways.{packed}
 use Rattle.plain.specs.Letters.{mapAfter, extended}
 use Rattle.plain.proofs.LetterLaws.{extended-more}
 use Rattle.plain.proofs.tail.extended.Statement.{statement}
