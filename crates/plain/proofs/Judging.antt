@@ -34,10 +34,7 @@ held-walks {R} h u v lead tail tables for =
     let (lead-tabled, tail-tabled) = for R (h .images) (rw (h .numbers) at lead) (rw (h .numbers) at tail) in
     record {
       numbers = h .numbers;
-      well = h .well;
-      states = h .states;
-      letters = h .letters;
-      sets = h .sets;
+      limits = h .limits;
       lead = lead-tabled;
       tail = tail-tabled;
     }
@@ -47,13 +44,13 @@ held-walks {R} h u v lead tail tables for =
 module _ {R : Rule} {header : Header} {tables : Tables} {u v : List ℕ} (w : Walks R header tables u v) where
   -- the numbers and the letters are within the limits
   pub states-few : header .states ≤ maxStates
-  states-few = rw (w .numbers) (w .states)
+  states-few = rw (w .numbers) (w .limits .states)
 
   pub sets-few : header .sets ≤ maxSets
-  sets-few = rw (w .numbers) (w .sets)
+  sets-few = rw (w .numbers) (w .limits .sets)
 
   tabled-small : (l : List ℕ) → Every (Tabled R tables) l → Every (λ a. a < maxLetters) l
-  tabled-small l all = every-weaker _ _ l (λ a t. omega (arith, t .below, w .letters)) all
+  tabled-small l all = every-weaker _ _ l (λ a t. omega (arith, t .below, w .limits .letters)) all
 
   pub lead-small : Every (λ a. a < maxLetters) u
   lead-small = tabled-small u (w .lead)
@@ -68,14 +65,14 @@ module _ {R : Rule} {header : Header} {tables : Tables} {u v : List ℕ} (w : Wa
       → Decides verdict (SomeLoop (ways wide) (header .states) (header .sets) from) → Decides verdict (Loop R u v)
   unfolding ways
   verdict-right verdict from tail wide start rows more d =
-      decides-same (found-loop R (w .well) (w .sets) u v from lead (ways wide) rounds)
-      (loop-found R (w .well) (w .sets) u v from lead (ways wide) rounds) (rw (w .numbers) at d)
+      decides-same (found-loop R (w .limits .well) (w .limits .sets) u v from lead (ways wide) rounds)
+      (loop-found R (w .limits .well) (w .limits .sets) u v from lead (ways wide) rounds) (rw (w .numbers) at d)
     where
       lead : LeadStates R u from
       lead = record {
-        sound = λ t m. states-out R (w .well) (w .states) tables u (R .start) t (w .lead) (rw (start, w .numbers) at m);
+        sound = λ t m. states-out R (w .limits .well) (w .limits .states) tables u (R .start) t (w .lead) (rw (start, w .numbers) at m);
         complete = λ origin c t m p. rw (start, w .numbers)
-            (states-in R (w .well) (w .states) tables u (R .start) origin c t (w .lead) m p);
+            (states-in R (w .limits .well) (w .limits .states) tables u (R .start) origin c t (w .lead) m p);
       }
 
       row : (s : ℕ) → s < R .states → getD tail s 0 ≡ rowAfter tables v (2 ^ s)
@@ -83,16 +80,16 @@ module _ {R : Rule} {header : Header} {tables : Tables} {u v : List ℕ} (w : Wa
 
       one : TailWays R v (ways tail)
       one = record {
-        sound = λ s t i s-lt h m. tail-out R (w .well) (w .states) tables v (w .tail) s (omega (arith, w .states)) t i h (rw (row s s-lt) at m);
+        sound = λ s t i s-lt h m. tail-out R (w .limits .well) (w .limits .states) tables v (w .tail) s (omega (arith, w .limits .states)) t i h (rw (row s s-lt) at m);
         complete = λ s c t i s-lt h p takes. rw (row s s-lt)
-            (tail-in R (w .well) (w .states) tables v (w .tail) s (omega (arith, w .states)) c t i h p takes);
+            (tail-in R (w .limits .well) (w .limits .states) tables v (w .tail) s (omega (arith, w .limits .states)) c t i h p takes);
       }
 
       are : AreWays (R .states) (widened (R .states) (ways tail)) wide
       are = rw (w .numbers) at more
 
       all : RoundsWays R v (widened (R .states) (ways tail))
-      all = rounds-ways R (w .well) v (ways tail) one
+      all = rounds-ways R (w .limits .well) v (ways tail) one
 
       rounds : RoundsWays R v (ways wide)
       rounds = record {

@@ -12,7 +12,7 @@ use lib.Seq.{getD-set-same, getD-set-other}
 use Rattle.table.specs.Lookup.{mapOf}
 use Rattle.table.specs.Limits.{maxStates}
 use Rattle.table.specs.BitSet.{member}
-use Rattle.table.proofs.BitSet.{member-mod}
+use Rattle.table.proofs.BitSet.{member-from, member-mod}
 use Rattle.plain.specs.Ways.{packed, Changed}
 
 -- THE MAPS OF A ROW
@@ -33,8 +33,7 @@ map-suc x i = ap (λ (y : ℕ). y % 2 ^ maxStates) (shift-suc x i)
 
 -- its members
 pub map-member : (x i t : ℕ) → t < maxStates → member (mapOf x i) t ≡ member x (maxStates * i + t)
-unfolding member
-map-member x i t small = member-mod maxStates (x / 2 ^ (maxStates * i)) t small ∙ ap (λ (y : ℕ). eqb (y % 2) 1) (shr-shr x (maxStates * i) t)
+map-member x i t small = member-mod maxStates (x / 2 ^ (maxStates * i)) t small ∙ member-from (maxStates * i) x t
 
 -- no states
 pub map-none : (i : ℕ) → mapOf 0 i ≡ 0
@@ -109,8 +108,7 @@ packed-marks x (suc k) =
 pub column : (row m i : ℕ) → m < maxStates → eqb (mark (row / 2 ^ m) i) 1 ≡ member (mapOf row i) m
 unfolding member
 column row m i m-lt = let e : m + maxStates * i ≡ maxStates * i + m = omega arith in
-    ap (λ (x : ℕ). eqb (x % 2) 1) (shr-shr row m (maxStates * i)) ∙ ap (λ (k : ℕ). eqb (row / 2 ^ k % 2) 1) e
-    ∙ sym (map-member row i m m-lt)
+    member-from m row (maxStates * i) ∙ ap (member row) e ∙ sym (map-member row i m m-lt)
 
 -- ROWS CHANGED ONE AFTER THE OTHER
 

@@ -66,11 +66,13 @@ pub read-holds : {table : List ℕ} {header : Header} {cells : Grid} (r : RuleRe
 read-holds r are = record {
   numbers = r .numbers;
   images = are ∙ ap gridWords (r .holds);
-  well = r .well;
-  states = r .range .states;
-  letters = r .range .letters;
-  some-set = r .range .some-set;
-  sets = r .range .sets;
+  limits = record {
+    well = r .well;
+    states = r .range .states;
+    letters = r .range .letters;
+    some-set = r .range .some-set;
+    sets = r .range .sets;
+  };
 }
 
 module _ (table : List ℕ) (cells : Grid) (kept : cells ≡ cellsAfter (readRule table)) where

@@ -7,7 +7,7 @@ use native.Mathlib.Nat.{pow-suc}
 use native.Mathlib.Decide.{decLt}
 use borrow.Author.Tests.{eqb-false, ne-eqb}
 use lib.Arith.{bin-ind}
-use lib.Bits.{bitAnd, and-step, and-self, and-le-l}
+use lib.Bits.{bitAnd, and-step, and-self}
 use lib.Count.{ones, ones-step, trailingZeros}
 use lib.Dec.{eqb, eqb·suc-suc, eqb·suc-zero}
 use Rattle.table.specs.BitSet.{member}
@@ -84,10 +84,6 @@ cleared-ones =
         )
     go n ih some (no odd) =
         omega (arith, ones-step n, ones-step (bitAnd n (n - 1)), cleared-even n, ap ones (cleared-here n (omega arith)))
-
--- it is no greater
-pub cleared-small : (n : ℕ) → bitAnd n (n - 1) ≤ n
-cleared-small n = and-le-l n (n - 1)
 
 -- its members: those of the map but for the lowest
 pub cleared-member : (w i n : ℕ) → i ≤ w → 0 < n → n < 2 ^ i → (q : ℕ)

@@ -10,7 +10,7 @@ use borrow.Author.Tests.{eq-eqb, ne-eqb}
 use lib.Bits.{bitAnd, bitOr}
 use lib.Count.{trailingZeros}
 use lib.Dec.{eqb}
-use lib.ListN.{length, getD, set, replicate, length-set, List·getD-map}
+use lib.ListN.{length, getD, set, replicate, List·getD-map}
 use lib.Seq.{getD-set-same, getD-set-other}
 use Rattle.table.specs.Limits.{maxStates, maxLetters, noTransition}
 use Rattle.table.specs.BitSet.{member, collect, some}
@@ -22,7 +22,7 @@ use Rattle.table.proofs.BitSet.{member-none}
 use Rattle.table.proofs.ByRelation.{relations-ext, relations-none, relations-union}
 use Rattle.table.proofs.Holding.{blank-row}
 use Rattle.table.proofs.Tests.{same-below}
-use Rattle.table.proofs.LowestBit.{lowest-inside, lowest-stands, cleared-others, cleared-small}
+use Rattle.table.proofs.LowestBit.{lowest-inside, lowest-stands, cleared-others}
 
 -- THE RELATIONS OF ONE TRANSITION
 
@@ -66,34 +66,30 @@ word-more row r x inside none small = relations-union _ _ ∙ relations-ext _ _ 
 
 -- `made` is the word of the row, and the places of the bits that still stand are blank
 pub record WordSoFar (row : List ℕ) (rest made : ℕ) : Type 0 where
-  pub size : length row ≡ maxStates
-  pub small : rest < 2 ^ maxStates
   pub blank : (r : ℕ) → member rest r ≡ true → getD row r noTransition ≡ noTransition
   pub is : made ≡ rowWord row
 
 -- at the start
-pub word-start : (standing : ℕ) → standing < 2 ^ maxStates → WordSoFar blankRow standing 0
-word-start standing h = record { size = refl; small = h; blank = λ r m. blank-row r; is = sym word-blank }
+pub word-start : (standing : ℕ) → WordSoFar blankRow standing 0
+word-start standing = record { blank = λ r m. blank-row r; is = sym word-blank }
 
 -- the transition of the lowest standing bit is there
-pub word-take : {row : List ℕ} {rest made : ℕ} → WordSoFar row rest made → 0 < rest → (width : ℕ) → maxStates ≤ width → (x relations bits : ℕ)
-    → x < 16 → relations ≡ 1 + 2 * x → bits ≡ spread 0 relations
+pub word-take : {row : List ℕ} {rest made : ℕ} → WordSoFar row rest made → length row ≡ maxStates → rest < 2 ^ maxStates → 0 < rest
+    → (width : ℕ) → maxStates ≤ width → (x relations bits : ℕ) → x < 16 → relations ≡ 1 + 2 * x → bits ≡ spread 0 relations
     → let r = trailingZeros width rest in
     WordSoFar (set row r x) (bitAnd rest (rest - 1)) (bitOr made (bits * 2 ^ r % 2 ^ 64))
-word-take {row} {rest} {made} v some width wide x relations bits small are is = record {
-  size = length-set row r x ∙ v .size;
-  small = omega (arith, cleared-small rest, v .small);
-  blank = λ q m. let (stands, other) = cleared-others width maxStates rest wide some (v .small) q m in
+word-take {row} {rest} {made} v size few some width wide x relations bits small are is = record {
+  blank = λ q m. let (stands, other) = cleared-others width maxStates rest wide some few q m in
       getD-set-other row r q x noTransition other ∙ v .blank q stands;
   is = ap₂ bitOr (v .is) (ap (λ (y : ℕ). y * 2 ^ r % 2 ^ 64) (is ∙ ap (spread 0) are) ∙ spread-moved r (1 + 2 * x) inside (omega arith))
-      ∙ word-more row r x (omega (arith, v .size, inside)) (v .blank r (lowest-stands width maxStates rest wide some (v .small))) (omega arith);
+      ∙ word-more row r x (omega (arith, size, inside)) (v .blank r (lowest-stands width maxStates rest wide some few)) (omega arith);
 }
   where
     r : ℕ
     r = trailingZeros width rest
 
     inside : r < maxStates
-    inside = lowest-inside width maxStates rest wide some (v .small)
+    inside = lowest-inside width maxStates rest wide some few
 
 -- WORDS BESIDE ROWS
 

@@ -9,12 +9,20 @@ use Rattle.table.specs.Held.{held}
 use Rattle.table.specs.Lookup.{gridWords}
 use Rattle.table.specs.declared.header.Header.{Header}
 
--- the numbers and the words are those of the well-formed rule R, which is within the limits
-pub record HoldsRule (R : Rule) (header : Header) (words : List (List ℕ)) : Type 0 where
-  pub numbers : header ≡ record { states = R .states; letters = R .letters; sets = R .sets; start = R .start }
-  pub images : words ≡ gridWords (held (R .grid))
+-- the rule R is well-formed and within the limits
+pub record WithinLimits (R : Rule) : Type 0 where
   pub well : WellFormed R
   pub states : R .states ≤ maxStates
   pub letters : R .letters ≤ maxLetters
   pub some-set : 1 ≤ R .sets
   pub sets : R .sets ≤ maxSets
+
+-- the numbers are those of R
+abbrev pub NumbersOf : Rule → Header → Type 0
+NumbersOf R header = header ≡ record { states = R .states; letters = R .letters; sets = R .sets; start = R .start }
+
+-- the numbers and the words are those of R, which is within the limits
+pub record HoldsRule (R : Rule) (header : Header) (words : List (List ℕ)) : Type 0 where
+  pub numbers : NumbersOf R header
+  pub images : words ≡ gridWords (held (R .grid))
+  pub limits : WithinLimits R

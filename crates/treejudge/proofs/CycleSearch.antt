@@ -59,7 +59,7 @@ module _ {R : Rule} {u v : List ℕ} {tables : Tables} {k : ℕ} {x y : CountedR
 
   -- there are fewer than 2 ^ 63 trees
   repeat : (entry : ℕ) × (period : ℕ) × FirstRepeat (roundTree R u v) entry period × (entry + period < 2 ^ 63)
-  repeat = let H = S .held .holds in repeat-exists R (H .well) (H .some-set) (H .states) (H .sets) u v
+  repeat = let H = S .held .holds in repeat-exists R (H .limits .well) (H .limits .some-set) (H .limits .states) (H .limits .sets) u v
 
   -- so lam fits, and the loop ends
   pub lam-fits : lam + 1 < 2 ^ 64

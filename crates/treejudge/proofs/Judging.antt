@@ -27,7 +27,7 @@ use Rattle.tree.specs.PackedRows.{rowsIn}
 use Rattle.tree.proofs.StartCall.{start-rows-are}
 use Rattle.treejudge.specs.JudgeCall.{noName, treeAnswer, namesAfter, Judged}
 use Rattle.word.specs.WalkTables.{Tables, Tabled, TablesFor}
-use Rattle.treejudge.specs.Reading.{WithinLimits, Reads, ReadsTo}
+use Rattle.treejudge.specs.Reading.{HasSets, Reads, ReadsTo}
 use Rattle.treejudge.specs.Cycles.{AtRound}
 use Rattle.treejudge.specs.Repeats.{RepeatOf}
 use Rattle.treejudge.specs.NodeNames.{Lowest, SomeNode, IsName}
@@ -52,19 +52,15 @@ judged-tail R u v w names answer after left J = rw (tail-left u v w left) J
 
 module _ (R : Rule) (header : Header) (words : List (List ℕ)) (h : HoldsRule R header words) where
   -- the rule is within the limits
-  within-limits : WithinLimits R (header .sets)
-  within-limits = record {
+  has-sets : HasSets R (header .sets)
+  has-sets = record {
     number = rw (h .numbers);
-    well = h .well;
-    states = h .states;
-    letters = h .letters;
-    some-set = h .some-set;
-    sets = h .sets;
+    limits = h .limits;
   }
 
   -- so its number of sets fits in a byte
   pub sets-small : header .sets < 256
-  sets-small = rw (h .numbers) (omega (arith, h .sets))
+  sets-small = rw (h .numbers) (omega (arith, h .limits .sets))
 
   module _ (rows : List ℕ) (made : rowsIn rows ≡ startRows (header .start)) (u v w : List ℕ) (left : w ≡ lettersLeft false u v 0)
       (lead : Every (λ a. a < header .letters) u) (tail : Every (λ a. a < header .letters) v) (tables : Tables)
@@ -78,10 +74,10 @@ module _ (R : Rule) (header : Header) (words : List (List ℕ)) (h : HoldsRule R
     pub lead-reads : (x : CountedRows) → x ≡ record { rows = rows; count = 1 } → Reads R (startTree R) tables (header .sets) w x
     unfolding startTree size
     lead-reads x is = rw is (record {
-      holds = within-limits;
+      holds = has-sets;
       tabled = rw (lead-left u v w left) at (tabled .0);
       tree = record {
-        fits = start-is-tree R (h .well) (h .some-set);
+        fits = start-is-tree R (h .limits .well) (h .limits .some-set);
         nodes = refl;
         are = rw (made, h .numbers) (start-rows-are R);
       };
@@ -92,7 +88,7 @@ module _ (R : Rule) (header : Header) (words : List (List ℕ)) (h : HoldsRule R
         → (v′ : List ℕ) → v′ ≡ lettersLeft true u v 0 → AtRound R u v′ tables (header .sets) 0 first
     unfolding ReadsTo roundTree rounds
     first-round first to v′ left′ = record {
-      holds = within-limits;
+      holds = has-sets;
       tabled = rw (tail-left u v v′ left′) at (tabled .1);
       tree = rw (append-nil u, lead-left u v w left) (to R (startTree R) (lead-reads _ refl));
     }

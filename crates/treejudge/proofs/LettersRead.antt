@@ -22,7 +22,7 @@ use Rattle.tree.specs.declared.rows.Stepped.{Stepped}
 use Rattle.tree.proofs.PassLoop.{two-sides}
 use Rattle.tree.proofs.StepOfRows.{rows-are-nodes, sets-fit, steps-to}
 use Rattle.word.specs.WalkTables.{Tables, Tabled}
-use Rattle.treejudge.specs.Reading.{WithinLimits, HoldsTree, treeOn, Stands, Laid, Reads, Readable, ReadsTo}
+use Rattle.treejudge.specs.Reading.{HasSets, HoldsTree, treeOn, Stands, Laid, Reads, Readable, ReadsTo}
 use Rattle.treejudge.specs.declared.letters.CountedRows.{CountedRows}
 use Rattle.treejudge.specs.declared.letters.OnSide.{OnSide}
 
@@ -32,28 +32,28 @@ use Rattle.treejudge.specs.declared.letters.OnSide.{OnSide}
 pub tree-small : (R : Rule) (T : Tree) (x : CountedRows) → R .states ≤ maxStates → HoldsTree R T x → x .count ≤ maxStates
 tree-small R T x h tree = omega (arith, tree .nodes, few-nodes (R .states) (R .sets) T (tree .fits))
 
-module _ (R : Rule) (T : Tree) (tables : Tables) (k : ℕ) (holds : WithinLimits R k)
+module _ (R : Rule) (T : Tree) (tables : Tables) (k : ℕ) (holds : HasSets R k)
     (sides : List (List ℕ)) (from count : ℕ) (tree : HoldsTree R T (record { rows = getD sides from []; count = count })) where
   -- a letter can be read from them
   pub letter-ready : TwoSides sides → from < 2 → Steppable sides from count
   letter-ready arrays side = record {
     arrays = arrays;
     side = side;
-    few = tree-small R T _ (holds .states) tree;
-    fits = sets-fit (R .states) (R .sets) (rowsOn sides from count) T (holds .sets) (tree .fits) (tree .are);
+    few = tree-small R T _ (holds .limits .states) tree;
+    fits = sets-fit (R .states) (R .sets) (rowsOn sides from count) T (holds .limits .sets) (tree .fits) (tree .are);
   }
 
   module _ (a : ℕ) (has : Tabled R tables a) (next : Stepped) (after : List (List ℕ))
       (step : Stepping (steppedRows (getD tables a []) k (rowsOn sides from count)) from sides next after) where
     -- it is the letter's step
     pub letter-steps : StepsTo R a T (rowsOn after (1 - from) (next .count)) next
-    letter-steps = steps-to (getD tables a []) k from (rowsOn sides from count) sides after next step R a T (holds .well)
-        (holds .states) (holds .sets) (holds .number) (tree .fits) (has .entries) (tree .are)
+    letter-steps = steps-to (getD tables a []) k from (rowsOn sides from count) sides after next step R a T (holds .limits .well)
+        (holds .limits .states) (holds .limits .sets) (holds .number) (tree .fits) (has .entries) (tree .are)
 
     -- and gives the rows of the next tree
     pub letter-holds : HoldsTree R (nextTree R a T) (record { rows = getD after (1 - from) []; count = next .count })
     letter-holds = record {
-      fits = next-is-tree R (holds .well) (holds .some-set) a T (tree .fits);
+      fits = next-is-tree R (holds .limits .well) (holds .limits .some-set) a T (tree .fits);
       nodes = letter-steps .count ∙ rows-are-nodes (rowsOn after (1 - from) (next .count)) (nextTree R a T) (letter-steps .are);
       are = letter-steps .are;
     }
@@ -94,7 +94,7 @@ module _ (tables : Tables) (k : ℕ) (w : List ℕ) (x : CountedRows) where
   -- each letter has its place in the tables
   pub letter-small : Readable tables k w x → (at : ℕ) → at < length w → getD w at 0 < maxLetters
   unfolding Readable
-  letter-small (R, T, reads) at h = omega (arith, every-at (Tabled R tables) w at 0 (reads .tabled) h .below, reads .holds .letters)
+  letter-small (R, T, reads) at h = omega (arith, every-at (Tabled R tables) w at 0 (reads .tabled) h .below, reads .holds .limits .letters)
 
   module _ (at : ℕ) (sides : List (List ℕ)) (side count : ℕ) (v : ReadUpTo tables k w x at sides side count) where
     -- at the end

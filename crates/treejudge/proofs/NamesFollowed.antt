@@ -19,7 +19,7 @@ use Rattle.tree.specs.RecordRows.{places}
 use Rattle.tree.specs.Sides.{rowsOn, TwoSides, Steppable, Stepping}
 use Rattle.tree.specs.declared.rows.Stepped.{Stepped}
 use Rattle.word.specs.WalkTables.{Tables, Tabled}
-use Rattle.treejudge.specs.Reading.{WithinLimits, HoldsTree, treeOn, Stands, Readable}
+use Rattle.treejudge.specs.Reading.{HasSets, HoldsTree, treeOn, Stands, Readable}
 use Rattle.treejudge.specs.Names.{Followed, treeOf, followedOn, followedBy, begunAt, begunOn, Follows, FollowsOn, Followable, FollowsTo}
 use Rattle.treejudge.specs.declared.letters.CountedRows.{CountedRows}
 use Rattle.treejudge.specs.declared.letters.OnSide.{OnSide}
@@ -46,7 +46,7 @@ begun-there sides x tree there now is = rw (is, ← there)
 
 -- ONE LETTER
 
-module _ (R : Rule) (T : Tree) (before : List ℕ) (tables : Tables) (k : ℕ) (holds : WithinLimits R k)
+module _ (R : Rule) (T : Tree) (before : List ℕ) (tables : Tables) (k : ℕ) (holds : HasSets R k)
     (sides : List (List ℕ)) (side count kept accepted : ℕ)
     (v : Follows R T before (record { rows = getD sides side []; count = count; kept = kept; accepted = accepted }))
     (a : ℕ) (has : Tabled R tables a) (next : Stepped) (after : List (List ℕ))
@@ -55,19 +55,19 @@ module _ (R : Rule) (T : Tree) (before : List ℕ) (tables : Tables) (k : ℕ) (
   pub letter-follows : Follows R T (before ++ (a ∷ [])) (followedBy (getD after (1 - side) []) next kept accepted)
   unfolding followedBy readLetters
   letter-follows =
-      let few : R .states < noNode = omega (arith, holds .states) in
+      let few : R .states < noNode = omega (arith, holds .limits .states) in
       let s = letter-steps R (readLetters R before T) tables k holds sides side count (v .tree) a has next after step in
       record {
         first = v .first;
         tree = rw read-append (letter-holds R (readLetters R before T) tables k holds sides side count (v .tree) a has next after step);
-        kept = rw (s .olds, s .stable, v .kept) (sym (follow-kept R (holds .well) (holds .some-set) few T (v .first) before a));
+        kept = rw (s .olds, s .stable, v .kept) (sym (follow-kept R (holds .limits .well) (holds .limits .some-set) few T (v .first) before a));
         accepted = rw (s .olds, s .stable, s .accepting, v .kept, v .accepted)
-            (sym (follow-accepted R (holds .well) (holds .some-set) few T (v .first) before a));
+            (sym (follow-accepted R (holds .limits .well) (holds .limits .some-set) few T (v .first) before a));
       }
 
   -- and from its answer the next one can be read
   pub letter-few : next .count ≤ maxStates
-  letter-few = tree-small R _ _ (holds .states)
+  letter-few = tree-small R _ _ (holds .limits .states)
       (letter-holds R (readLetters R before T) tables k holds sides side count (v .tree) a has next after step)
 
 -- LETTER BY LETTER

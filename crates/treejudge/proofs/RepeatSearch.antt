@@ -42,7 +42,7 @@ pub searched : (R : Rule) (u v : List ℕ) (tables : Tables) (k : ℕ) (first : 
 unfolding CycleFound
 searched R u v tables k first at cycle found =
     let t = at .holds in
-    let (e, p, F, _) = repeat-exists R (t .well) (t .some-set) (t .states) (t .sets) u v in
+    let (e, p, F, _) = repeat-exists R (t .limits .well) (t .limits .some-set) (t .limits .states) (t .limits .sets) u v in
     (e, p, record { place = at; repeat = F; cycle = found R u e p at F })
 
 module _ (R : Rule) (u v : List ℕ) (tables : Tables) (k e p : ℕ) (first : CountedRows) (cycle : Cycle)
@@ -64,9 +64,9 @@ module _ (R : Rule) (u v : List ℕ) (tables : Tables) (k e p : ℕ) (first : Co
         tree = roundTree R u v (cycle .power - 1);
         holds = C .held;
         node = node-of;
-        lowest = λ j m low. rw (is, C .back) (verdict-yes R u v e p (S .repeat) (cycle .power - 1) (C .late) (t .well) (t .some-set)
+        lowest = λ j m low. rw (is, C .back) (verdict-yes R u v e p (S .repeat) (cycle .power - 1) (C .late) (t .limits .well) (t .limits .some-set)
             j (node-of j m) (rw (C .accepted) at m) (rw (C .accepted) at low));
-        none = λ empty w W. verdict-no R u v e p (S .repeat) (cycle .power - 1) (C .late) (t .well) (t .some-set)
+        none = λ empty w W. verdict-no R u v e p (S .repeat) (cycle .power - 1) (C .late) (t .limits .well) (t .limits .some-set)
             (sym (C .accepted) ∙ empty) w (rw (is, C .back) at W);
       }
 
@@ -143,10 +143,10 @@ module _ (R : Rule) (u head rest : List ℕ) (tables : Tables) (k : ℕ) (first 
                   holds = cut-holds;
                   node = node;
                   lowest = λ j m low. cut-first R u head rest meet entry F late _
-                      (verdict-yes R (u ++ head) (rest ++ head) 0 1 G 0 (omega arith) (h .well) (h .some-set) j (node j m)
+                      (verdict-yes R (u ++ head) (rest ++ head) 0 1 G 0 (omega arith) (h .limits .well) (h .limits .some-set) j (node j m)
                       (rw accepted-is at m) (rw accepted-is at low));
                   none = λ empty. cut-none R u head rest meet entry F late
-                      (verdict-no R (u ++ head) (rest ++ head) 0 1 G 0 (omega arith) (h .well) (h .some-set) (sym accepted-is ∙ empty));
+                      (verdict-no R (u ++ head) (rest ++ head) 0 1 G 0 (omega arith) (h .limits .well) (h .limits .some-set) (sym accepted-is ∙ empty));
                 }
 
             -- as the comparison of t(0) and t(1) says
@@ -154,7 +154,7 @@ module _ (R : Rule) (u head rest : List ℕ) (tables : Tables) (k : ℕ) (first 
                 → still ≡ sameTrees first (treeOf second)
                 → RepeatOf R u (head ++ rest) (record { tree = cut; accepted = again .accepted; entry = cond (not still) 1 0; period = 1 })
             repeat-told true is = repeat-at 0 (repeat-first R u head rest meet
-                (same-rows-same R (t 0) (t 1) first _ (A .holds .sets) (A .tree) second-holds (sym is))) (omega arith)
+                (same-rows-same R (t 0) (t 1) first _ (A .holds .limits .sets) (A .tree) second-holds (sym is))) (omega arith)
             repeat-told false is = repeat-at 1 (repeat-second R u head rest meet
                 (λ e. clash (sym is) (same-trees-same R (t 1) first _ (rw e at (A .tree)) second-holds))) (omega arith)
 
@@ -166,4 +166,4 @@ module _ (R : Rule) (u head rest : List ℕ) (tables : Tables) (k : ℕ) (first 
               → RepeatOf R u (head ++ rest) (record { tree = cut; accepted = again .accepted; entry = entry; period = period })
           repeat-early false still entry period m q e none one = absurd (omega arith)
           repeat-early true still entry period m q e some one = rw (e, one) (repeat-told
-              (same-rows-same R (s 0) (s 1) cut _ (A .holds .sets) cut-holds again-holds (sym m)) still q)
+              (same-rows-same R (s 0) (s 1) cut _ (A .holds .limits .sets) cut-holds again-holds (sym m)) still q)

@@ -37,11 +37,11 @@ module _ {R : Rule} {u v : List ℕ} {tables : Tables} {k i : ℕ} {x : CountedR
   module _ {j : ℕ} {y : CountedRows} (Y : AtRound R u v tables k j y) where
     -- two trees can be compared
     pub both-small : (x .count ≤ maxStates) × (y .count ≤ maxStates)
-    both-small = (tree-small R _ x (X .holds .states) (X .tree), tree-small R _ y (X .holds .states) (Y .tree))
+    both-small = (tree-small R _ x (X .holds .limits .states) (X .tree), tree-small R _ y (X .holds .limits .states) (Y .tree))
 
     -- and are the same if their rows are
     pub rows-same : sameTrees x y ≡ true → roundTree R u v i ≡ roundTree R u v j
-    rows-same same = same-rows-same R _ _ x y (X .holds .sets) (X .tree) (Y .tree) same
+    rows-same same = same-rows-same R _ _ x y (X .holds .limits .sets) (X .tree) (Y .tree) same
 
     pub rows-differ : sameTrees x y ≡ false → roundTree R u v i ≡ roundTree R u v j → ⊥
     rows-differ differ e = clash differ (same-trees-same R _ x y (X .tree) (rw e (Y .tree)))

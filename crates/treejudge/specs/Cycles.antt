@@ -8,13 +8,13 @@ use Rattle.word.specs.Walk.{rounds}
 use Rattle.history.specs.Rounds.{roundTree, FirstRepeat}
 use Rattle.history.specs.Following.{acceptedMap}
 use Rattle.word.specs.WalkTables.{Tables, Tabled}
-use Rattle.treejudge.specs.Reading.{WithinLimits, HoldsTree}
+use Rattle.treejudge.specs.Reading.{HasSets, HoldsTree}
 use Rattle.treejudge.specs.declared.letters.CountedRows.{CountedRows}
 use Rattle.treejudge.specs.declared.cycle.Cycle.{Cycle}
 
 -- the walk u v v v … is read, and x is its tree t(r)
 pub record AtRound (R : Rule) (u v : List ℕ) (tables : Tables) (k r : ℕ) (x : CountedRows) : Type 0 where
-  pub holds : WithinLimits R k
+  pub holds : HasSets R k
   pub tabled : Every (Tabled R tables) v
   pub tree : HoldsTree R (roundTree R u v r) x
 

@@ -13,7 +13,7 @@ use Rattle.history.specs.Following.{carried, keptMap, acceptedMap}
 use Rattle.tree.specs.PackedRows.{rowsIn}
 use Rattle.tree.specs.declared.rows.Stepped.{Stepped}
 use Rattle.word.specs.WalkTables.{Tables, Tabled}
-use Rattle.treejudge.specs.Reading.{WithinLimits, HoldsTree}
+use Rattle.treejudge.specs.Reading.{HasSets, HoldsTree}
 use Rattle.treejudge.specs.declared.letters.CountedRows.{CountedRows}
 use Rattle.treejudge.specs.declared.follow.FollowedOn.{FollowedOn}
 
@@ -64,7 +64,7 @@ pub record Follows (R : Rule) (T : Tree) (w : List ℕ) (x : Followed) : Type 0 
 
 -- the letters w are read on, behind others
 pub record FollowsOn (R : Rule) (T : Tree) (before : List ℕ) (tables : Tables) (k : ℕ) (w : List ℕ) (x : Followed) : Type 0 where
-  pub holds : WithinLimits R k
+  pub holds : HasSets R k
   pub tabled : Every (Tabled R tables) w
   pub follows : Follows R T before x
 

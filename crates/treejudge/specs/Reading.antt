@@ -2,11 +2,11 @@
 use mathlib.Core.Path.{_≡_}
 use mathlib.Core.Bool.{true}
 use mathlib.Core.List.{List, []}
-use Prim.Native.Nat.{ℕ, _≤_, _<_}
+use Prim.Native.Nat.{ℕ, _<_}
 use lib.ListN.{getD, take}
-use Rattle.table.specs.Limits.{maxStates, maxLetters, maxSets}
 use Rattle.table.specs.Rule.{Rule}
-use Rattle.table.specs.Table.{Every, WellFormed}
+use Rattle.table.specs.Table.{Every}
+use Rattle.table.specs.HeldRule.{WithinLimits}
 use Rattle.word.specs.WalkTables.{Tables, Tabled}
 use Rattle.history.specs.Forest.{size}
 use Rattle.history.specs.Tree.{Tree, isTree}
@@ -17,14 +17,10 @@ use Rattle.tree.specs.Sides.{TwoSides}
 use Rattle.treejudge.specs.declared.letters.CountedRows.{CountedRows}
 use Rattle.treejudge.specs.declared.letters.OnSide.{OnSide}
 
--- the rule R is well-formed and within the limits, and has k sets
-pub record WithinLimits (R : Rule) (k : ℕ) : Type 0 where
+-- the rule R is within the limits, and has k sets
+pub record HasSets (R : Rule) (k : ℕ) : Type 0 where
   pub number : R .sets ≡ k
-  pub well : WellFormed R
-  pub states : R .states ≤ maxStates
-  pub letters : R .letters ≤ maxLetters
-  pub some-set : 1 ≤ R .sets
-  pub sets : R .sets ≤ maxSets
+  pub limits : WithinLimits R
 
 -- the rows that count are those of the tree T over the rule
 pub record HoldsTree (R : Rule) (T : Tree) (x : CountedRows) : Type 0 where
@@ -47,7 +43,7 @@ pub record Laid (tree : CountedRows) (sides : List (List ℕ)) : Type 0 where
 
 -- the letters w are read from T
 pub record Reads (R : Rule) (T : Tree) (tables : Tables) (k : ℕ) (w : List ℕ) (x : CountedRows) : Type 0 where
-  pub holds : WithinLimits R k
+  pub holds : HasSets R k
   pub tabled : Every (Tabled R tables) w
   pub tree : HoldsTree R T x
 

@@ -135,4 +135,4 @@ tables-for words u v lead-letters letters lead-are are tables of R is lead tail 
 -- the letters of a walk over a read table are within the limit
 pub letters-small : {R : Rule} {header : Header} {words : List (List ℕ)} → HoldsRule R header words → (w : List ℕ)
     → Every (λ a. a < header .letters) w → Every (λ a. a < maxLetters) w
-letters-small h w below = every-weaker _ _ w (λ a less. omega (arith, ap (λ (x : Header). x .letters) (h .numbers), h .letters)) below
+letters-small h w below = every-weaker _ _ w (λ a less. omega (arith, ap (λ (x : Header). x .letters) (h .numbers), h .limits .letters)) below

@@ -21,7 +21,7 @@ abbrev μ-loop : tie.MeasureT-loop
 μ-loop s standing k row₀ word₀ at₀ rest₀ made₀ row word at rest made = ones rest
 
 loop-holds : tie.Need-loop-holds Inv-loop μ-loop
-loop-holds c = rw (c .before .pre .1) (row-start _ _ _ _ _ (c .before .pre .0 .0), word-start _ (c .before .pre .0 .0))
+loop-holds c = rw (c .before .pre .1) (row-start _ _ _ _ _ (c .before .pre .0 .0), word-start _)
 
 -- a u16 has 16 bits, more than a row has places
 cast-r : tie.Need-cast-r Inv-loop μ-loop
@@ -93,7 +93,7 @@ loop-again c =
     let inv = l .before .loop .inv in
     let h = l .loop-test .taken in (
       row-take (inv .0) h 16 (omega arith) _ _ (rw (told .before .sets .given .1) at (r .read-byte .ensures)),
-      word-take (inv .1) (row-some (inv .0) h) 16 (omega arith) _ _ _ (few told) (rw (c .before .widen .ensures)) (c .spread .ensures),
+      word-take (inv .1) (inv .0 .size) (inv .0 .small) (row-some (inv .0) h) 16 (omega arith) _ _ _ (few told) (rw (c .before .widen .ensures)) (c .spread .ensures),
     )
 
 returns-2 : tie.Need-returns-2 Inv-loop μ-loop

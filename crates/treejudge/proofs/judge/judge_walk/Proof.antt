@@ -115,7 +115,7 @@ node-name-requires c κs =
     let tail = found .before .before in
     let pre = known (made-tables tail) in
     let R = pre .rule in
-    some-node R _ _ _ (found .find-repeat .ensures R _ (first-place tail R (pre .holds))) [] (pre .holds .states)
+    some-node R _ _ _ (found .find-repeat .ensures R _ (first-place tail R (pre .holds))) [] (pre .holds .limits .states)
     (c .before .if1 .left) _ (c .first-node .ensures)
 
 store-name-requires : tie.Need-store-name-requires
@@ -138,7 +138,7 @@ returns-2 c R holds =
     let found = told .before .before .before in
     let tail = found .before .before in
     judged-tail R _ _ _ _ _ _ (tail .letters-left2 .ensures)
-    (says-yes R _ _ _ (found .find-repeat .ensures R _ (first-place tail R holds)) _ (holds .states) (told .before .if1 .left)
+    (says-yes R _ _ _ (found .find-repeat .ensures R _ (first-place tail R holds)) _ (holds .limits .states) (told .before .if1 .left)
     _ (told .first-node .ensures) _ (named .node-name .ensures) _ (stored .store-name .ensures))
 
 pub judge-walk-spec : {M : Type 1} → statement M

@@ -55,7 +55,7 @@ unfolding FirstRound
 begin-requires c κs =
     let cut = c .before in
     let (R, u, A) = cut .before .before .before .before .before .before .before .before .pre in
-    rw (cut .taken .ensures) at (tree-small R _ _ (A .holds .states) (cut-holds R u _ _ _ _ _ A _ (to-cut cut)))
+    rw (cut .taken .ensures) at (tree-small R _ _ (A .holds .limits .states) (cut-holds R u _ _ _ _ _ A _ (to-cut cut)))
 
 follow-letters-requires : tie.Need-follow-letters-requires
 unfolding FirstRound Followable
@@ -76,8 +76,8 @@ same-tree-requires c κs =
     let (on, to) = second .follow-letters .ensures in
     let from = begun begin in (
       (
-        tree-small R _ _ (A .holds .states) (A .tree),
-        tree-small R _ _ (A .holds .states) (second-holds R u _ _ _ _ _ A _ (to-cut cut) _ from _ to),
+        tree-small R _ _ (A .holds .limits .states) (A .tree),
+        tree-small R _ _ (A .holds .limits .states) (second-holds R u _ _ _ _ _ A _ (to-cut cut) _ from _ to),
       ),
       on,
     )
@@ -104,8 +104,8 @@ same-tree-requires-2 c κs =
     let (on, back) = again .follow-letters2 .ensures in
     let from = begun begin in (
       (
-        tree-small R _ _ (A .holds .states) (cut-holds R u _ _ _ _ _ A _ (to-cut cut)),
-        tree-small R _ _ (A .holds .states)
+        tree-small R _ _ (A .holds .limits .states) (cut-holds R u _ _ _ _ _ A _ (to-cut cut)),
+        tree-small R _ _ (A .holds .limits .states)
             (again-holds R u _ _ _ _ _ A _ (to-cut cut) _ from _ (second .follow-letters .ensures .1) _ back),
       ),
       on,
