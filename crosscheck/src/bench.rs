@@ -19,6 +19,10 @@ use std::time::Instant;
 const SHORT_WALKS: usize = 2_000;
 const REPETITIONS: usize = 9;
 
+/// The longest tail that the library reads as the tuned judges do: it cuts
+/// longer ones and reads fewer letters of them.
+const UNCUT_TAIL: usize = 63;
+
 /// A list of inputs under a name.
 struct Inputs {
     name: &'static str,
@@ -68,6 +72,17 @@ fn long_walks(random: &mut Random) -> Inputs {
         }
     }
     Inputs { name: "long", walks }
+}
+
+/// The long walks with their tails' first letters alone, so that library and
+/// tuned judges step the letters of u and little else.
+fn uncut_walks(long: &Inputs) -> Inputs {
+    let uncut = |walk: &Walk| Walk {
+        table: walk.table.clone(),
+        u: walk.u.clone(),
+        v: walk.v[..UNCUT_TAIL].to_vec(),
+    };
+    Inputs { name: "uncut", walks: long.walks.iter().map(uncut).collect() }
 }
 
 /// The jobs of hard.txt.
@@ -202,6 +217,7 @@ fn measure(inputs: &Inputs, library: Option<&'static dyn Calls>) -> bool {
 pub fn bench(folder: Option<&str>, slow: bool) -> bool {
     let mut random = Random::new(crate::SEED);
     let mut lists = vec![short_walks(&mut random), long_walks(&mut random)];
+    lists.push(uncut_walks(&lists[1]));
     if let Some(folder) = folder {
         lists.push(hard_walks(folder, false));
         if slow {
