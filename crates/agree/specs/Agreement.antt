@@ -4,6 +4,7 @@ use mathlib.Core.List.{List}
 use Prim.Native.Nat.{ℕ}
 use Rattle.table.specs.Outcome.{accepted}
 use Rattle.table.specs.Rule.{Rule}
+use Rattle.table.specs.Table.{readRule}
 use Rattle.word.specs.Run.{AcceptingRun}
 use Rattle.word.specs.Verdict.{Decides}
 use Rattle.treejudge.specs.JudgeCall.{treeOutcome, TreeAnswers}
@@ -11,21 +12,26 @@ use Rattle.treejudge.specs.declared.judge.TreeAnswer.{TreeAnswer}
 use Rattle.plain.specs.PlainCall.{plainOutcome, PlainAnswers}
 use Rattle.plain.specs.declared.judge.PlainAnswer.{PlainAnswer}
 
--- two answers to one table and one walk, with any buffers, are right and agree
-pub record Agreement (table u v names scratch : List ℕ) (tree : TreeAnswer) (plain : PlainAnswer) : Type 0 where
-  -- "if its call is accepted, the tree judge says yes exactly when some endless run of the rule, over the lead-in followed by the
-  -- tail for ever, goes through every accepting set infinitely often, and no otherwise"
-  pub tree-right : (R : Rule) → treeOutcome table u v names ≡ accepted R → Decides (tree .verdict) (AcceptingRun R u v)
-  -- "If its own call is accepted, the plain judge .. says yes exactly then too, and no otherwise"
-  pub plain-right : (R : Rule) → plainOutcome table u v scratch ≡ accepted R → Decides (plain .verdict) (AcceptingRun R u v)
-  -- "so where both calls are accepted, the two say the same"
-  pub same : (R S : Rule) → treeOutcome table u v names ≡ accepted R → plainOutcome table u v scratch ≡ accepted S
-      → tree .verdict ≡ plain .verdict
+-- a verdict on a table and a walk is right: there is the rule that the table is read as, and the verdict "says yes exactly when some
+-- endless run of the rule, over the lead-in followed by the tail for ever, goes through every accepting set infinitely often, and
+-- no otherwise"
+abbrev pub Right : List ℕ → List ℕ → List ℕ → ℕ → Type 0
+Right table u v verdict = (R : Rule) × (readRule table ≡ accepted R) × Decides verdict (AcceptingRun R u v)
 
--- DEMAND 3: whatever the table, the walk and the buffers, the answers that the two contracts allow are so
+-- two answers to one table and one walk are right and agree. A call is accepted where its number is 0.
+pub record Agreement (table u v : List ℕ) (tree : TreeAnswer) (plain : PlainAnswer) : Type 0 where
+  -- "if its call is accepted, the tree judge says yes exactly when .., and no otherwise"
+  pub tree-right : tree .number ≡ 0 → Right table u v (tree .verdict)
+  -- "If its own call is accepted, the plain judge, which builds no tree, says yes exactly then too, and no otherwise"
+  pub plain-right : plain .number ≡ 0 → Right table u v (plain .verdict)
+  -- "so where both calls are accepted, the two say the same"
+  pub same : tree .number ≡ 0 → plain .number ≡ 0 → tree .verdict ≡ plain .verdict
+
+-- DEMAND 3: "Whatever the rule table, whatever the walk and whatever the lent buffers hold": the answers that the two contracts allow
+-- are right and agree
 unfoldable pub Demand3 : Type 0
 Demand3 =
     (table u v names scratch : List ℕ) (tree : TreeAnswer) (after : List ℕ) (plain : PlainAnswer)
     → TreeAnswers (treeOutcome table u v names) u v names tree after
     → PlainAnswers (plainOutcome table u v scratch) u v plain
-    → Agreement table u v names scratch tree plain
+    → Agreement table u v tree plain

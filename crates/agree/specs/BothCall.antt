@@ -2,6 +2,7 @@
 use mathlib.Core.Path.{_≡_}
 use mathlib.Core.List.{List}
 use Prim.Native.Nat.{ℕ}
+use Rattle.table.specs.Outcome.{Tells}
 use Rattle.treejudge.specs.JudgeCall.{treeOutcome, TreeAnswers}
 use Rattle.plain.specs.PlainCall.{plainOutcome, PlainAnswers, scratchAfter}
 use Rattle.agree.specs.Agreement.{Agreement}
@@ -12,4 +13,18 @@ pub record BothAnswer (table u v names scratch : List ℕ) (answers : BothAnswer
   pub tree : TreeAnswers (treeOutcome table u v names) u v names (answers .tree) names′
   pub plain : PlainAnswers (plainOutcome table u v scratch) u v (answers .plain)
   pub clears : scratch′ ≡ scratchAfter (plainOutcome table u v scratch) scratch
-  pub agreement : Agreement table u v names scratch (answers .tree) (answers .plain)
+  pub agreement : Agreement table u v (answers .tree) (answers .plain)
+
+-- the contract determines the answers and both buffers
+abbrev pub BothDetermined : Type 0
+BothDetermined =
+    (table u v names scratch : List ℕ) (a b : BothAnswers) (names′ names″ scratch′ scratch″ : List ℕ)
+    → BothAnswer table u v names scratch a names′ scratch′ → BothAnswer table u v names scratch b names″ scratch″
+    → (a ≡ b) × (names′ ≡ names″) × (scratch′ ≡ scratch″)
+
+-- each number tells whether that judge's call is accepted
+abbrev pub BothNumbers : Type 0
+BothNumbers =
+    (table u v names scratch : List ℕ) (answers : BothAnswers) (names′ scratch′ : List ℕ)
+    → BothAnswer table u v names scratch answers names′ scratch′
+    → Tells (treeOutcome table u v names) (answers .tree .number) × Tells (plainOutcome table u v scratch) (answers .plain .number)

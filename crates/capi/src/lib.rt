@@ -78,10 +78,10 @@ pub extern "C" fn suthreldo_tree_judge<'a>(
 }
 
 #[no_mangle]
-pub extern "C" fn suthreldo_plain_judge(
+pub extern "C" fn suthreldo_plain_judge<'a>(
     table: &[u8],
-    u: &[u8],
-    v: &[u8],
+    u: &'a [u8],
+    v: &'a [u8],
     scratch: &mut [u8],
 ) -> PlainAnswer
     ensures { λ r. ⌜ PlainAnswers (plainOutcome (now (table .entry)) (now (u .entry)) (now (v .entry)) (now (scratch .entry)))

@@ -2,7 +2,7 @@
 pub mod TreeTheorem
 pub mod WitnessToLoop
 pub mod LoopToWitness
-pub mod Teeth
+pub mod WeakerVerdicts
 -- The first repeat.
 pub mod RepeatExists
 pub mod FirstRepeats

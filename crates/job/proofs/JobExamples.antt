@@ -10,7 +10,7 @@ use Rattle.word.specs.Walk.{lengthsFit, lettersBelow, askWalk}
 use Rattle.history.specs.Finding.{yes-node, no-node}
 use Rattle.treejudge.specs.Examples.{tableA}
 use Rattle.job.specs.Ascii.{ascii}
-use Rattle.job.specs.JobCall.{readPart, jobParts, judgeOutcome}
+use Rattle.job.specs.JobCall.{readPart, jobParts, judgeOutcome, jobOutcome}
 use Rattle.job.specs.JobCall.{digits, digitsWithin, line, yesNo, findingVerdict, dotted, nameText, nodeText, fiveLines, refusalText}
 use Rattle.job.specs.PrintedVerdict.{AcceptedJob}
 
@@ -37,8 +37,8 @@ unfolding ruleA tableA readRule askHeader inRange startFits readBody readGrid re
 reads-a = refl
 
 a-accepted : AcceptedJob jobA (record { table = tableA; lead = []; tail = 1 ∷ [] }) ruleA
-unfolding ruleA judgeOutcome askWalk lengthsFit lettersBelow
-a-accepted = record { parts = parts-of-a; rule = rw reads-a }
+unfolding ruleA jobOutcome judgeOutcome askWalk lengthsFit lettersBelow
+a-accepted = rw (parts-of-a, reads-a)
 
 -- "A, u empty, v = 1 prints, whole"
 lines-of-a : fiveLines 2 1 (yes-node (0 ∷ [])) 1 ≡ ascii "verdict yes\nentry 2\nperiod 1\nnode 0\nplain yes\n"

@@ -1,5 +1,5 @@
 -- The answers of the two judges as the text of a job: each way that their questions can go.
-use mathlib.Core.Path.{_≡_, refl, _∙_, ap, subst}
+use mathlib.Core.Path.{_≡_, refl, sym, _∙_, ap, subst}
 use mathlib.Core.Bool.{Bool, true, false, cond}
 use mathlib.Core.List.{List}
 use Prim.Native.Nat.{ℕ, _+_, _≤_}
@@ -11,8 +11,11 @@ use lib.Seq.{take-at}
 use Rattle.table.specs.Outcome.{Outcome, refused, accepted}
 use Rattle.table.specs.Rule.{Rule}
 use Rattle.table.specs.Storing.{stored}
+use Rattle.table.specs.Table.{readRule}
+use Rattle.table.proofs.RefusalNumbers.{IfRefused, NotZero, then-number, rule-number}
 use Rattle.history.specs.Finding.{Finding, yes-node, no-node}
 use Rattle.word.specs.Judging.{judgeQuestions}
+use Rattle.word.proofs.RefusalNumbers.{ask-walk-number}
 use Rattle.treejudge.specs.JudgeCall.{nameRoom, treeOutcome, treeAnswer, namesAfter, TreeAnswers}
 use Rattle.treejudge.specs.declared.judge.TreeAnswer.{TreeAnswer}
 use Rattle.plain.specs.PlainCall.{scratchLength, plainOutcome, PlainAnswers}
@@ -20,7 +23,6 @@ use Rattle.plain.specs.declared.judge.PlainAnswer.{PlainAnswer}
 use Rattle.job.specs.JobCall.{judgeOutcome, yesNo, findingVerdict, fiveLines, refusalText, textOf, PartsAnswers}
 use Rattle.job.specs.TextCode.{findingOf}
 use Rattle.job.specs.declared.call.Text.{Text}
-use Rattle.job.proofs.RefusalNumbers.{IfRefused, judge-number}
 
 -- THE QUESTIONS
 
@@ -32,6 +34,11 @@ tree-outcome table u v names h = rw (le-leb nameRoom (length names) h)
 pub plain-outcome : (table u v scratch : List ℕ) → scratchLength ≤ length scratch → plainOutcome table u v scratch ≡ judgeOutcome table u v
 unfolding plainOutcome judgeQuestions judgeOutcome
 plain-outcome table u v scratch h = rw (le-leb scratchLength (length scratch) h)
+
+-- none of them has the number 0
+pub judge-number : (table u v : List ℕ) → IfRefused NotZero (judgeOutcome table u v)
+unfolding judgeOutcome
+judge-number table u v = then-number NotZero (readRule table) _ (rule-number table) (λ R. ask-walk-number (R .letters) u v (accepted R) tt)
 
 -- THE FINDING
 
@@ -90,9 +97,9 @@ module _ (u v names : List ℕ) (answer : TreeAnswer) (after : List ℕ) where
 
   -- the number 0 is none, and the five lines say what both judges answer
   answer-judged : (o : Outcome Rule) (text : Text) (plain : PlainAnswer) → TreeAnswers o u v names answer after → PlainAnswers o u v plain
-      → IfRefused (λ number. 1 ≤ number) o → answer .number ≡ 0
+      → IfRefused NotZero o → answer .number ≡ 0
       → text ≡ textOf (fiveLines (answer .entry) (answer .period) (findingOf answer after) (plain .verdict)) → PartsAnswers o u v text
-  answer-judged (refused number) text plain (is, _) P some none says = absurd (omega (arith, ap (λ (x : TreeAnswer). x .number) is))
+  answer-judged (refused number) text plain (is, _) P some none says = absurd (some (sym (ap (λ (x : TreeAnswer). x .number) is) ∙ none))
   answer-judged (accepted R) text plain J (_, decides) some none says =
       let (_, entry, period) = answer-parts (J .entry) (J .period) (J .finding) in
       record {

@@ -8,6 +8,5 @@ pub mod PartEnds
 pub mod Appending
 pub mod DecimalDigits
 pub mod NameTexts
--- The answers of the two judges as the text of a job; the numbers of refusals.
+-- The answers of the two judges as the text of a job.
 pub mod JobJudging
-pub mod RefusalNumbers

@@ -34,10 +34,17 @@ readPart (low ∷ high ∷ rest) =
     ask (leb size (length rest)) 12
     (accepted (take size rest, drop size rest))
 
--- "has the job 6 to 9,354 bytes, and do its three parts end exactly with its last byte? 12"
+-- "has the job 6 to 9,354 bytes"
+abbrev pub shortestJob : ℕ
+shortestJob = 6
+
+abbrev pub longestJob : ℕ
+longestJob = 9354
+
+-- ", and do its three parts end exactly with its last byte? 12"
 unfoldable pub jobParts : List ℕ → Outcome Parts
 jobParts job =
-    ask (leb 6 (length job) && leb (length job) 9354) 12
+    ask (leb shortestJob (length job) && leb (length job) longestJob) 12
     (readPart job then λ table.
     readPart (table .1) then λ lead.
     readPart (lead .1) then λ tail.
@@ -47,6 +54,10 @@ jobParts job =
 -- the questions behind it: 1 to 6 to the table, 7 and 8 to the walk
 unfoldable pub judgeOutcome : List ℕ → List ℕ → List ℕ → Outcome Rule
 judgeOutcome table u v = readRule table then λ R. askWalk (R .letters) u v (accepted R)
+
+-- all questions to a job: accepted, its parts and the rule of its table
+unfoldable pub jobOutcome : List ℕ → Outcome (Parts × Rule)
+jobOutcome job = jobParts job then λ p. judgeOutcome (p .table) (p .lead) (p .tail) then λ R. accepted (p, R)
 
 -- THE LINES
 

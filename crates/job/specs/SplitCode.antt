@@ -3,19 +3,22 @@ use mathlib.Core.Path.{_≡_}
 use mathlib.Core.List.{List}
 use Prim.Native.Nat.{ℕ, _+_, _-_, _≤_}
 use lib.ListN.{length, take, drop}
-use Rattle.table.specs.Outcome.{Outcome, refused, accepted}
-use Rattle.table.specs.Table.{Read}
+use Rattle.table.specs.Outcome.{Outcome, refused, accepted, _then_}
 use Rattle.job.specs.declared.split.End.{End}
 use Rattle.job.specs.declared.split.End.the-variants.{Past, At}
 use Rattle.job.specs.declared.split.Ends.{Ends}
 use Rattle.job.specs.declared.split.Split.{Split}
 use Rattle.job.specs.declared.split.Split.the-variants.{Refused, Parts as Split·Parts}
-use Rattle.job.specs.JobCall.{Parts}
+use Rattle.job.specs.JobCall.{Parts, readPart}
+
+-- document 01's number and values for each case of an `End`
+abbrev pub endAs : End → Outcome ℕ
+endAs Past = refused 12
+endAs (At place) = accepted place
 
 -- where a part ends whose length stands at a place
-unfoldable pub endOf : ℕ → Read (List ℕ) → End
-endOf at (refused number) = Past
-endOf at (accepted part) = At (at + 2 + length (part .0))
+unfoldable pub partEnd : ℕ → List ℕ → Outcome ℕ
+partEnd at job = readPart (drop at job) then λ part. accepted (at + 2 + length (part .0))
 
 -- the bytes from one place to another
 abbrev pub between : ℕ → ℕ → List ℕ → List ℕ

@@ -4,7 +4,7 @@ use crate::lines::refusal;
 use crate::split::Split;
 use crate::split::split_job;
 use agree::both::judge_both;
-use tree::record::Tree;
+use tree::rows::Tree;
 ghost use Rattle.job.specs.JobCall.{JobAnswer, PartsAnswers, judgeOutcome};
 
 // The length of a text's array: no answer to a job has more bytes.

@@ -1,14 +1,11 @@
 // The three parts of a job: question 12.
+use crate::limits::LONGEST;
+use crate::limits::SHORTEST;
 ghost use mathlib.Core.Path.{_≡_};
 ghost use Prim.Native.Nat.{_≤_};
-ghost use lib.ListN.{drop, length};
-ghost use Rattle.job.specs.JobCall.{jobParts, readPart};
-ghost use Rattle.job.specs.SplitCode.{Splits, endOf};
-
-// "has the job 6 to 9,354 bytes"
-const SHORTEST: usize = 6;
-
-const LONGEST: usize = 9354;
+ghost use lib.ListN.{length};
+ghost use Rattle.job.specs.JobCall.{jobParts};
+ghost use Rattle.job.specs.SplitCode.{Splits, endAs, partEnd};
 
 // Where a part ends: behind its last byte; or past the job's end.
 pub enum End {
@@ -30,7 +27,7 @@ pub enum Split {
 // The end of the part whose length stands at a place, "in two bytes, low first".
 fn part_end(job: &[u8], at: usize) -> End
     requires { ⌜ at ≤ length (now job) ⌝ }
-    ensures { λ r. ⌜ r ≡ endOf at (readPart (drop at (now (job .entry)))) ⌝ }
+    ensures { λ r. ⌜ endAs r ≡ partEnd at (now (job .entry)) ⌝ }
 {
     if job.len() - at < 2 {
         return End::Past;

@@ -12,7 +12,8 @@ use Rattle.table.specs.declared.header.Header.{Header}
 use Rattle.table.proofs.Every.{every-weaker}
 use Rattle.word.specs.Loop.{Loop}
 use Rattle.word.specs.Verdict.{Decides}
-use Rattle.word.specs.WalkTables.{Tables, Tabled, TablesFor}
+use Rattle.word.specs.WalkTables.{Tables, Tabled, tablesAfter}
+use Rattle.word.proofs.WalkTables.{tables-for}
 use Rattle.plain.specs.Ways.{ways, AreWays}
 use Rattle.plain.specs.Letters.{statesAfter, rowAfter}
 use Rattle.plain.specs.Rounds.{widened}
@@ -28,10 +29,9 @@ use Rattle.plain.proofs.Searching.{decides-same}
 -- with the tables of its letters a walk can be judged
 pub held-walks : {R : Rule} {header : Header} {words : List (List ℕ)} → HoldsRule R header words
     → (u v : List ℕ) → Every (λ a. a < header .letters) u → Every (λ a. a < header .letters) v
-    → (tables : Tables) → TablesFor words u v tables → Walks R header tables u v
-unfolding TablesFor
-held-walks {R} h u v lead tail tables for =
-    let (lead-tabled, tail-tabled) = for R (h .images) (rw (h .numbers) at lead) (rw (h .numbers) at tail) in
+    → (before tables : Tables) → tables ≡ tablesAfter words u v before → Walks R header tables u v
+held-walks h u v lead tail before tables made =
+    let (lead-tabled, tail-tabled) = tables-for h u v lead tail before tables made in
     record {
       numbers = h .numbers;
       limits = h .limits;

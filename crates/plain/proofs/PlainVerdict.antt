@@ -1,16 +1,17 @@
 -- What the plain judge's contract says: its verdict decides whether an endless run goes through every set infinitely
--- often, and the contract leaves no choice of the answer.
-use mathlib.Core.Path.{_≡_, sym, _∙_}
+-- often, its number tells whether the call is accepted, and the contract leaves no choice of the answer.
+use mathlib.Core.Path.{_≡_, sym, _∙_, ap}
 use mathlib.Core.Logic.{inl, inr}
 use mathlib.Core.List.{List, []}
 use Prim.Native.Nat.{ℕ}
-use Rattle.table.specs.Outcome.{Outcome, refused, accepted}
+use Rattle.table.specs.Outcome.{Outcome, refused, accepted, numberOf}
 use Rattle.table.specs.Rule.{Rule}
 use Rattle.table.specs.Table.{WellFormed}
 use Rattle.word.specs.Run.{AcceptingRun}
 use Rattle.word.specs.Verdict.{Decides}
 use Rattle.word.proofs.LoopTheorem.{loop-theorem}
-use Rattle.plain.specs.PlainCall.{PlainAnswers}
+use Rattle.word.proofs.RefusalNumbers.{judge-tells}
+use Rattle.plain.specs.PlainCall.{scratchLength, plainOutcome, PlainAnswers, PlainNumber}
 use Rattle.plain.specs.declared.judge.PlainAnswer.{PlainAnswer}
 use Rattle.plain.proofs.Searching.{decides-same}
 
@@ -27,6 +28,16 @@ decides-one (inl (x, p)) (inl (y, q)) = x ∙ sym y
 decides-one (inl (x, p)) (inr (y, q)) = absurd (q p)
 decides-one (inr (x, p)) (inl (y, q)) = absurd (p q)
 decides-one (inr (x, p)) (inr (y, q)) = x ∙ sym y
+
+-- the number of an answer that the contract allows
+plain-answers : (o : Outcome Rule) (u v : List ℕ) (answer : PlainAnswer) → PlainAnswers o u v answer → answer .number ≡ numberOf o
+plain-answers (refused number) u v answer is = ap (λ (x : PlainAnswer). x .number) is
+plain-answers (accepted R) u v answer (is, _) = is
+
+pub plain-number : PlainNumber
+unfolding plainOutcome
+plain-number table u v scratch answer P =
+    rw (plain-answers (plainOutcome table u v scratch) u v answer P) (judge-tells scratchLength table u v scratch)
 
 -- two answers that the contract allows are the same
 pub plain-determined : (o : Outcome Rule) (u v : List ℕ) (a b : PlainAnswer) → PlainAnswers o u v a → PlainAnswers o u v b → a ≡ b

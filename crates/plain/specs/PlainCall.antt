@@ -4,7 +4,7 @@ use mathlib.Core.Path.{_≡_}
 use mathlib.Core.List.{List}
 use Prim.Native.Nat.{ℕ}
 use lib.ListN.{replicate}
-use Rattle.table.specs.Outcome.{Outcome, refused, accepted}
+use Rattle.table.specs.Outcome.{Outcome, refused, accepted, Tells}
 use Rattle.table.specs.Rule.{Rule}
 use Rattle.table.specs.Storing.{stored}
 use Rattle.word.specs.Judging.{judgeQuestions}
@@ -29,3 +29,9 @@ PlainAnswers (accepted R) u v answer = (answer .number ≡ 0) × Decides (answer
 unfoldable pub scratchAfter : Outcome Rule → List ℕ → List ℕ
 scratchAfter (refused number) scratch = scratch
 scratchAfter (accepted R) scratch = stored 0 (replicate scratchLength 0) scratch
+
+-- the number that a caller sees tells whether the call is accepted
+abbrev pub PlainNumber : Type 0
+PlainNumber =
+    (table u v scratch : List ℕ) (answer : PlainAnswer) → PlainAnswers (plainOutcome table u v scratch) u v answer
+    → Tells (plainOutcome table u v scratch) (answer .number)

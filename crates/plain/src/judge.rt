@@ -15,6 +15,7 @@ use table::reader::Reading;
 use table::reader::read_rule;
 use word::tables::AllTables;
 use word::tables::walk_tables;
+use word::walk::letters_left;
 use word::walk::walk_number;
 ghost use mathlib.Core.Path.{_≡_};
 ghost use lib.ListN.{replicate};
@@ -35,16 +36,18 @@ pub struct PlainAnswer {
 }
 
 // The verdict on a walk, right for every rule with these numbers and these tables of the walk's letters.
-fn walk_verdict(tables: &AllTables, header: Header, u: &[u8], v: &[u8]) -> u8
+fn walk_verdict<'a>(tables: &AllTables, header: Header, u: &'a [u8], v: &'a [u8]) -> u8
     requires { ⌜ ((R : Rule) × Walks R header (now tables) (now u) (now v)) ⌝ }
     ensures { λ r. ⌜ ((R : Rule) → Walks R header (now (tables .entry)) (now (u .entry)) (now (v .entry))
         → Decides r (Loop R (now (u .entry)) (now (v .entry)))) ⌝ }
 {
     let n = header.states;
     // the states that "u" leads to from a starting state
-    let from = states_after(tables, header.start, u);
+    let lead = letters_left(u, v, false, 0);
+    let from = states_after(tables, header.start, lead);
     // the ways that one tail opens between any two states, then those of one or more tails
-    let mut rows = tail_rows(tables, v, n);
+    let tail = letters_left(u, v, true, 0);
+    let mut rows = tail_rows(tables, tail, n);
     widen_rows(&mut rows, n);
     // a state s such that "u and i tails lead from a starting state to s, and j further tails lead from s back to s
     // taking at least one transition of each set"
@@ -52,7 +55,7 @@ fn walk_verdict(tables: &AllTables, header: Header, u: &[u8], v: &[u8]) -> u8
 }
 
 // The judge on a read table, for any walk over its letters. Its verdict is right for every rule that the table holds.
-fn judge_walk(words: &Words, header: Header, u: &[u8], v: &[u8], scratch: &mut [u8]) -> u8
+fn judge_walk<'a>(words: &Words, header: Header, u: &'a [u8], v: &'a [u8], scratch: &mut [u8]) -> u8
     requires { ⌜ Judgeable header (now words) (now u) (now v) scratchLength (now scratch) ⌝ }
     ensures { λ r. ⌜ ((R : Rule) → HoldsRule R header (now (words .entry)) → Decides r (Loop R (now (u .entry)) (now (v .entry))))
         × (now (scratch .exit) ≡ stored 0 (replicate scratchLength 0) (now (scratch .entry))) ⌝ }
@@ -66,7 +69,7 @@ fn judge_walk(words: &Words, header: Header, u: &[u8], v: &[u8], scratch: &mut [
 }
 
 // THE PLAIN JUDGE: questions 1 to 6 to the table, 7 and 8 to the walk, 10 to the scratch bytes, then the verdict.
-pub fn plain_judge(table: &[u8], u: &[u8], v: &[u8], scratch: &mut [u8]) -> PlainAnswer
+pub fn plain_judge<'a>(table: &[u8], u: &'a [u8], v: &'a [u8], scratch: &mut [u8]) -> PlainAnswer
     ensures { λ r. ⌜ PlainAnswers (plainOutcome (now (table .entry)) (now (u .entry)) (now (v .entry)) (now (scratch .entry)))
         (now (u .entry)) (now (v .entry)) r
         × (now (scratch .exit)

@@ -1,17 +1,27 @@
-// The library's calls, each with its answer held to the numbers that a line has, the refusal number first.
-use crate::decimal::numbers_are;
-use crate::rules::Rule;
-use check::same;
+// The library's calls, each with the arguments that a line has. Its answer is held to the numbers that a text has, the
+// refusal number first. Each says whether the line has the call's arguments and the text the answer's numbers.
+use crate::rules::rule_of;
+use notation::decimal::number_of;
+use notation::decimal::numbers_are;
+use notation::hexadecimal::bytes_of;
+use notation::lines::field;
 use plain::judge::plain_judge;
 use table::reader::read;
 use table::writer::write;
 use tree::calls::start;
 use tree::calls::step;
 use treejudge::judge::tree_judge;
+ghost use Rattle.stored.specs.Comparing.{Compared};
+ghost use Rattle.stored.specs.declared.calls.Call.the-variants.{Plain, Read, Start, Step, Tree, Write};
 
 // The reader: number n m k start.
-fn read_right(numbers: &[u8], table: &[u8], buffer: &mut [u8]) -> bool {
-    let given = read(table, buffer);
+pub fn read_right(line: &[u8], numbers: &[u8], buffer: &mut [u8]) -> bool
+    ensures { λ r. ⌜ Compared Read (now (line .entry)) (now (buffer .entry)) (now (numbers .entry)) (now (buffer .exit)) r ⌝ }
+{
+    let t = bytes_of(field(line, 1));
+    let table = t.room;
+    let end = t.end;
+    let given = read(&table[..end], buffer);
     let answer = [
         given.number as u64,
         given.states as u64,
@@ -19,59 +29,69 @@ fn read_right(numbers: &[u8], table: &[u8], buffer: &mut [u8]) -> bool {
         given.sets as u64,
         given.start as u64,
     ];
-    numbers_are(numbers, answer, 5)
-}
-
-// The starting record: number length.
-fn start_right(numbers: &[u8], table: &[u8], buffer: &mut [u8]) -> bool {
-    let given = start(table, buffer);
-    let answer = [given.number as u64, given.written as u64, 0, 0, 0];
-    numbers_are(numbers, answer, 2)
-}
-
-// The call of this name on a table.
-pub fn table_right(call: &[u8], numbers: &[u8], table: &[u8], buffer: &mut [u8]) -> bool {
-    if same(call, b"read") {
-        return read_right(numbers, table, buffer);
-    }
-    same(call, b"start") && start_right(numbers, table, buffer)
+    t.right & numbers_are(numbers, &answer)
 }
 
 // The writer: number length.
-pub fn write_right(numbers: &[u8], rule: Rule, grid: &[u8], buffer: &mut [u8]) -> bool {
-    let given = write(rule.n, rule.m, rule.k, rule.start, grid, buffer);
-    let answer = [given.number as u64, given.written as u64, 0, 0, 0];
-    numbers_are(numbers, answer, 2)
+pub fn write_right(line: &[u8], numbers: &[u8], buffer: &mut [u8]) -> bool
+    ensures { λ r. ⌜ Compared Write (now (line .entry)) (now (buffer .entry)) (now (numbers .entry)) (now (buffer .exit)) r ⌝ }
+{
+    let rule = rule_of(field(line, 1));
+    let g = bytes_of(field(line, 2));
+    let grid = g.room;
+    let end = g.end;
+    let given = write(rule.n, rule.m, rule.k, rule.start, &grid[..end], buffer);
+    let answer = [given.number as u64, given.written as u64];
+    rule.right & g.right & numbers_are(numbers, &answer)
+}
+
+// The starting record: number length.
+pub fn start_right(line: &[u8], numbers: &[u8], buffer: &mut [u8]) -> bool
+    ensures { λ r. ⌜ Compared Start (now (line .entry)) (now (buffer .entry)) (now (numbers .entry)) (now (buffer .exit)) r ⌝ }
+{
+    let t = bytes_of(field(line, 1));
+    let table = t.room;
+    let end = t.end;
+    let given = start(&table[..end], buffer);
+    let answer = [given.number as u64, given.written as u64];
+    t.right & numbers_are(numbers, &answer)
 }
 
 // The step: number length accepting stable.
-pub fn step_right(
-    numbers: &[u8],
-    table: &[u8],
-    letter: u8,
-    record: &[u8],
-    buffer: &mut [u8],
-) -> bool {
-    let given = step(table, letter, record, buffer);
+pub fn step_right(line: &[u8], numbers: &[u8], buffer: &mut [u8]) -> bool
+    ensures { λ r. ⌜ Compared Step (now (line .entry)) (now (buffer .entry)) (now (numbers .entry)) (now (buffer .exit)) r ⌝ }
+{
+    let t = bytes_of(field(line, 1));
+    let letter = number_of(field(line, 2), 255);
+    let b = bytes_of(field(line, 3));
+    let table = t.room;
+    let t_end = t.end;
+    let bytes = b.room;
+    let b_end = b.end;
+    let given = step(&table[..t_end], letter.value as u8, &bytes[..b_end], buffer);
     let answer = [
         given.number as u64,
         given.written as u64,
         given.accepting as u64,
         given.stable as u64,
-        0,
     ];
-    numbers_are(numbers, answer, 4)
+    t.right & letter.right & b.right & numbers_are(numbers, &answer)
 }
 
 // The tree judge: number verdict entry period length.
-fn tree_right<'a>(
-    numbers: &[u8],
-    table: &[u8],
-    u: &'a [u8],
-    v: &'a [u8],
-    buffer: &mut [u8],
-) -> bool {
-    let given = tree_judge(table, u, v, buffer);
+pub fn tree_right(line: &[u8], numbers: &[u8], buffer: &mut [u8]) -> bool
+    ensures { λ r. ⌜ Compared Tree (now (line .entry)) (now (buffer .entry)) (now (numbers .entry)) (now (buffer .exit)) r ⌝ }
+{
+    let t = bytes_of(field(line, 1));
+    let u = bytes_of(field(line, 2));
+    let v = bytes_of(field(line, 3));
+    let table = t.room;
+    let t_end = t.end;
+    let lead = u.room;
+    let u_end = u.end;
+    let tail = v.room;
+    let v_end = v.end;
+    let given = tree_judge(&table[..t_end], &lead[..u_end], &tail[..v_end], buffer);
     let answer = [
         given.number as u64,
         given.verdict as u64,
@@ -79,27 +99,23 @@ fn tree_right<'a>(
         given.period,
         given.length as u64,
     ];
-    numbers_are(numbers, answer, 5)
+    t.right & u.right & v.right & numbers_are(numbers, &answer)
 }
 
 // The plain judge: number verdict.
-fn plain_right(numbers: &[u8], table: &[u8], u: &[u8], v: &[u8], buffer: &mut [u8]) -> bool {
-    let given = plain_judge(table, u, v, buffer);
-    let answer = [given.number as u64, given.verdict as u64, 0, 0, 0];
-    numbers_are(numbers, answer, 2)
-}
-
-// The judge of this name.
-pub fn walk_right<'a>(
-    call: &[u8],
-    numbers: &[u8],
-    table: &[u8],
-    u: &'a [u8],
-    v: &'a [u8],
-    buffer: &mut [u8],
-) -> bool {
-    if same(call, b"tree") {
-        return tree_right(numbers, table, u, v, buffer);
-    }
-    same(call, b"plain") && plain_right(numbers, table, u, v, buffer)
+pub fn plain_right(line: &[u8], numbers: &[u8], buffer: &mut [u8]) -> bool
+    ensures { λ r. ⌜ Compared Plain (now (line .entry)) (now (buffer .entry)) (now (numbers .entry)) (now (buffer .exit)) r ⌝ }
+{
+    let t = bytes_of(field(line, 1));
+    let u = bytes_of(field(line, 2));
+    let v = bytes_of(field(line, 3));
+    let table = t.room;
+    let t_end = t.end;
+    let lead = u.room;
+    let u_end = u.end;
+    let tail = v.room;
+    let v_end = v.end;
+    let given = plain_judge(&table[..t_end], &lead[..u_end], &tail[..v_end], buffer);
+    let answer = [given.number as u64, given.verdict as u64];
+    t.right & u.right & v.right & numbers_are(numbers, &answer)
 }

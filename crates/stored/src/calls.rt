@@ -1,116 +1,120 @@
 // Stored calls. A line: the call, its arguments, the lent buffer, the answer's numbers, the buffer after the call. It is
 // right if the library gives these numbers and leaves these bytes.
+//
+// To add a call:
+// - here: its case of `Call`, its name in `call_named`, how many arguments it has in `arguments_of`, its arm in `numbers_right`;
+// - answers.rt: its function, which makes the call with a line's arguments and compares its numbers;
+// - specs/Calls.antt: its case of `nameOf` and `arguments`, the record of what it gives, its case of `Gives`;
+// - proofs: its case of the laws of CallNames.antt and Determined.antt, and in the proofs of the functions named here.
+use crate::answers::plain_right;
+use crate::answers::read_right;
+use crate::answers::start_right;
 use crate::answers::step_right;
-use crate::answers::table_right;
-use crate::answers::walk_right;
+use crate::answers::tree_right;
 use crate::answers::write_right;
-use crate::decimal::number_of;
-use crate::hexadecimal::bytes_are;
-use crate::hexadecimal::bytes_of;
-use crate::lines::TAB;
-use crate::lines::field;
-use crate::lines::separators;
-use crate::rules::rule_of;
 use check::same;
+use notation::hexadecimal::bytes_are;
+use notation::hexadecimal::bytes_of;
+use notation::lines::TAB;
+use notation::lines::field;
+use notation::lines::separators;
+ghost use mathlib.Core.Path.{_≡_};
 ghost use Prim.Native.Nat.{_≤_};
+ghost use Rattle.notation.specs.Testing.{Tests};
+ghost use Rattle.stored.specs.Calls.{Answered, CallRight, arguments};
+ghost use Rattle.stored.specs.Comparing.{Compared, Names};
 
-// read TABLE, or start TABLE: does the call give these numbers?
-fn table_call(line: &[u8], numbers: &[u8], buffer: &mut [u8]) -> bool {
-    let t = bytes_of(field(line, 1));
-    let table = t.room;
-    let end = t.end;
-    t.right & table_right(field(line, 0), numbers, &table[..end], buffer)
+// The library's calls.
+pub enum Call {
+    Read,
+    Write,
+    Start,
+    Step,
+    Tree,
+    Plain,
 }
 
-// write n m k start, in one field, GRID
-fn write_call(line: &[u8], numbers: &[u8], buffer: &mut [u8]) -> bool {
-    let rule = rule_of(field(line, 1));
-    let g = bytes_of(field(line, 2));
-    let grid = g.room;
-    let end = g.end;
-    rule.right & g.right & write_right(numbers, rule, &grid[..end], buffer)
+// A call, or none of this name.
+enum Named {
+    Known(Call),
+    Unknown,
 }
 
-// step TABLE LETTER RECORD
-fn step_call(line: &[u8], numbers: &[u8], buffer: &mut [u8]) -> bool {
-    let t = bytes_of(field(line, 1));
-    let letter = number_of(field(line, 2), 255);
-    let r = bytes_of(field(line, 3));
-    let table = t.room;
-    let t_end = t.end;
-    let record = r.room;
-    let r_end = r.end;
-    t.right
-        & letter.right
-        & r.right
-        & step_right(
-            numbers,
-            &table[..t_end],
-            letter.value as u8,
-            &record[..r_end],
-            buffer,
-        )
-}
-
-// tree TABLE U V, or plain TABLE U V
-fn walk_call(line: &[u8], numbers: &[u8], buffer: &mut [u8]) -> bool {
-    let t = bytes_of(field(line, 1));
-    let u = bytes_of(field(line, 2));
-    let v = bytes_of(field(line, 3));
-    let table = t.room;
-    let t_end = t.end;
-    let lead = u.room;
-    let u_end = u.end;
-    let tail = v.room;
-    let v_end = v.end;
-    let call = field(line, 0);
-    t.right
-        & u.right
-        & v.right
-        & walk_right(
-            call,
-            numbers,
-            &table[..t_end],
-            &lead[..u_end],
-            &tail[..v_end],
-            buffer,
-        )
-}
-
-// A call with one argument, two or three.
-fn numbers_right(arguments: usize, line: &[u8], numbers: &[u8], buffer: &mut [u8]) -> bool {
-    if arguments == 1 {
-        return table_call(line, numbers, buffer);
-    }
-    let call = field(line, 0);
-    if arguments == 2 {
-        return same(call, b"write") && write_call(line, numbers, buffer);
-    }
-    if same(call, b"step") {
-        return step_call(line, numbers, buffer);
-    }
-    walk_call(line, numbers, buffer)
-}
-
-// Is a line right, with its buffer lent?
-fn lent_right(arguments: usize, line: &[u8], buffer: &mut [u8]) -> bool
-    requires { ⌜ arguments ≤ 3 ⌝ }
+// The call of this name.
+fn call_named(name: &[u8]) -> Named
+    ensures { λ r. ⌜ Names (now (name .entry)) r ⌝ }
 {
-    let right = numbers_right(arguments, line, field(line, arguments + 2), buffer);
+    if same(name, b"read") {
+        return Named::Known(Call::Read);
+    }
+    if same(name, b"write") {
+        return Named::Known(Call::Write);
+    }
+    if same(name, b"start") {
+        return Named::Known(Call::Start);
+    }
+    if same(name, b"step") {
+        return Named::Known(Call::Step);
+    }
+    if same(name, b"tree") {
+        return Named::Known(Call::Tree);
+    }
+    if same(name, b"plain") {
+        return Named::Known(Call::Plain);
+    }
+    Named::Unknown
+}
+
+// How many arguments a call has.
+fn arguments_of(call: Call) -> usize
+    ensures { λ r. ⌜ (r ≡ arguments call) × (r ≤ 3) ⌝ }
+{
+    match call {
+        Call::Read => 1,
+        Call::Write => 2,
+        Call::Start => 1,
+        Call::Step => 3,
+        Call::Tree => 3,
+        Call::Plain => 3,
+    }
+}
+
+// Does a call with the line's arguments give these numbers?
+fn numbers_right(call: Call, line: &[u8], numbers: &[u8], buffer: &mut [u8]) -> bool
+    ensures { λ r. ⌜ Compared call (now (line .entry)) (now (buffer .entry)) (now (numbers .entry)) (now (buffer .exit)) r ⌝ }
+{
+    match call {
+        Call::Read => read_right(line, numbers, buffer),
+        Call::Write => write_right(line, numbers, buffer),
+        Call::Start => start_right(line, numbers, buffer),
+        Call::Step => step_right(line, numbers, buffer),
+        Call::Tree => tree_right(line, numbers, buffer),
+        Call::Plain => plain_right(line, numbers, buffer),
+    }
+}
+
+// Does a call on this buffer give the line's numbers, and leave the line's bytes?
+fn lent_right(call: Call, line: &[u8], buffer: &mut [u8]) -> bool
+    ensures { λ r. ⌜ Tests r (Answered call (now (line .entry)) (now (buffer .entry))) ⌝ }
+{
+    let arguments = arguments_of(call);
+    let right = numbers_right(call, line, field(line, arguments + 2), buffer);
     right & bytes_are(field(line, arguments + 3), buffer)
 }
 
 // Is a line right?
-pub fn call_right(line: &[u8]) -> bool {
-    let tabs = separators(line, TAB);
-    if tabs < 4 {
+pub fn call_right(line: &[u8]) -> bool
+    ensures { λ r. ⌜ Tests r (CallRight (now (line .entry))) ⌝ }
+{
+    let Named::Known(call) = call_named(field(line, 0)) else {
+        return false;
+    };
+    let arguments = arguments_of(call);
+    if separators(line, TAB) != arguments + 3 {
         return false;
     }
-    if 6 < tabs {
-        return false;
-    }
-    let lent = bytes_of(field(line, tabs - 2));
+    let lent = bytes_of(field(line, arguments + 1));
     let mut buffer = lent.room;
     let end = lent.end;
-    lent.right & lent_right(tabs - 3, line, &mut buffer[..end])
+    lent.right & lent_right(call, line, &mut buffer[..end])
 }

@@ -2,11 +2,8 @@
 // Prints for each file how many cases it has and how many differ, and names each difference by file and line.
 mod answers;
 mod calls;
-mod decimal;
 mod files;
-mod hexadecimal;
 mod jobs;
-mod lines;
 mod rules;
 
 use files::Kind;

@@ -1,8 +1,9 @@
 // The numbers that the writer takes.
-use crate::decimal::LARGEST;
-use crate::decimal::number_of;
-use crate::lines::part;
-use crate::lines::separators;
+use notation::decimal::LARGEST;
+use notation::decimal::number_of;
+use notation::lines::part;
+use notation::lines::separators;
+ghost use Rattle.stored.specs.Comparing.{RuleIs};
 
 // n, m, k and the starting map, and whether the text had them.
 pub struct Rule {
@@ -14,7 +15,9 @@ pub struct Rule {
 }
 
 // The four numbers of a text, with a space between two.
-pub fn rule_of(text: &[u8]) -> Rule {
+pub fn rule_of(text: &[u8]) -> Rule
+    ensures { λ r. ⌜ RuleIs (now (text .entry)) r ⌝ }
+{
     let n = number_of(part(text, b' ', 0), LARGEST);
     let m = number_of(part(text, b' ', 1), LARGEST);
     let k = number_of(part(text, b' ', 2), LARGEST);

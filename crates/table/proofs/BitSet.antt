@@ -202,6 +202,13 @@ collect-union n f g = set-ext _ _ λ q. member-union (collect n f) (collect n g)
     go true b c = refl
     go false b c = refl
 
+-- of one number
+pub collect-single : (n p : ℕ) → p < n → collect n (λ q. eqb p q) ≡ 2 ^ p
+collect-single n p h = set-ext _ _ λ q. member-collect n (λ q. eqb p q) q
+    ∙ bool-ext _ (eqb p q) (λ m. and-in (ltb q n) (eqb p q) m .1)
+    (λ e. let same : p ≡ q = eqb-true p q e in and-both (ltb q n) (eqb p q) (lt-ltb q n (omega arith)) e)
+    ∙ sym (member-single p q)
+
 -- one more number, above the others
 pub collect-more : (n : ℕ) (f : ℕ → Bool) → collect (suc n) f ≡ bitOr (collect n f) (cond (f n) (2 ^ n) 0)
 unfolding collect

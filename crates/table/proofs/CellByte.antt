@@ -1,6 +1,6 @@
 -- What the cursor's answers say of the bytes behind it.
 use mathlib.Core.Path.{_≡_, refl, sym, _∙_, ap}
-use mathlib.Core.Bool.{Bool, true, false, cond}
+use mathlib.Core.Bool.{Bool, true, false}
 use mathlib.Core.List.{List, [], _∷_}
 use Prim.Native.Nat.{ℕ, suc, _+_, _-_, _/_, _^_, _≤_, _<_}
 use native.Mathlib.Omega.{arith}
@@ -11,36 +11,37 @@ use lib.ListN.{length, getD, drop, drop-of-length-le}
 use lib.Seq.{drop-cons}
 use Rattle.table.specs.Limits.{maxStates}
 use Rattle.table.specs.BitSet.{some}
-use Rattle.table.specs.Outcome.{refused, accepted, ask}
+use Rattle.table.specs.Outcome.{Outcome, refused, accepted, ask}
 use Rattle.table.specs.Table.{Read, readByte}
-use Rattle.table.specs.Cursor.{nextAt}
-use Rattle.table.specs.declared.cursor.Cursor.{Cursor}
-use Rattle.table.specs.declared.cursor.Next.the-variants.{Byte, End}
+use Rattle.table.specs.Cursor.{byteAt}
 use Rattle.table.proofs.Tests.{same-below}
 
--- the end is told only at the end
-pub next-end : (s : List ℕ) (at : ℕ) → nextAt s at ≡ End → length s ≤ at
-unfolding nextAt
-next-end s at e = go (ltb at (length s)) refl e
+-- question 4 is answered no only at the end
+at-end : (s : List ℕ) (at : ℕ) → refused 4 ≡ byteAt s at → length s ≤ at
+unfolding byteAt
+at-end s at e = go (ltb at (length s)) refl e
   where
-    go : (b : Bool) → ltb at (length s) ≡ b → cond b (Byte (getD s at 0) (record { at = at + 1 })) End ≡ End → length s ≤ at
+    go : (b : Bool) → ltb at (length s) ≡ b → _≡_ {A = Outcome (ℕ × ℕ)} (refused 4) (ask b 4 (accepted (getD s at 0, at + 1)))
+        → length s ≤ at
     go true h e = let z : _≡_ {A = ℕ} 0 1 = cc in absurd (omega arith)
     go false h e = ltb-false _ _ h
 
--- a byte is told only where it stands, with the place behind it
-pub next-byte : (s : List ℕ) (at x : ℕ) (c : Cursor) → nextAt s at ≡ Byte x c → (at < length s) × (x ≡ getD s at 0) × (c .at ≡ at + 1)
-unfolding nextAt
-next-byte s at x c e = go (ltb at (length s)) refl e
+-- and yes only where the byte stands, with the place behind it
+at-byte : (s : List ℕ) (at x next : ℕ) → accepted (x, next) ≡ byteAt s at → (at < length s) × (x ≡ getD s at 0) × (next ≡ at + 1)
+unfolding byteAt
+at-byte s at x next e = go (ltb at (length s)) refl e
   where
-    go : (b : Bool) → ltb at (length s) ≡ b → cond b (Byte (getD s at 0) (record { at = at + 1 })) End ≡ Byte x c
-        → (at < length s) × (x ≡ getD s at 0) × (c .at ≡ at + 1)
-    go true h e = (ltb-true _ _ h, cc, let z : record { at = at + 1 } ≡ c = cc in sym (ap (λ (y : Cursor). y .at) z))
+    go : (b : Bool) → ltb at (length s) ≡ b → _≡_ {A = Outcome (ℕ × ℕ)} (accepted (x, next)) (ask b 4 (accepted (getD s at 0, at + 1)))
+        → (at < length s) × (x ≡ getD s at 0) × (next ≡ at + 1)
+    go true h e =
+        let pair : _≡_ {A = ℕ × ℕ} (x, next) (getD s at 0, at + 1) = cc in
+        (ltb-true _ _ h, ap (λ (p : ℕ × ℕ). p .0) pair, ap (λ (p : ℕ × ℕ). p .1) pair)
     go false h e = let z : _≡_ {A = ℕ} 0 1 = cc in absurd (omega arith)
 
 -- question 4: no byte is there
-pub byte-missing : (s : List ℕ) (at w : ℕ) → nextAt s at ≡ End → refused 4 ≡ readByte w (drop at s)
+pub byte-missing : (s : List ℕ) (at w : ℕ) → refused 4 ≡ byteAt s at → refused 4 ≡ readByte w (drop at s)
 unfolding readByte
-byte-missing s at w e = rw (drop-of-length-le s (next-end s at e))
+byte-missing s at w e = rw (drop-of-length-le s (at-end s at e))
 
 -- a byte that passes question 5 is below the limit
 pub byte-below : (w x : ℕ) (bytes rest : List ℕ) → accepted (x, rest) ≡ readByte w bytes → x < 2 ^ w
@@ -59,14 +60,14 @@ highest : (w : ℕ) → w ≤ maxStates → suc (255 / 2 ^ (8 - w)) ≡ 2 ^ w
 unfolding some
 highest w h = same-below 9 (λ w. suc (255 / 2 ^ (8 - w))) (λ w. 2 ^ w) refl w (omega arith)
 
-module _ (s : List ℕ) (at w x y : ℕ) (c : Cursor) (e : nextAt s at ≡ Byte x c) (short : w ≤ maxStates) (same : y ≡ x) where
+module _ (s : List ℕ) (at w x y next : ℕ) (e : accepted (x, next) ≡ byteAt s at) (short : w ≤ maxStates) (same : y ≡ x) where
   -- the byte that is there, with its question
-  there : readByte w (drop at s) ≡ ask (ltb x (2 ^ w)) 5 (accepted (x, drop (c .at) s))
+  there : readByte w (drop at s) ≡ ask (ltb x (2 ^ w)) 5 (accepted (x, drop next s))
   unfolding readByte
-  there = let (h, e₁, e₂) = next-byte s at x c e in rw (drop-cons s at 0 h, e₁, e₂, add-one at)
+  there = let (h, e₁, e₂) = at-byte s at x next e in rw (drop-cons s at 0 h, e₁, e₂, add-one at)
 
   -- question 5 answered yes
-  pub byte-accepted : y ≤ 255 / 2 ^ (8 - w) → accepted (x, drop (c .at) s) ≡ readByte w (drop at s)
+  pub byte-accepted : y ≤ 255 / 2 ^ (8 - w) → accepted (x, drop next s) ≡ readByte w (drop at s)
   byte-accepted h = sym (there ∙ rw (lt-ltb x (2 ^ w) (omega (arith, highest w short))))
 
   -- question 5 answered no

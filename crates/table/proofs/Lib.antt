@@ -8,6 +8,7 @@ pub mod Edges
 pub mod Logic
 pub mod BitSet
 pub mod Accepted
+pub mod RefusalNumbers
 pub mod Every
 pub mod Tests
 pub mod Ranges

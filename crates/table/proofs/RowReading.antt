@@ -71,10 +71,11 @@ over-lowest k (suc w) (x ∷ row) rest bytes le some small =
         let odd : rest % 2 ≡ 1 = omega arith in
         rw (odd, lowest-here w rest odd, cleared-even rest, cleared-here rest odd)
 
--- the bytes of the bits of `rest` are still to come; read over the row they give the whole row
-pub record RowSoFar (s : List ℕ) (k w : ℕ) (whole : Read (List ℕ)) (row : List ℕ) (at rest : ℕ) : Type 0 where
+-- `left` bytes are still to come, those of the bits of `rest`; read over the row they give the whole row
+pub record RowSoFar (s : List ℕ) (k w : ℕ) (whole : Read (List ℕ)) (row : List ℕ) (at rest left : ℕ) : Type 0 where
   pub size : length row ≡ w
   pub small : rest < 2 ^ w
+  pub count : left ≡ ones rest
   pub ahead : readOver k row rest (drop at s) ≡ whole
 
 -- a map that counts no standing bit is empty
@@ -83,16 +84,17 @@ ones-none = bin-ind (λ n. ones n ≡ 0 → n ≡ 0) (λ e. refl) (λ n ih e.
     let z : n / 2 ≡ 0 = ih (omega (arith, ones-step n)) in omega (arith, ones-step n))
 
 pub row-start : (s : List ℕ) (k w at standing : ℕ) → standing < 2 ^ w
-    → RowSoFar s k w (readRow k w standing (drop at s)) (replicate w noTransition) at standing
+    → RowSoFar s k w (readRow k w standing (drop at s)) (replicate w noTransition) at standing (ones standing)
 row-start s k w at standing h = record {
   size = length-replicate w noTransition;
   small = h;
+  count = refl;
   ahead = over-blank k w standing (drop at s);
 }
 
-module _ {s : List ℕ} {k w : ℕ} {whole : Read (List ℕ)} {row : List ℕ} {at rest : ℕ}
-    (v : RowSoFar s k w whole row at rest) where
-  module _ (h : 0 < ones rest) where
+module _ {s : List ℕ} {k w : ℕ} {whole : Read (List ℕ)} {row : List ℕ} {at rest left : ℕ}
+    (v : RowSoFar s k w whole row at rest left) where
+  module _ (h : 0 < left) where
     -- while bytes are to come, a bit stands
     pub row-some : 0 < rest
     unfolding ones onesIn
@@ -103,11 +105,7 @@ module _ {s : List ℕ} {k w : ℕ} {whole : Read (List ℕ)} {row : List ℕ} {
         go (no l) =
             let z : rest ≡ 0 = omega arith in
             let o : ones rest ≡ ones 0 = ap ones z in
-            absurd (omega arith)
-
-    -- and with its byte one less is to come
-    pub row-less : ones (bitAnd rest (rest - 1)) < ones rest
-    row-less = omega (arith, cleared-ones rest row-some)
+            absurd (omega (arith, v .count))
 
     module _ (width : ℕ) (wide : w ≤ width) where
       -- it has a place in the row
@@ -120,10 +118,11 @@ module _ {s : List ℕ} {k w : ℕ} {whole : Read (List ℕ)} {row : List ℕ} {
 
       -- its set byte is there
       pub row-take : (x at′ : ℕ) → accepted (x, drop at′ s) ≡ readByte k (drop at s)
-          → RowSoFar s k w whole (set row (trailingZeros width rest) x) at′ (bitAnd rest (rest - 1))
+          → RowSoFar s k w whole (set row (trailingZeros width rest) x) at′ (bitAnd rest (rest - 1)) (left - 1)
       row-take x at′ e = record {
         size = length-set row (trailingZeros width rest) x ∙ v .size;
         small = omega (arith, v .small, and-le-l rest (rest - 1));
+        count = omega (arith, v .count, cleared-ones rest row-some);
         ahead = rw (← e) at next;
       }
 
@@ -131,8 +130,9 @@ module _ {s : List ℕ} {k w : ℕ} {whole : Read (List ℕ)} {row : List ℕ} {
       pub row-refused : (number : ℕ) → refused number ≡ readByte k (drop at s) → refused number ≡ whole
       row-refused number e = rw (← e) at next
 
-  -- no bit is left
-  pub row-done : ones rest ≤ 0 → accepted (row, drop at s) ≡ whole
-  row-done h =
-      let z : rest ≡ 0 = ones-none rest (omega arith) in
-      sym (over-none k row (drop at s)) ∙ rw z at (v .ahead)
+  -- no byte is left: no bit stands, and the row is whole
+  pub row-none : left ≤ 0 → rest ≡ 0
+  row-none h = ones-none rest (omega (arith, v .count))
+
+  pub row-done : left ≤ 0 → accepted (row, drop at s) ≡ whole
+  row-done h = sym (over-none k row (drop at s)) ∙ rw (row-none h) at (v .ahead)

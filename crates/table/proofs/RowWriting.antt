@@ -12,9 +12,9 @@ use lib.ListN.{length, getD, drop, length-drop, drop-of-length-le}
 use lib.Pow.{pow-mono}
 use lib.Seq.{drop-cons, drop-length}
 use Rattle.table.specs.Limits.{maxStates, noTransition}
+use Rattle.table.specs.Outcome.{refused, accepted}
 use Rattle.table.specs.Table.{bytesFit, mapByte, setBytes}
-use Rattle.table.specs.Writing.{counted}
-use Rattle.table.specs.declared.writer.Counted.the-variants.{Transitions, Misfit}
+use Rattle.table.specs.Writing.{transitionCount}
 use Rattle.table.proofs.Reading.{map-byte-lt}
 
 -- COUNTING
@@ -60,8 +60,8 @@ module _ {k : ℕ} {bytes : List ℕ} {count i : ℕ} (v : CountedSoFar k bytes 
           })
 
       -- the next byte fails question 11
-      pub count-misfit : 2 ^ k ≤ getD bytes i 0 → Misfit ≡ counted k bytes
-      unfolding counted bytesFit
+      pub count-misfit : 2 ^ k ≤ getD bytes i 0 → refused 11 ≡ transitionCount k bytes
+      unfolding transitionCount bytesFit
       count-misfit l = rw (
         v .fits,
         drop-cons bytes i 0 h,
@@ -69,8 +69,8 @@ module _ {k : ℕ} {bytes : List ℕ} {count i : ℕ} (v : CountedSoFar k bytes 
         le-ltb (getD bytes i 0) (2 ^ k) l,
       )
 
-  pub count-done : length bytes ≤ i → Transitions count ≡ counted k bytes
-  unfolding counted bytesFit setBytes
+  pub count-done : length bytes ≤ i → accepted count ≡ transitionCount k bytes
+  unfolding transitionCount bytesFit setBytes
   count-done h =
       let end = drop-of-length-le bytes h in
       let all : length (setBytes bytes) ≡ count = v .number ∙ rw end (omega arith) in

@@ -1,5 +1,5 @@
 -- The laws of `tabulate` (specs/Lookup.antt), and of an array that a loop fills from the front with the values of a function.
-use mathlib.Core.Path.{_≡_, refl, sym, _∙_, ap}
+use mathlib.Core.Path.{_≡_, refl, sym, _∙_, ap, ap₂}
 use mathlib.Core.List.{List, [], _∷_, _++_}
 use Prim.Native.Nat.{ℕ, zero, suc, _+_, _≤_, _<_}
 use native.Mathlib.Numerals.{add-one}
@@ -20,6 +20,13 @@ module _ {A : Type 0} where
   getD-tabulate zero f i d h = absurd (omega arith)
   getD-tabulate (suc n) f zero d h = refl
   getD-tabulate (suc n) f (suc i) d h = getD-tabulate n (λ i. f (suc i)) i d (omega arith)
+
+  -- the same values, the same list
+  pub tabulate-ext : (n : ℕ) (f g : ℕ → A) → ((i : ℕ) → i < n → f i ≡ g i) → tabulate n f ≡ tabulate n g
+  unfolding tabulate
+  tabulate-ext zero f g h = refl
+  tabulate-ext (suc n) f g h =
+      ap₂ (λ (x : A) (l : List A). x ∷ l) (h 0 (omega arith)) (tabulate-ext n (λ i. f (suc i)) (λ i. g (suc i)) (λ i l. h (suc i) (omega arith)))
 
   -- one more value stands at the end
   tabulate-more : (n : ℕ) (f : ℕ → A) → tabulate (suc n) f ≡ tabulate n f ++ (f n ∷ [])

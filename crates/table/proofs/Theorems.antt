@@ -6,13 +6,14 @@ use native.Mathlib.Omega.{arith}
 use borrow.Author.Tests.{le-leb}
 use lib.Dec.{leb}
 use lib.ListN.{length}
-use Rattle.table.specs.Outcome.{Outcome, refused, accepted}
+use Rattle.table.specs.Outcome.{Outcome, refused, accepted, numberOf}
 use Rattle.table.specs.Rule.{Rule}
 use Rattle.table.specs.Table.{WellFormed, tableBytes, gridBytes, readRule, writeRule}
 use Rattle.table.specs.ReadCall.{readOutcome, readAnswer, gridAfter}
-use Rattle.table.specs.WriteCall.{writeOutcome}
-use Rattle.table.specs.Theorems.{WrittenReadsBack, ReadWritesBack, AcceptedTables, AcceptedLengths}
+use Rattle.table.specs.WriteCall.{writeOutcome, writeAnswer}
+use Rattle.table.specs.Theorems.{WrittenReadsBack, ReadWritesBack, ReadNumber, WriteNumber, AcceptedTables, AcceptedLengths}
 use Rattle.table.proofs.Accepted.{IfAccepted, of-accepted, asked, followed}
+use Rattle.table.proofs.RefusalNumbers.{NotZero, ask-number, then-number, tells, rule-number, write-number}
 use Rattle.table.proofs.Parts.{fits-squares, grid-length}
 use Rattle.table.proofs.RoundTrip.{read-well-formed, read-bytes, bytes-read, written-well-formed, table-length}
 use Rattle.table.proofs.RoundTrip.{rule-written-reads-back, rule-read-writes-back}
@@ -48,6 +49,17 @@ rule-written n m k start grid buffer table e =
     Says : List ℕ → Type 0
     Says bytes = (R : Rule) × (rule ≡ accepted R) × (tableBytes R ≡ bytes)
 
+-- the numbers in the answers are those of the outcomes
+read-answer : (o : Outcome Rule) → readAnswer o .number ≡ numberOf o
+unfolding readAnswer
+read-answer (refused number) = refl
+read-answer (accepted R) = refl
+
+write-answer : (o : Outcome (List ℕ)) → writeAnswer o .number ≡ numberOf o
+unfolding writeAnswer
+write-answer (refused number) = refl
+write-answer (accepted table) = refl
+
 -- the bytes of a well-formed rule's grid, by its numbers
 grid-bytes-length : (R : Rule) → WellFormed R → length (gridBytes (R .grid)) ≡ R .letters * R .states * R .states
 grid-bytes-length R well =
@@ -69,6 +81,18 @@ unfolding writeOutcome
 read-writes-back table buffer R e other room =
     let is = rule-read table buffer R e in
     rw (rule-read-writes-back table R is, read-bytes table R is, le-leb _ _ room)
+
+-- question 10 behind those to the table, or to the rule that is to be written
+pub read-tells : ReadNumber
+unfolding readOutcome
+read-tells table buffer = rw read-answer (tells (readOutcome table buffer)
+    (then-number NotZero (readRule table) _ (rule-number table) λ R. ask-number NotZero (leb _ (length buffer)) 10 _ (λ e. omega arith) tt))
+
+pub write-tells : WriteNumber
+unfolding writeOutcome
+write-tells n m k start grid buffer = rw write-answer (tells (writeOutcome n m k start grid buffer)
+    (then-number NotZero (writeRule n m k start grid) _ (write-number n m k start grid) λ R.
+    ask-number NotZero (leb _ (length buffer)) 10 _ (λ e. omega arith) tt))
 
 pub accepted-tables : AcceptedTables
 accepted-tables table R =

@@ -1,7 +1,7 @@
 -- The writer's call: the exact length of the table, the outcome by the answers of the questions, and that what is
 -- written is the table.
 use mathlib.Core.Path.{_≡_, refl, _∙_, ap}
-use mathlib.Core.Bool.{Bool, true, false, cond}
+use mathlib.Core.Bool.{Bool, true, false}
 use mathlib.Core.List.{List, [], _∷_, _++_, flatten, flatMap}
 use Prim.Native.Nat.{ℕ, _+_, _*_, _^_, _≤_, _<_}
 use native.Mathlib.Omega.{arith}
@@ -18,8 +18,7 @@ use Rattle.table.specs.Table.{inRange, startFits, askHeader, gridFits, w
 use Rattle.table.specs.Storing.{stored}
 use Rattle.table.specs.Header.{headerNumber}
 use Rattle.table.specs.WriteCall.{writeOutcome, writeAnswer, tableAfter}
-use Rattle.table.specs.Writing.{counted, rowCells, lengthOf}
-use Rattle.table.specs.declared.writer.Counted.the-variants.{Transitions, Misfit}
+use Rattle.table.specs.Writing.{transitionCount, rowCells, lengthOf}
 use Rattle.table.specs.declared.writer.Length.the-variants.{Exact, Refused}
 use Rattle.table.specs.declared.writer.WriteAnswer.{WriteAnswer}
 use Rattle.table.proofs.Logic.{and-in}
@@ -83,25 +82,25 @@ pub bytes-small : {n m k : ℕ} → InRange n m k → m * n * n ≤ maxLetters *
 bytes-small r = mul-le-mul (rows-small r) (r .states)
 
 -- what the count of the transitions says
-counted-fits : (k : ℕ) (grid : List ℕ) (count : ℕ) → Transitions count ≡ counted k grid
+counted-fits : (k : ℕ) (grid : List ℕ) (count : ℕ) → accepted count ≡ transitionCount k grid
     → (bytesFit k grid ≡ true) × (count ≡ length (setBytes grid))
-unfolding counted
+unfolding transitionCount
 counted-fits k grid count e = go (bytesFit k grid) e
   where
-    go : (t : Bool) → Transitions count ≡ cond t (Transitions (length (setBytes grid))) Misfit
+    go : (t : Bool) → accepted count ≡ ask t 11 (accepted (length (setBytes grid)))
         → (t ≡ true) × (count ≡ length (setBytes grid))
     go true h = (refl, cc)
     go false h = let z : _≡_ {A = ℕ} 0 1 = cc in absurd (omega arith)
 
-counted-misfit : (k : ℕ) (grid : List ℕ) → Misfit ≡ counted k grid → bytesFit k grid ≡ false
-unfolding counted
+counted-misfit : (k : ℕ) (grid : List ℕ) → refused 11 ≡ transitionCount k grid → bytesFit k grid ≡ false
+unfolding transitionCount
 counted-misfit k grid e = go (bytesFit k grid) e
   where
-    go : (t : Bool) → Misfit ≡ cond t (Transitions (length (setBytes grid))) Misfit → t ≡ false
+    go : (t : Bool) → refused 11 ≡ ask t 11 (accepted (length (setBytes grid))) → t ≡ false
     go true h = let z : _≡_ {A = ℕ} 0 1 = cc in absurd (omega arith)
     go false h = refl
 
-pub count-small : (k : ℕ) (grid : List ℕ) (count : ℕ) → Transitions count ≡ counted k grid → count ≤ length grid
+pub count-small : (k : ℕ) (grid : List ℕ) (count : ℕ) → accepted count ≡ transitionCount k grid → count ≤ length grid
 count-small k grid count e = omega (arith, counted-fits k grid count e .1, set-bytes-le grid)
 
 module _ (n m k start : ℕ) (grid : List ℕ) where
@@ -121,14 +120,14 @@ module _ (n m k start : ℕ) (grid : List ℕ) where
 
     module _ (whole : length grid ≡ m * n * n) where
       -- or one of the bytes
-      pub length-misfit : Misfit ≡ counted k grid → Refused 11 ≡ lengthOf (writeRule n m k start grid)
+      pub length-misfit : refused 11 ≡ transitionCount k grid → Refused 11 ≡ lengthOf (writeRule n m k start grid)
       unfolding lengthOf writeRule askHeader gridFits
       length-misfit e =
           let (range, starts) = header-accepted n m k start header in
           rw (range, starts, eq-eqb (length grid) (m * n * n) whole, counted-misfit k grid e)
 
       -- none failed
-      pub length-exact : (count : ℕ) → Transitions count ≡ counted k grid
+      pub length-exact : (count : ℕ) → accepted count ≡ transitionCount k grid
           → Exact (4 + m * n + count) ≡ lengthOf (writeRule n m k start grid)
       unfolding lengthOf writeRule askHeader gridFits
       length-exact count e =

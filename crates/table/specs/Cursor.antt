@@ -1,11 +1,10 @@
 -- What the answers of the functions over the cursor say, for the contracts inside this crate.
-use mathlib.Core.Bool.{cond}
 use mathlib.Core.List.{List, _++_}
 use Prim.Native.Nat.{ℕ, _+_}
 use lib.Dec.{ltb}
 use lib.ListN.{length, getD, drop}
 use Rattle.table.specs.Limits.{maxStates}
-use Rattle.table.specs.Outcome.{refused, accepted, _then_}
+use Rattle.table.specs.Outcome.{Outcome, refused, accepted, ask, _then_}
 use Rattle.table.specs.Rule.{Grid}
 use Rattle.table.specs.Table.{Read, readCell, readMany}
 use Rattle.table.specs.Held.{blankSquare, blankCells}
@@ -16,9 +15,14 @@ use Rattle.table.specs.declared.cells.CellByte.the-variants.{Byte as Cel
 use Rattle.table.specs.declared.cells.Progress.{Progress}
 use Rattle.table.specs.declared.cells.Progress.the-variants.{At, Refused as Progress·Refused}
 
--- the byte at a place and the place behind it, or the end
-unfoldable pub nextAt : List ℕ → ℕ → Next
-nextAt s at = cond (ltb at (length s)) (Byte (getD s at 0) (record { at = at + 1 })) End
+-- document 01's number and values for each case of a `Next`: a byte and the place behind it, or question 4's number
+abbrev pub nextAs : Next → Outcome (ℕ × ℕ)
+nextAs (Byte x c) = accepted (x, c .at)
+nextAs End = refused 4
+
+-- "At each cell byte in turn: is it there? 4": the byte at a place and the place behind it
+unfoldable pub byteAt : List ℕ → ℕ → Outcome (ℕ × ℕ)
+byteAt s at = ask (ltb at (length s)) 4 (accepted (getD s at 0, at + 1))
 
 -- a byte with the bytes behind it, or question 4's or 5's number
 abbrev pub byteRead : List ℕ → CellByte → Read ℕ

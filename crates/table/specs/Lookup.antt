@@ -55,6 +55,15 @@ LetterTable = List ℕ
 unfoldable pub letterTable : List (List ℕ) → LetterTable
 letterTable square = tabulate 16 (λ j. images square j) ++ tabulate 16 (λ j. images square (16 * j))
 
+-- the union of the words of the members of s: the word of state q stands at place q
+unfoldable pub joinedWord : List ℕ → ℕ → ℕ
+joinedWord [] s = 0
+joinedWord (word ∷ words) s = bitOr (cond (eqb (s % 2) 1) word 0) (joinedWord words (s / 2))
+
+-- the table that any words of the states give: the entries of the sets 0 to 15, then of their multiples by 16
+unfoldable pub joinedTable : List ℕ → LetterTable
+joinedTable words = tabulate 16 (λ j. joinedWord words j) ++ tabulate 16 (λ j. joinedWord words (16 * j))
+
 -- the image of s by a table: under all transitions at i = 0, by those of set i at i
 unfoldable pub lookUp : LetterTable → ℕ → ℕ → ℕ
 lookUp table i s = mapOf (bitOr (getD table (s % 16) 0) (getD table (16 + s / 16 % 16) 0)) i

@@ -33,7 +33,7 @@ gridAfter (accepted R) buffer = stored 0 (gridBytes (R .grid)) buffer
 
 -- INSIDE: `read_rule`, for the crates above
 
--- document 01's number and values for each case of a `Reading`
+-- the case of a `Reading` for each outcome: it carries document 01's number, or the values
 unfoldable pub readingOf : Outcome Rule → Reading
 readingOf (refused number) = Refused number
 readingOf (accepted R) = Reading·Rule (record { states = R .states; letters = R .letters; sets = R .sets; start = R .start })

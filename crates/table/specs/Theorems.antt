@@ -5,12 +5,12 @@ use mathlib.Core.Logic.{_↔_}
 use mathlib.Core.List.{List}
 use Prim.Native.Nat.{ℕ, _≤_}
 use lib.ListN.{length}
-use Rattle.table.specs.Outcome.{accepted}
+use Rattle.table.specs.Outcome.{accepted, Tells}
 use Rattle.table.specs.Rule.{Rule}
 use Rattle.table.specs.Table.{WellFormed, inRange, tableBytes, gridBytes, readRule}
 use Rattle.table.specs.Storing.{stored}
 use Rattle.table.specs.ReadCall.{readOutcome, readAnswer, gridAfter}
-use Rattle.table.specs.WriteCall.{writeOutcome}
+use Rattle.table.specs.WriteCall.{writeOutcome, writeAnswer}
 
 -- demand 2, "A grid written as a rule table reads back as that grid", with the same numbers, into every buffer that
 -- has room
@@ -27,6 +27,15 @@ ReadWritesBack =
     (table buffer : List ℕ) (R : Rule) → readOutcome table buffer ≡ accepted R
     → (other : List ℕ) → length table ≤ length other
     → writeOutcome (R .states) (R .letters) (R .sets) (R .start) (gridBytes (R .grid)) other ≡ accepted table
+
+-- "No gives the number": what the numbers in the answers of the reader and of the writer tell
+abbrev pub ReadNumber : Type 0
+ReadNumber = (table buffer : List ℕ) → Tells (readOutcome table buffer) (readAnswer (readOutcome table buffer) .number)
+
+abbrev pub WriteNumber : Type 0
+WriteNumber =
+    (n m k start : ℕ) (grid buffer : List ℕ)
+    → Tells (writeOutcome n m k start grid buffer) (writeAnswer (writeOutcome n m k start grid buffer) .number)
 
 -- the accepted tables are just the tables of well-formed rules within the limits, and the rule read is the one written
 abbrev pub AcceptedTables : Type 0

@@ -1,9 +1,8 @@
 -- What the writer's parts answer and write, for the contracts inside this crate.
-use mathlib.Core.Bool.{cond}
 use mathlib.Core.List.{List, flatMap}
 use Prim.Native.Nat.{ℕ}
 use lib.ListN.{length}
-use Rattle.table.specs.Outcome.{Outcome, refused, accepted}
+use Rattle.table.specs.Outcome.{Outcome, refused, accepted, ask}
 use Rattle.table.specs.Rule.{Rule}
 use Rattle.table.specs.Table.{bytesFit, setBytes, cellBytes, tableBytes, parts}
 use Rattle.table.specs.declared.writer.Counted.{Counted}
@@ -11,9 +10,14 @@ use Rattle.table.specs.declared.writer.Counted.the-variants.{Transitions
 use Rattle.table.specs.declared.writer.Length.{Length}
 use Rattle.table.specs.declared.writer.Length.the-variants.{Exact, Refused}
 
--- how many transitions some grid bytes have, unless one is neither 255 nor below 2^k
-unfoldable pub counted : ℕ → List ℕ → Counted
-counted k bytes = cond (bytesFit k bytes) (Transitions (length (setBytes bytes))) Misfit
+-- document 01's number and value for each case of a `Counted`: the number of transitions, or question 11's number
+abbrev pub countedAs : Counted → Outcome ℕ
+countedAs (Transitions count) = accepted count
+countedAs Misfit = refused 11
+
+-- question 11's "each 255 or below 2^k" put to some grid bytes; on yes the number of their transitions, which have a set byte each
+unfoldable pub transitionCount : ℕ → List ℕ → Outcome ℕ
+transitionCount k bytes = ask (bytesFit k bytes) 11 (accepted (length (setBytes bytes)))
 
 -- the cells of c rows of n grid bytes
 unfoldable pub rowCells : ℕ → ℕ → List ℕ → List ℕ

@@ -2,7 +2,9 @@
 use crate::cursor::Cursor;
 use crate::cursor::Next;
 use crate::limits::Cells;
+use crate::limits::NO_TRANSITION;
 use crate::limits::Row;
+use crate::limits::STATES;
 use crate::limits::Square;
 use crate::limits::SquareWords;
 use crate::limits::Words;
@@ -61,35 +63,32 @@ fn spread(relations: u16) -> u64
     (relations as u64 * 270549121) & 4311810305
 }
 
-// The set bytes of a cell, "as many as the map has standing bits, lowest bit first", into a blank row, and the row's word. The count
-// of ones says how many set bytes follow; each takes its bit away.
-fn read_row(
-    s: &[u8],
-    from: Cursor,
-    standing: u16,
-    k: usize,
-    row: &mut Row,
-    word: &mut u64,
-) -> Progress
-    requires { ⌜ ((standing < 2 ^ maxStates) × (k ≤ maxSets)) × (now row ≡ blankRow) ⌝ }
-    ensures { λ r. ⌜ (progress (now (s .entry)) r (now (row .exit)) ≡ readRow k maxStates standing (drop (from .at) (now (s .entry))))
+// The set bytes of a cell, "as many set bytes as the map has standing bits, lowest bit first", into a blank row, and the row's word.
+// The count of ones on the cell map is the number of set bytes that follow, and is counted down; each takes its bit from the map.
+// Under relation 0 the word is the map itself. A refusal leaves a blank row.
+fn read_row(s: &[u8], from: Cursor, map: u16, k: usize, row: &mut Row, word: &mut u64) -> Progress
+    requires { ⌜ ((map < 2 ^ maxStates) × (k ≤ maxSets)) × (now row ≡ blankRow) ⌝ }
+    ensures { λ r. ⌜ (progress (now (s .entry)) r (now (row .exit)) ≡ readRow k maxStates map (drop (from .at) (now (s .entry))))
         × (now (word .exit) ≡ rowWord (now (row .exit))) ⌝ }
 {
     let mut at = from;
-    let mut rest = standing;
-    let mut made = 0u64;
-    while 0 < u16::count_ones(rest) {
-        let r = u16::trailing_zeros(rest) as usize;
+    let mut left = u16::count_ones(map);
+    let mut rest = map as u64;
+    let mut made = map as u64;
+    while 0 < left {
+        let r = u64::trailing_zeros(rest) as usize;
+        rest = rest & (rest - 1);
+        left -= 1;
         match read_byte(s, at, k) {
             CellByte::Refused(number) => {
-                *word = made;
+                *row = [NO_TRANSITION; STATES];
+                *word = 0;
                 return Progress::Refused(number);
             }
             CellByte::Byte(sets, next) => {
                 row[r] = sets;
-                made = made | (spread(1 + 2 * widen(sets)) << r);
+                made = made | (spread(2 * widen(sets)) << r);
                 at = next;
-                rest = rest & (rest - 1);
             }
         }
     }

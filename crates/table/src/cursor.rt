@@ -1,6 +1,6 @@
 // A place in the bytes of a table, by value, and what stands there.
 ghost use mathlib.Core.Path.{_≡_};
-ghost use Rattle.table.specs.Cursor.{nextAt};
+ghost use Rattle.table.specs.Cursor.{byteAt, nextAs};
 
 // A place in the table's bytes.
 pub struct Cursor {
@@ -15,7 +15,7 @@ pub enum Next {
 
 impl Cursor {
     pub fn next(self, s: &[u8]) -> Next
-        ensures { λ r. ⌜ r ≡ nextAt (now (s .entry)) (self .at) ⌝ }
+        ensures { λ r. ⌜ nextAs r ≡ byteAt (now (s .entry)) (self .at) ⌝ }
     {
         let at = self.at;
         if at < s.len() {

@@ -2,12 +2,11 @@
 // A letter's table is made once; `look_up` is the inner step of every run of a rule.
 use crate::limits::SquareWords;
 ghost use mathlib.Core.Path.{_≡_};
-ghost use mathlib.Core.List.{List};
-ghost use Prim.Native.Nat.{ℕ, suc, _^_, _<_, _≤_};
+ghost use Prim.Native.Nat.{_^_, _<_, _≤_};
 ghost use lib.ListN.{length};
 ghost use Rattle.table.specs.Limits.{maxSets};
-ghost use Rattle.table.specs.Lookup.{squareWords, letterTable, lookUp};
-ghost use Rattle.table.specs.LookupSteps.{Filled};
+ghost use Rattle.table.specs.Lookup.{joinedTable, lookUp};
+ghost use Rattle.table.specs.LookupSteps.{StateAdded};
 
 // The table of a letter: the images of the sets within the lowest four states, then of those within the next four. The images
 // of a set are one word: bit 8·i + r stands where r is in the image under relation i (0: all transitions, i: those of set i).
@@ -29,8 +28,7 @@ pub fn look_up(table: &LetterTable, relation: usize, set: u16) -> u16
 // The entries of the sets with highest state q in each half: q's images joined to the entry of the set without q.
 fn add_state(table: &mut LetterTable, words: &SquareWords, q: usize)
     requires { ⌜ (q < 4) × (length (now table) ≡ 32) ⌝ }
-    ensures { λ _. ⌜ (length (now (table .exit)) ≡ 32) × ((square : List (List ℕ)) → now (words .entry) ≡ squareWords square
-        → Filled square (2 ^ q) (now (table .entry)) → Filled square (2 ^ suc q) (now (table .exit))) ⌝ }
+    ensures { λ _. ⌜ StateAdded (now (words .entry)) q (2 ^ q) (now (table .entry)) (now (table .exit)) ⌝ }
 {
     let low = words[q];
     let high = words[4 + q];
@@ -46,7 +44,7 @@ fn add_state(table: &mut LetterTable, words: &SquareWords, q: usize)
 
 // The table of a letter from its states' words, made in place: each state doubles the entries of both halves.
 pub fn fill_table(words: &SquareWords, table: &mut LetterTable)
-    ensures { λ _. ⌜ ((square : List (List ℕ)) → now (words .entry) ≡ squareWords square → now (table .exit) ≡ letterTable square) ⌝ }
+    ensures { λ _. ⌜ now (table .exit) ≡ joinedTable (now (words .entry)) ⌝ }
 {
     let entries: &mut [u64] = table;
     entries[0] = 0;

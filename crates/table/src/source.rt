@@ -3,7 +3,7 @@
 use crate::cursor::Cursor;
 use crate::cursor::Next;
 ghost use mathlib.Core.Path.{_≡_};
-ghost use Rattle.table.specs.Cursor.{nextAt};
+ghost use Rattle.table.specs.Cursor.{byteAt, nextAs};
 
 // The lent bytes of a table, and the place of the byte to be read next.
 pub struct Reader<'a> {
@@ -21,7 +21,7 @@ impl<'a> Reader<'a> {
 
     // The byte to be read next, with the cursor behind it, or the end: the cursor at the reader's place looks into its bytes.
     pub fn next(self) -> Next
-        ensures { λ r. ⌜ r ≡ nextAt (now (self .entry .src)) (self .entry .at) ⌝ }
+        ensures { λ r. ⌜ nextAs r ≡ byteAt (now (self .entry .src)) (self .entry .at) ⌝ }
     {
         Cursor { at: self.at }.next(self.src)
     }
@@ -29,7 +29,7 @@ impl<'a> Reader<'a> {
 
 // A reader is made at this place and asked. Every cell byte is read through here, and no caller sees a reader.
 pub fn byte_at(s: &[u8], at: usize) -> Next
-    ensures { λ r. ⌜ r ≡ nextAt (now (s .entry)) at ⌝ }
+    ensures { λ r. ⌜ nextAs r ≡ byteAt (now (s .entry)) at ⌝ }
 {
     Reader::new(s, at).next()
 }

@@ -10,7 +10,7 @@ ghost use Rattle.table.specs.Outcome.{refused};
 ghost use Rattle.table.specs.Storing.{stored};
 ghost use Rattle.table.specs.Table.{cellBytes, mapByte, setBytes, writeRule};
 ghost use Rattle.table.specs.WriteCall.{tableAfter, writeAnswer, writeOutcome};
-ghost use Rattle.table.specs.Writing.{counted, lengthOf, rowCells};
+ghost use Rattle.table.specs.Writing.{countedAs, lengthOf, rowCells, transitionCount};
 
 // The writer's answer: 0 and the table's length, or the number of the question that failed and zero.
 #[repr(C)]
@@ -34,7 +34,7 @@ enum Length {
 // Question 11's "each 255 or below 2^k", and the number of transitions.
 fn count_transitions(grid: &[u8], k: usize) -> Counted
     requires { ⌜ k < 16 ⌝ }
-    ensures { λ r. ⌜ r ≡ counted k (now (grid .entry)) ⌝ }
+    ensures { λ r. ⌜ countedAs r ≡ transitionCount k (now (grid .entry)) ⌝ }
 {
     let limit = 1u16 << k;
     let mut count = 0usize;

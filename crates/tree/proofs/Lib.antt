@@ -1,10 +1,12 @@
 -- The calls.
 pub mod StartCall
 pub mod StepCall
+pub mod CallNumbers
 -- One letter in one pass over the rows.
 pub mod StepOfRows
--- The rows as words.
+-- The rows as words, and a tree's rows in the code.
 pub mod PackedWords
+pub mod TreeRows
 pub mod Levels
 pub mod PassSteps
 pub mod PassLoop

@@ -2,19 +2,21 @@
 use mathlib.Core.Path.{_≡_, refl, sym, _∙_, ap, ap₂}
 use mathlib.Core.Bool.{Bool, true, false, _&&_, cond}
 use mathlib.Core.List.{List, [], _∷_, _++_, append-nil}
-use Prim.Native.Nat.{ℕ, suc, _+_, _/_, _%_, _^_, _≤_, _<_}
+use Prim.Native.Nat.{ℕ, suc, _+_, _-_, _/_, _%_, _^_, _≤_, _<_}
 use native.Mathlib.Omega.{arith}
 use native.Mathlib.Numerals.{add-one}
 use borrow.Author.Tests.{eq-eqb, ne-eqb, lt-ltb, le-ltb}
 use lib.Bits.{bitOr, or-zero-r}
 use lib.Count.{ones}
 use lib.Dec.{leb, ltb}
-use lib.ListN.{length, getD, take, drop, set, length-set, length-drop, drop-of-length-le}
-use lib.Seq.{drop-cons, take-suc-set, append-snoc}
+use lib.ListN.{length, getD, take, drop, set, replicate, length-set, length-drop, length-replicate, take-append-drop, drop-of-length-le}
+use lib.Seq.{drop-cons, drop-set-lt, length-take-le, take-suc-set, append-snoc}
 use Rattle.table.specs.BitSet.{member, collect}
 use Rattle.table.proofs.BitSet.{collect-more}
 use Rattle.history.specs.Record.{rank, hostedIn}
-use Rattle.tree.specs.RecordRows.{places, deeper, rowsOfMarks}
+use Rattle.table.specs.Held.{pad}
+use Rattle.tree.specs.Pass.{blankRow}
+use Rattle.tree.specs.RecordRows.{places, blankBehind, deeper, rowsOfMarks}
 use Rattle.tree.specs.declared.rows.Row.{Row}
 use Rattle.history.proofs.Members.{rank-all, rank-lt}
 
@@ -121,10 +123,12 @@ pub record RowsSoFar (label : ℕ → ℕ → ℕ) (marks : List ℕ) (rows : Li
   pub held : length rows ≡ places
   pub few : length marks ≤ places
   pub whole : take node rows ++ rowsOfMarks label node (drop node marks) ≡ rowsOfMarks label 0 marks
+  pub blank : drop node rows ≡ replicate (places - node) blankRow
 
-pub rows-start : (label : ℕ → ℕ → ℕ) (marks : List ℕ) (rows : List Row) → length rows ≡ places → length marks ≤ places
+pub rows-start : (label : ℕ → ℕ → ℕ) (marks : List ℕ) (rows : List Row) → rows ≡ replicate places blankRow → length marks ≤ places
     → RowsSoFar label marks rows 0
-rows-start label marks rows held few = record { upto = omega arith; held = held; few = few; whole = refl }
+rows-start label marks rows is few =
+    record { upto = omega arith; held = ap length is ∙ length-replicate {A = Row} places blankRow; few = few; whole = refl; blank = is }
 
 module _ {label : ℕ → ℕ → ℕ} {marks : List ℕ} {rows : List Row} {node : ℕ} (v : RowsSoFar label marks rows node) where
   pub rows-next : node < length marks → (own kids count : ℕ) (behind : List ℕ) → behind ≡ drop (node + 1) marks
@@ -139,9 +143,20 @@ module _ {label : ℕ → ℕ → ℕ} {marks : List ℕ} {rows : List Row} {nod
     few = v .few;
     whole = rw (take-suc-set rows node _ (omega (arith, v .held, v .few)), append-snoc (take node rows), f, g, e, b, add-one node)
         (rw (drop-cons marks node 0 h) at (v .whole));
+    blank = drop-set-lt (suc node) rows node _ (omega arith) ∙ blank-tail;
   })
+    where
+      blank-tail : drop (suc node) rows ≡ replicate (places - suc node) blankRow
+      blank-tail =
+          let inside : node < length rows = omega (arith, v .held, v .few) in
+          let more : places - node ≡ suc (places - suc node) = omega (arith, v .few) in
+          cc (drop-cons rows node blankRow inside, v .blank, ap (λ (c : ℕ). replicate c blankRow) more)
 
-  pub rows-done : length marks ≤ node → take (length marks) rows ≡ rowsOfMarks label 0 marks
-  unfolding rowsOfMarks
-  rows-done h = let e : node ≡ length marks = omega (arith, v .upto) in
-      ap (λ (c : ℕ). take c rows) (sym e) ∙ sym (append-nil (take node rows)) ∙ rw (drop-of-length-le marks h) at (v .whole)
+  pub rows-done : length marks ≤ node → rows ≡ blankBehind (rowsOfMarks label 0 marks)
+  unfolding rowsOfMarks blankBehind pad
+  rows-done h =
+      let e : node ≡ length marks = omega (arith, v .upto) in
+      let made : take node rows ≡ rowsOfMarks label 0 marks = sym (append-nil (take node rows)) ∙ rw (drop-of-length-le marks h) at (v .whole) in
+      let many : length (rowsOfMarks label 0 marks) ≡ node =
+      ap length (sym made) ∙ length-take-le node rows (omega (arith, v .held, v .few, v .upto)) in
+      sym (take-append-drop node rows) ∙ rw (many, made, v .blank)

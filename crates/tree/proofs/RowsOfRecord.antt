@@ -1,26 +1,29 @@
 -- The rows that are made from the record of a tree are the tree's rows.
 use mathlib.Core.Path.{_≡_, refl, sym, _∙_, ap, ap₂, subst}
-use mathlib.Core.Bool.{true, false}
-use mathlib.Core.List.{List, [], _∷_, _++_, map, map-append, append-assoc, append-nil}
+use mathlib.Core.Bool.{true, false, _&&_}
+use mathlib.Core.List.{List, [], _∷_, _++_, map, append-assoc, append-nil}
 use Prim.Native.Nat.{ℕ, suc, _+_, _-_, _*_, _/_, _%_, _^_, _≤_, _<_}
 use native.Mathlib.Omega.{arith}
 use native.Mathlib.Numerals.{one-add}
-use borrow.Author.Tests.{lt-ltb, le-ltb}
+use borrow.Author.Tests.{lt-ltb, le-ltb, leb-true}
 use lib.Count.{ones, ones-le}
+use lib.Dec.{leb}
 use lib.ListN.{length, getD, take, drop, length-append, length-drop, length-map}
 use lib.Pow.{pow-pos}
 use lib.Seq.{take-at, drop-at}
+use Rattle.table.specs.Limits.{maxStates, maxSets}
+use Rattle.table.specs.Outcome.{refused, accepted}
 use Rattle.table.proofs.BitSet.{member-lt}
+use Rattle.table.proofs.Logic.{and-in}
 use Rattle.history.specs.Forest.{nil, node, size}
 use Rattle.history.specs.Tree.{Node, Tree, isTree}
 use Rattle.history.specs.Record.{host, members, marks, recordOf, hostedIn, decoded, readTree}
 use Rattle.history.specs.RecordChecks.{recordChecks}
-use Rattle.tree.specs.Rows.{rowsFrom, rowsOf, withoutOld}
+use Rattle.tree.specs.Rows.{rowsFrom, rowsOf}
 use Rattle.tree.specs.PackedRows.{rowsIn}
-use Rattle.tree.specs.RecordRows.{places, deeper, rowsOfMarks}
-use Rattle.tree.specs.RecordCode.{Checks}
-use Rattle.tree.specs.declared.record.Count.the-variants.{Nodes, Refused}
-use Rattle.tree.specs.declared.record.Tree.{Tree as Code}
+use Rattle.tree.specs.RecordRows.{blankBehind, deeper, rowsOfMarks}
+use Rattle.tree.specs.RecordCode.{checkedTree, treeBeside, Checks}
+use Rattle.tree.specs.declared.record.Count.the-variants.{Nodes}
 use Rattle.history.proofs.HostLabels.{relabelled, ByNumber, labels-relabelled, labels-from-hosts, Active, fits-active}
 use Rattle.history.proofs.RecordOfTree.{Shallower, length-marks, hosted-law, root-states}
 use Rattle.history.proofs.Members.{length-members, map-at-rank}
@@ -28,6 +31,7 @@ use Rattle.history.proofs.Conditions.{IsTree, tree-out}
 use Rattle.history.proofs.QuestionNine.{is-record-out}
 use Rattle.history.proofs.RecordChecks.{checks-exact, read-by-checks}
 use Rattle.history.proofs.TreesKept.{few-nodes}
+use Rattle.tree.proofs.TreeRows.{rows-size}
 
 module _ (k : ℕ) (small : k < 16) where
   -- THE NODES BELOW A NODE
@@ -156,13 +160,6 @@ record-parts n k (node x below (node y other younger)) t h = absurd (tree-out n 
 
 -- THE CHECK'S ANSWER
 
--- a tree's rows have no old numbers
-without-old : (d : ℕ) (F : Tree) → map withoutOld (rowsFrom d F) ≡ rowsFrom d F
-unfolding rowsFrom
-without-old d nil = refl
-without-old d (node x below younger) =
-    rw (map-append withoutOld (rowsFrom (suc d) below) (rowsFrom d younger), without-old (suc d) below, without-old d younger)
-
 module _ (n k : ℕ) (bytes : List ℕ) (h : k < 16) where
   abbrev states : ℕ
   states = getD bytes 0 0
@@ -187,21 +184,37 @@ module _ (n k : ℕ) (bytes : List ℕ) (h : k < 16) where
   -- what is answered for them, and for bytes that do not pass
   pub checked-yes : recordChecks n k bytes ≡ true → (hosts left words : List ℕ)
       → hosts ≡ take (ones states) (drop 1 bytes) → left ≡ drop (1 + ones states) bytes
-      → take (length left) (rowsIn words) ≡ rowsOfMarks (hostedIn n states hosts) 0 left → length words ≡ places
-      → Checks (readTree n k bytes) (record { count = Nodes (length bytes - (1 + ones states)); tree = record { rows = words } })
-  unfolding rowsOf
-  checked-yes passed hosts left words is is′ made long =
+      → rowsIn words ≡ blankBehind (rowsOfMarks (hostedIn n states hosts) 0 left)
+      → let nodes = length bytes - (1 + ones states) in
+      Checks (readTree n k bytes) (record { count = Nodes nodes; tree = record { rows = words; count = nodes } })
+  unfolding treeBeside
+  checked-yes passed hosts left words is is′ made =
       let P = parts passed .1 in
-      let nodes : length left ≡ size (decoded n bytes) = ap length is′ ∙ P .nodes in
-      let built : take (length left) (rowsIn words) ≡ rowsOf (decoded n bytes) =
-      made ∙ ap₂ (λ (u v : List ℕ). rowsOfMarks (hostedIn n states u) 0 v) is is′ ∙ P .rows in
-      rw (read-by-checks n k bytes h, passed) (
-        ap Nodes (sym (length-drop (1 + ones states) bytes) ∙ P .nodes),
-        (ap (λ (c : ℕ). map withoutOld (take c (rowsIn words))) (sym nodes) ∙ ap (map withoutOld) built ∙ without-old 0 (decoded n bytes), long),
-      )
+      let T : Tree = decoded n bytes in
+      let nodes : length bytes - (1 + ones states) ≡ size T = sym (length-drop (1 + ones states) bytes) ∙ P .nodes in
+      let built : rowsOfMarks (hostedIn n states hosts) 0 left ≡ rowsOf T =
+      ap₂ (λ (u v : List ℕ). rowsOfMarks (hostedIn n states u) 0 v) is is′ ∙ P .rows in
+      rw (read-by-checks n k bytes h, passed) (record {
+        count = ap (λ (c : ℕ). accepted c) nodes;
+        tree = record { rows = made ∙ ap blankBehind built; count = nodes ∙ sym (rows-size T) };
+      })
 
-  pub checked-no : recordChecks n k bytes ≡ false → (tree : Code) → Checks (readTree n k bytes) (record { count = Refused; tree = tree })
-  checked-no failed tree = rw (read-by-checks n k bytes h, failed) refl
+  pub checked-no : recordChecks n k bytes ≡ false → readTree n k bytes ≡ refused 9
+  checked-no failed = rw (read-by-checks n k bytes h, failed)
+
+-- past the limits no bytes pass, and within them those of question 9
+module _ (n k : ℕ) (bytes : List ℕ) where
+  pub limits-no : (leb n maxStates && leb k maxSets) ≡ false → checkedTree n k bytes ≡ refused 9
+  unfolding checkedTree
+  limits-no failed = rw failed
+
+  pub limits-fit : (leb n maxStates && leb k maxSets) ≡ true → (n ≤ maxStates) × (k < 16)
+  limits-fit passed = let (states, sets) = and-in (leb n maxStates) (leb k maxSets) passed in
+      (leb-true n maxStates states, omega (arith, leb-true k maxSets sets))
+
+  pub limits-yes : (leb n maxStates && leb k maxSets) ≡ true → checkedTree n k bytes ≡ readTree n k bytes
+  unfolding checkedTree
+  limits-yes passed = rw passed
 
 -- the part of a list from 1 up to 1 + m
 pub behind-first : (m : ℕ) (l : List ℕ) → take (1 + m - 1) (drop 1 l) ≡ take m (drop 1 l)

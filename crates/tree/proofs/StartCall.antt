@@ -1,6 +1,5 @@
 -- The starting record: what the call answers, and what it leaves in the buffer.
 use mathlib.Core.Path.{_≡_, refl, _∙_, ap}
-use mathlib.Core.Bool.{true}
 use mathlib.Core.List.{List}
 use Prim.Native.Nat.{ℕ, _≤_, _<_}
 use native.Mathlib.Omega.{arith}
@@ -9,23 +8,32 @@ use lib.ListN.{length, take}
 use Rattle.table.specs.Outcome.{refused}
 use Rattle.table.specs.Rule.{Grid, Rule}
 use Rattle.table.specs.Storing.{stored}
-use Rattle.table.specs.Table.{readRule}
+use Rattle.table.specs.Table.{WellFormed, readRule}
 use Rattle.table.specs.declared.header.Header.{Header}
 use Rattle.table.proofs.GridReading.{RuleRead}
-use Rattle.history.specs.Tree.{labels, isTree, startTree}
+use Rattle.history.specs.Tree.{labels, startTree}
 use Rattle.history.specs.Record.{recordOf}
-use Rattle.tree.specs.Rows.{rowsFrom, rowsOf, AreRows}
-use Rattle.tree.specs.RecordRows.{startRows, rowsRecord, Recordable}
+use Rattle.tree.specs.PackedRows.{rowsIn}
+use Rattle.tree.specs.Rows.{rowsFrom, rowsOf, HoldsTree}
+use Rattle.tree.specs.RecordRows.{places, startRows, HasRows, rowsRecord, Recordable}
 use Rattle.tree.specs.TreeCalls.{recordRoom, startOutcome, startAnswer, startAfter}
 use Rattle.tree.specs.declared.calls.StartAnswer.{StartAnswer}
 use Rattle.tree.specs.declared.rows.Row.{Row}
+use Rattle.tree.specs.declared.rows.Tree.{Tree as CodeTree}
 use Rattle.history.proofs.TreesKept.{start-is-tree}
+use Rattle.tree.proofs.TreeRows.{has-are, has-nodes, has-long}
 use Rattle.tree.proofs.RecordOfRows.{record-of-rows, rows-recordable}
 
--- the first row is that of the starting tree
-pub start-rows-are : (R : Rule) → AreRows (take 1 (startRows (R .start))) (startTree R)
+-- the row is that of the starting tree
+start-rows-are : (R : Rule) → startRows (R .start) ≡ rowsOf (startTree R)
 unfolding startRows startTree rowsOf rowsFrom labels
 start-rows-are R = refl
+
+-- which is held
+pub start-holds : (R : Rule) (x : CodeTree) → WellFormed R → 1 ≤ R .sets → HasRows (startRows (R .start)) x → HoldsTree R (startTree R) x
+start-holds R x well sets made =
+    let held : HasRows (rowsOf (startTree R)) x = rw (start-rows-are R) at made in
+    record { fits = start-is-tree R well sets; nodes = has-nodes (startTree R) x held; are = has-are (startTree R) x held }
 
 abbrev Done : List ℕ → List ℕ → StartAnswer → List ℕ → Type 0
 Done table before answer after =
@@ -43,24 +51,29 @@ module _ (table before : List ℕ) (header : Header) (cells : Grid) (v : RuleRea
   unfolding startOutcome startAfter
   start-no-room h answer e = rw (v .reads, lt-leb _ _ h) (e, refl)
 
-  tree : isTree (v .rule .states) (v .rule .sets) (startTree (v .rule)) ≡ true
-  tree = start-is-tree (v .rule) (v .well) (v .range .some-set)
+  module _ (x : CodeTree) (made : HasRows (startRows (header .start)) x) where
+    held : HoldsTree (v .rule) (startTree (v .rule)) x
+    held = start-holds (v .rule) x (v .well) (v .range .some-set) (rw (v .numbers) at made)
 
-  module _ (rows : List Row) (made : rows ≡ startRows (header .start)) where
-    are : AreRows (take 1 rows) (startTree (v .rule))
-    are = rw (made, v .numbers) (start-rows-are (v .rule))
+    abbrev rows : List Row
+    rows = take (x .count) (rowsIn (x .rows))
 
-    pub start-recordable : Recordable (header .states) 1 rows
-    start-recordable = rw (v .numbers) (rows-recordable (v .rule .states) (v .rule .sets) (startTree (v .rule)) tree 1 rows are
-        (v .range .states) (omega arith) (omega (arith, v .range .sets)))
+    -- its rows can be recorded
+    pub start-recordable : Recordable (header .states) (x .count) (rowsIn (x .rows)) × (length (x .rows) ≡ places)
+    unfolding startRows
+    start-recordable = (
+      rw (v .numbers) (rows-recordable (v .rule .states) (v .rule .sets) (startTree (v .rule)) (held .fits) (x .count) (rowsIn (x .rows))
+          (held .are) (v .range .states) (omega (arith, made .count)) (omega (arith, v .range .sets))),
+      has-long (startRows (header .start)) x made (omega arith),
+    )
 
     -- all questions are answered yes
-    pub start-done : recordRoom ≤ length before → (written : ℕ) (after : List ℕ) → written ≡ length (rowsRecord (header .states) (take 1 rows))
-        → after ≡ stored 0 (rowsRecord (header .states) (take 1 rows)) before
+    pub start-done : recordRoom ≤ length before → (written : ℕ) (after : List ℕ) → written ≡ length (rowsRecord (header .states) rows)
+        → after ≡ stored 0 (rowsRecord (header .states) rows) before
         → Done table before (record { number = 0; written = written }) after
     unfolding startOutcome startAnswer startAfter
     start-done h written after e f =
-        let same : rowsRecord (header .states) (take 1 rows) ≡ recordOf (v .rule .states) (startTree (v .rule)) =
-        ap (λ (x : Header). rowsRecord (x .states) (take 1 rows)) (v .numbers)
-        ∙ record-of-rows (v .rule .states) (v .rule .sets) (startTree (v .rule)) tree (take 1 rows) are in
+        let same : rowsRecord (header .states) rows ≡ recordOf (v .rule .states) (startTree (v .rule)) =
+        ap (λ (x : Header). rowsRecord (x .states) rows) (v .numbers)
+        ∙ record-of-rows (v .rule .states) (v .rule .sets) (startTree (v .rule)) (held .fits) rows (held .are) in
         rw (v .reads, le-leb _ _ h, e, f, same) (refl, refl)

@@ -1,28 +1,30 @@
 -- One letter on a record: what the call answers, and what it leaves in the buffer, from the rule and the tree that were read and
 -- from what the letter has made of the tree's rows.
 use mathlib.Core.Path.{_≡_, refl, sym, _∙_, ap}
-use mathlib.Core.Bool.{Bool, true, false}
+use mathlib.Core.Bool.{true}
 use mathlib.Core.List.{List, [], _∷_}
 use Prim.Native.Nat.{ℕ, _≤_, _<_}
 use native.Mathlib.Omega.{arith}
 use borrow.Author.Tests.{le-leb, lt-leb, le-ltb, lt-ltb}
+use lib.Dec.{leb}
 use lib.ListN.{length, getD, take}
 use Rattle.table.specs.Held.{held}
 use Rattle.table.specs.Limits.{maxStates, maxLetters, maxSets}
 use Rattle.table.specs.Lookup.{LetterTable, letterTable}
-use Rattle.table.specs.Outcome.{Outcome, refused, accepted, ask}
+use Rattle.table.specs.Outcome.{Outcome, refused, accepted, _then_}
 use Rattle.table.specs.Rule.{Grid}
 use Rattle.table.specs.Storing.{stored}
 use Rattle.table.specs.Table.{readRule}
 use Rattle.table.specs.declared.header.Header.{Header}
 use Rattle.table.proofs.GridReading.{RuleRead}
+use Rattle.table.proofs.Logic.{and-both}
 use Rattle.history.specs.Forest.{size}
 use Rattle.history.specs.Tree.{Tree, isTree}
 use Rattle.history.specs.Letter.{nextTree}
-use Rattle.history.specs.Record.{recordOf, decoded, isRecord, readTree}
+use Rattle.history.specs.Record.{recordOf, readTree}
 use Rattle.tree.specs.PackedRows.{rowsIn}
-use Rattle.tree.specs.RecordCode.{Checks}
-use Rattle.tree.specs.Rows.{AreRows, StepsTo}
+use Rattle.tree.specs.RecordCode.{checkedTree, countAs, treeBeside, Checks}
+use Rattle.tree.specs.Rows.{rowsOf, AreRows, StepsTo}
 use Rattle.tree.specs.Pass.{steppedRows}
 use Rattle.tree.specs.Sides.{rowsOn, Steppable, Stepping}
 use Rattle.tree.specs.RecordRows.{places, rowsRecord, Recordable}
@@ -34,6 +36,8 @@ use Rattle.tree.specs.declared.rows.Row.{Row}
 use Rattle.tree.specs.declared.rows.Stepped.{Stepped}
 use Rattle.history.proofs.QuestionNine.{record-accepted}
 use Rattle.history.proofs.TreesKept.{next-is-tree, few-nodes}
+use Rattle.tree.proofs.TreeRows.{rows-size, has-are, has-nodes, has-long}
+use Rattle.tree.proofs.RowsOfRecord.{limits-yes}
 use Rattle.tree.proofs.PassLoop.{two-sides}
 use Rattle.tree.proofs.StepOfRows.{sets-fit, steps-to, step-again}
 use Rattle.tree.proofs.RecordOfRows.{record-of-rows, rows-recordable}
@@ -59,24 +63,41 @@ pub record TreeRead (n k : ℕ) (bytes : List ℕ) (count : ℕ) (words : List �
   pub long : length words ≡ places
   pub fits : isTree n k tree ≡ true
 
-module _ (n k : ℕ) (bytes : List ℕ) (checked : Checked) (c : Checks (readTree n k bytes) checked) where
+module _ (n k : ℕ) (bytes : List ℕ) (checked : Checked) (states : n ≤ maxStates) (sets : k ≤ maxSets)
+    (c : Checks (checkedTree n k bytes) checked) where
+  -- n and k are within the limits
+  same : checkedTree n k bytes ≡ readTree n k bytes
+  same = limits-yes n k bytes (and-both (leb n maxStates) (leb k maxSets) (le-leb n maxStates states) (le-leb k maxSets sets))
+
   -- the answer no
   pub tree-refused : checked .count ≡ Refused → readTree n k bytes ≡ refused 9
-  unfolding readTree
-  tree-refused none = go (isRecord n k bytes) c
+  tree-refused none = go (readTree n k bytes) (rw same at (c .count))
     where
-      go : (b : Bool) → Checks (ask b 9 (accepted (decoded n bytes))) checked → ask b 9 (accepted (decoded n bytes)) ≡ refused 9
-      go true h = let z : _≡_ {A = ℕ} 0 1 = cc in absurd (omega arith)
-      go false h = refl
+      go : (o : Outcome Tree) → countAs (checked .count) ≡ (o then λ T. accepted (size T)) → o ≡ refused 9
+      go (refused number) h = let e : refused 9 ≡ refused number = rw none at h in cc
+      go (accepted T) h = let e : refused 9 ≡ accepted (size T) = rw none at h in let z : _≡_ {A = ℕ} 0 1 = cc in absurd (omega arith)
 
   -- the answer yes
   pub tree-read : (count : ℕ) → checked .count ≡ Nodes count → TreeRead n k bytes count (checked .tree .rows)
-  tree-read count some = go (readTree n k bytes) refl c
+  unfolding treeBeside
+  tree-read count some = go (readTree n k bytes) refl (rw same at c)
     where
       go : (o : Outcome Tree) → readTree n k bytes ≡ o → Checks o checked → TreeRead n k bytes count (checked .tree .rows)
-      go (refused number) is h = let z : _≡_ {A = ℕ} 0 1 = cc in absurd (omega arith)
-      go (accepted T) is (many, (rows, long)) = let nodes : count ≡ size T = cc in
-          record { tree = T; reads = is; nodes = nodes; are = rw nodes rows; long = long; fits = record-accepted n k bytes T is .0 }
+      go (refused number) is h = let e : accepted count ≡ refused number = rw some at (h .count) in
+          let z : _≡_ {A = ℕ} 0 1 = cc in absurd (omega arith)
+      go (accepted T) is h =
+          let e : accepted count ≡ accepted (size T) = rw some at (h .count) in
+          let nodes : count ≡ size T = cc in
+          let held : checked .tree .count ≡ count = has-nodes T (checked .tree) (h .tree) ∙ sym nodes in
+          let fits = record-accepted n k bytes T is .0 in
+          record {
+            tree = T;
+            reads = is;
+            nodes = nodes;
+            are = rw held at (has-are T (checked .tree) (h .tree));
+            long = has-long (rowsOf T) (checked .tree) (h .tree) (omega (arith, rows-size T, few-nodes n k T fits));
+            fits = fits;
+          }
 
 -- THE CALL
 

@@ -9,7 +9,7 @@ use native.Mathlib.Decide.{decLt}
 use native.Mathlib.Nat.{pow-suc}
 use lib.Bits.{or-lt}
 use lib.Dec.{eqb, ltb}
-use lib.ListN.{List·getD-eq-default, length, getD, length-map, length-append}
+use lib.ListN.{List·getD-eq-default, length, getD}
 use lib.Pow.{pow-pos}
 use Rattle.table.specs.Limits.{maxStates, maxSets}
 use Rattle.table.specs.Rule.{Rule}
@@ -30,6 +30,7 @@ use Rattle.tree.specs.declared.rows.Stepped.{Stepped}
 use Rattle.history.proofs.Conditions.{Fits, OneRoot, tree-out}
 use Rattle.history.proofs.TreesKept.{next-is-tree, few-nodes}
 use Rattle.history.proofs.StepsJoined.{plainNode}
+use Rattle.tree.proofs.TreeRows.{rows-size, rows-are-nodes}
 use Rattle.tree.proofs.GrownRows.{Gives, grown-rows, grown-olds}
 use Rattle.tree.proofs.PassTree.{pass-dead, pass-root}
 use Rattle.tree.proofs.OldNumbers.{tree-numbered}
@@ -71,17 +72,6 @@ pass-below E k i p (x ∷ rows) h = let e : i + suc (length rows) ≡ suc i + le
     rw e (pass-below E k (suc i) (readRow E k i x (closedTo (x .depth) p)) rows (read-below E k i x (closedTo (x .depth) p) h))
 
 -- THE ROWS OF A TREE
-
--- as many rows as nodes
-rows-size : (d : ℕ) (T : Tree) → length (rowsFrom d T) ≡ size T
-unfolding rowsFrom size
-rows-size d nil = refl
-rows-size d (node x below younger) =
-    omega (arith, length-append (rowsFrom (suc d) below) (rowsFrom d younger), rows-size (suc d) below, rows-size d younger)
-
-pub rows-are-nodes : (rows : List Row) (T : Tree) → AreRows rows T → length rows ≡ size T
-unfolding rowsOf
-rows-are-nodes rows T are = sym (length-map rows withoutOld) ∙ ap length are ∙ rows-size 0 T
 
 -- their active sets are those of the nodes, from 1 to k
 abbrev pub ActiveSets : ℕ → List Row → Type 0
@@ -150,10 +140,9 @@ module _ (R : Rule) (well : WellFormed R) (few-states : R .states ≤ maxStates)
 
   -- the maps have no number past the last node's
   maps-below : MapsBelow (size T) whole
-  unfolding rowsOf
   maps-below =
-      let e : 0 + length (rowsFrom 0 T) ≡ size T = omega (arith, rows-size 0 T) in
-      subst (λ (n : ℕ). MapsBelow n whole) e (pass-below E (R .sets) 0 atStart (rowsFrom 0 T) (pow-pos 0, pow-pos 0))
+      let e : 0 + length (rowsOf T) ≡ size T = omega (arith, rows-size T) in
+      subst (λ (n : ℕ). MapsBelow n whole) e (pass-below E (R .sets) 0 atStart (rowsOf T) (pow-pos 0, pow-pos 0))
 
   -- so an answer that counts its rows and has its maps is the letter's step
   steps : (r : Stepped) → r .count ≡ length (whole .rows) → r .accepting ≡ whole .accepting → r .stable ≡ whole .stable

@@ -1,23 +1,36 @@
 -- Rows and record bytes, one from the other: what the contracts of this crate's codec cite. proofs/RowsOfRecord.antt and
 -- proofs/RecordOfRows.antt show that they are the rows and the record of a tree.
+use mathlib.Core.Path.{_≡_}
 use mathlib.Core.Bool.{not, _&&_, cond}
 use mathlib.Core.List.{List, [], _∷_, _++_, map}
-use Prim.Native.Nat.{ℕ, suc, _+_, _-_, _*_, _/_, _%_, _≤_, _<_}
+use Prim.Native.Nat.{ℕ, suc, _+_, _*_, _/_, _%_, _≤_, _<_}
 use lib.Dec.{ltb}
-use lib.ListN.{getD, replicate}
+use lib.ListN.{length, getD}
 use Rattle.table.specs.BitSet.{member}
+use Rattle.table.specs.Held.{pad}
 use Rattle.table.specs.Limits.{maxStates}
 use Rattle.tree.specs.Pass.{blankRow}
 use Rattle.history.specs.Record.{members}
+use Rattle.tree.specs.PackedRows.{rowsIn}
 use Rattle.tree.specs.declared.rows.Row.{Row}
+use Rattle.tree.specs.declared.rows.Tree.{Tree as CodeTree}
 
 -- the number of rows that the code holds
 abbrev pub places : ℕ
 places = 2 * maxStates
 
--- the rows of a starting tree: that of the root alone, in front of blank ones
+-- the row of a starting tree: that of the root alone
 unfoldable pub startRows : ℕ → List Row
-startRows start = record { depth = 0; label = start; kids = 0; active = 1; old = 0 } ∷ replicate (places - 1) blankRow
+startRows start = record { depth = 0; label = start; kids = 0; active = 1; old = 0 } ∷ []
+
+-- rows in an array, in front of blank ones
+unfoldable pub blankBehind : List Row → List Row
+blankBehind rows = pad places blankRow rows
+
+-- a tree in the code that has just these rows
+pub record HasRows (all : List Row) (x : CodeTree) : Type 0 where
+  pub rows : rowsIn (x .rows) ≡ blankBehind all
+  pub count : x .count ≡ length all
 
 -- ROWS FROM A RECORD
 

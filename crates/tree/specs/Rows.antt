@@ -1,15 +1,18 @@
 -- A tree as the code holds it, and what one letter makes of it, in terms of the definitions of trees.
 use mathlib.Core.Path.{_≡_}
+use mathlib.Core.Bool.{true}
 use mathlib.Core.List.{List, [], _∷_, _++_, map}
 use Prim.Native.Nat.{ℕ, suc}
-use lib.ListN.{length}
+use lib.ListN.{length, take}
 use Rattle.table.specs.Rule.{Rule}
-use Rattle.history.specs.Forest.{nil, node}
-use Rattle.history.specs.Tree.{Tree, labels}
+use Rattle.history.specs.Forest.{nil, node, size}
+use Rattle.history.specs.Tree.{Tree, labels, isTree}
 use Rattle.history.specs.Letter.{nextTree, acceptingMap, stableMap}
 use Rattle.history.specs.OldNumbers.{oldNumbers}
+use Rattle.tree.specs.PackedRows.{rowsIn}
 use Rattle.tree.specs.declared.rows.Row.{Row}
 use Rattle.tree.specs.declared.rows.Stepped.{Stepped}
+use Rattle.tree.specs.declared.rows.Tree.{Tree as CodeTree}
 
 -- the rows of siblings at depth d and of all below them, in number order; the old number does not count here
 unfoldable pub rowsFrom : ℕ → Tree → List Row
@@ -28,6 +31,12 @@ withoutOld x = record { depth = x .depth; label = x .label; kids = x .kids; acti
 -- some rows are those of a tree
 abbrev pub AreRows : List Row → Tree → Type 0
 AreRows rows T = map withoutOld rows ≡ rowsOf T
+
+-- the rows that count are those of the tree T over the rule R
+pub record HoldsTree (R : Rule) (T : Tree) (x : CodeTree) : Type 0 where
+  pub fits : isTree (R .states) (R .sets) T ≡ true
+  pub nodes : x .count ≡ size T
+  pub are : AreRows (take (x .count) (rowsIn (x .rows))) T
 
 -- what one letter makes of the rows of a tree: the rows that it writes, and its answer
 pub record StepsTo (R : Rule) (a : ℕ) (T : Tree) (rows : List Row) (r : Stepped) : Type 0 where

@@ -1,14 +1,22 @@
 -- One letter from a tree on one side to the next tree on the other: what the contract of `step_rows` cites.
 use mathlib.Core.Path.{_≡_}
-use mathlib.Core.List.{List, []}
+use mathlib.Core.List.{List, [], _∷_}
 use Prim.Native.Nat.{ℕ, _-_, _≤_, _<_}
-use lib.ListN.{length, getD, take, drop}
+use lib.ListN.{length, getD, take, drop, replicate}
 use Rattle.table.specs.Limits.{maxStates}
+use Rattle.table.specs.Rule.{Rule}
+use Rattle.history.specs.Tree.{Tree}
 use Rattle.tree.specs.Pass.{SetsFit, Pass}
 use Rattle.tree.specs.PackedRows.{rowsIn}
 use Rattle.tree.specs.RecordRows.{places}
+use Rattle.tree.specs.Rows.{HoldsTree}
 use Rattle.tree.specs.declared.rows.Row.{Row}
 use Rattle.tree.specs.declared.rows.Stepped.{Stepped}
+use Rattle.tree.specs.declared.rows.Tree.{Tree as CodeTree}
+
+-- the tree on a side
+abbrev pub treeOn : List (List ℕ) → ℕ → ℕ → CodeTree
+treeOn sides side count = record { rows = getD sides side []; count = count }
 
 -- the first `count` rows of a side
 abbrev pub rowsOn : List (List ℕ) → ℕ → ℕ → List Row
@@ -18,6 +26,22 @@ rowsOn sides side count = take count (rowsIn (getD sides side []))
 pub record TwoSides (sides : List (List ℕ)) : Type 0 where
   pub two : length sides ≡ 2
   pub long : (side : ℕ) → side < 2 → length (getD sides side []) ≡ places
+
+-- there are two sides, and this is one of them
+abbrev pub Stands : List (List ℕ) → ℕ → Type 0
+Stands sides side = TwoSides sides × (side < 2)
+
+-- a tree is laid on side 0, and side 1 is blank
+pub record Laid (x : CodeTree) (sides : List (List ℕ)) : Type 0 where
+  pub are : sides ≡ x .rows ∷ replicate places 0 ∷ []
+  pub arrays : TwoSides sides
+
+-- a side has the rows of some tree over some rule
+pub record SomeTreeOn (sides : List (List ℕ)) (side count : ℕ) : Type 0 where
+  pub stands : Stands sides side
+  pub rule : Rule
+  pub tree : Tree
+  pub holds : HoldsTree rule tree (treeOn sides side count)
 
 -- a letter can be read from the first `count` rows of one of the two sides
 pub record Steppable (sides : List (List ℕ)) (from count : ℕ) : Type 0 where

@@ -3,7 +3,7 @@ use mathlib.Core.List.{List}
 use Prim.Native.Nat.{ℕ}
 use lib.Dec.{leb, ltb}
 use lib.ListN.{length}
-use Rattle.table.specs.Outcome.{Outcome, refused, accepted, ask, _then_}
+use Rattle.table.specs.Outcome.{Outcome, refused, accepted, ask, _then_, Tells}
 use Rattle.table.specs.Table.{readRule}
 use Rattle.table.specs.Storing.{stored}
 use Rattle.history.specs.Tree.{startTree}
@@ -55,7 +55,17 @@ stepAnswer (refused number) = record { number = number; written = 0; accepting =
 stepAnswer (accepted moved) =
     record { number = 0; written = length (moved .bytes); accepting = moved .accepting; stable = moved .stable }
 
--- "writes exactly the record", the rest unchanged; a refusal alters nothing
+-- the lent buffer afterwards: the new record; "Bytes past an output are unchanged", and a refusal alters nothing
 unfoldable pub stepAfter : Outcome Moved → List ℕ → List ℕ
 stepAfter (refused number) buffer = buffer
 stepAfter (accepted moved) buffer = stored 0 (moved .bytes) buffer
+
+-- THE NUMBERS that a caller sees: each tells whether the call is accepted
+
+abbrev pub StartNumber : Type 0
+StartNumber = (table buffer : List ℕ) → Tells (startOutcome table buffer) (startAnswer (startOutcome table buffer) .number)
+
+abbrev pub StepNumber : Type 0
+StepNumber =
+    (table : List ℕ) (a : ℕ) (bytes buffer : List ℕ)
+    → Tells (stepOutcome table a bytes buffer) (stepAnswer (stepOutcome table a bytes buffer) .number)

@@ -1,7 +1,6 @@
 // The calls on trees: the starting record of a table, and one letter.
 use crate::record::Count;
-use crate::record::Tree;
-use crate::rows::PLACES;
+use crate::rows::Tree;
 use crate::step::step_rows;
 use crate::writing::put_record;
 use table::limits::LETTERS;
@@ -56,8 +55,8 @@ pub fn start(table: &[u8], buffer: &mut [u8]) -> StartAnswer
                 return start_refusal(10);
             }
             let tree = Tree::start(header.start);
-            let rows = tree.rows;
-            let written = put_record(&rows, 1, header.states, buffer);
+            let rows = tree.rows();
+            let written = put_record(&rows, tree.nodes(), header.states, buffer);
             StartAnswer {
                 number: 0,
                 written: written,
@@ -103,9 +102,7 @@ pub fn step(table: &[u8], letter: u8, bytes: &[u8], buffer: &mut [u8]) -> StepAn
             }
             let mut letter_table = [0u64; ENTRIES];
             fill_table(&words[a], &mut letter_table);
-            let mut sides = [[0u64; PLACES]; 2];
-            let rows = tree.rows;
-            sides[0] = rows;
+            let mut sides = tree.laid();
             let next = step_rows(&letter_table, header.sets as u8, &mut sides, 0, count);
             let written = put_record(&sides[1], next.count, header.states, buffer);
             StepAnswer {

@@ -5,5 +5,6 @@ pub mod packed;
 mod reading;
 pub mod record;
 pub mod rows;
+pub mod sides;
 pub mod step;
 mod writing;

@@ -1,14 +1,7 @@
 // A node's row as one machine word, so that the rows of a tree can be lent and a row is one load or one store.
-use crate::rows::PLACES;
 use crate::rows::Row;
 ghost use mathlib.Core.Path.{_≡_};
 ghost use Rattle.tree.specs.PackedRows.{unpacked};
-
-// The rows of a tree, in number order.
-pub type Rows = [u64; PLACES];
-
-// Two trees side by side: a letter reads the rows of one side and writes those of the other.
-pub type Sides = [Rows; 2];
 
 // The word of a row: depth, label, union of the children's labels, active set and old number, from the lowest bits up.
 pub fn pack(x: Row) -> u64

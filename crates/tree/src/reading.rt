@@ -1,17 +1,17 @@
 // The rows of a record's tree: its marks give each node's depth and active set, its hosts give the labels.
-use crate::packed::Rows;
 use crate::packed::pack;
-use crate::rows::PLACES;
 use crate::rows::Row;
+use crate::rows::Rows;
+use crate::rows::Tree;
 ghost use mathlib.Core.Path.{_≡_};
 ghost use mathlib.Core.Bool.{_&&_, cond};
 ghost use Prim.Native.Nat.{_^_, _<_, _≤_};
 ghost use lib.Count.{ones};
 ghost use lib.Dec.{leb, ltb};
-ghost use lib.ListN.{length, take};
+ghost use lib.ListN.{length};
 ghost use Rattle.history.specs.Record.{hostedIn};
 ghost use Rattle.tree.specs.PackedRows.{rowsIn};
-ghost use Rattle.tree.specs.RecordRows.{places, deeper, rowsOfMarks};
+ghost use Rattle.tree.specs.RecordRows.{blankBehind, places, deeper, rowsOfMarks};
 
 // How many marks at the front are deeper than a node: the number of nodes below it, where they follow its own mark.
 fn deeper(depth: u8, marks: &[u8]) -> usize
@@ -59,13 +59,12 @@ fn hosted(n: usize, map: u16, hosts: &[u8], low: usize, high: usize) -> u16
     states
 }
 
-// A row for each mark. A node's label are the states hosted at the node or below it, its children's are those below it.
+// A row for each mark, in front of blank ones. A node's label are the states hosted at the node or below it, its children's are those below it.
 pub fn record_rows(n: usize, map: u16, hosts: &[u8], marks: &[u8]) -> Rows
     requires { ⌜ ((n ≤ 16) × ((map < 2 ^ n) × (ones map ≤ length (now hosts)))) × (length (now marks) ≤ places) ⌝ }
-    ensures { λ r. ⌜ (take (length (now (marks .entry))) (rowsIn r)
-        ≡ rowsOfMarks (hostedIn n map (now (hosts .entry))) 0 (now (marks .entry))) × (length r ≡ places) ⌝ }
+    ensures { λ r. ⌜ rowsIn r ≡ blankBehind (rowsOfMarks (hostedIn n map (now (hosts .entry))) 0 (now (marks .entry))) ⌝ }
 {
-    let mut rows = [0u64; PLACES];
+    let mut rows = [0u64; Tree::PLACES];
     let mut node = 0usize;
     while node < marks.len() {
         let mark = marks[node];

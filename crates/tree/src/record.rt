@@ -1,23 +1,17 @@
-// Trees come from the starting tree or from a checked record.
+// "Every tree comes from the starting tree or from a checked record."
 use crate::checks::record_fits;
-use crate::packed::Rows;
 use crate::packed::pack;
 use crate::reading::record_rows;
-use crate::rows::NODES;
-use crate::rows::PLACES;
 use crate::rows::Row;
+use crate::rows::Tree;
+use table::limits::SETS;
 ghost use mathlib.Core.Path.{_≡_};
-ghost use Prim.Native.Nat.{_<_, _≤_};
-ghost use Rattle.table.specs.Limits.{maxStates};
-ghost use Rattle.history.specs.Record.{readTree};
-ghost use Rattle.tree.specs.PackedRows.{rowsIn};
-ghost use Rattle.tree.specs.RecordCode.{Checks};
-ghost use Rattle.tree.specs.RecordRows.{startRows};
-
-// A tree's rows, in number order, as words; how many of them count stands beside it.
-pub struct Tree {
-    pub rows: Rows,
-}
+ghost use mathlib.Core.Bool.{_&&_};
+ghost use lib.Dec.{leb};
+ghost use Rattle.table.specs.Limits.{maxSets, maxStates};
+ghost use Rattle.table.specs.Outcome.{refused};
+ghost use Rattle.tree.specs.RecordCode.{checkedTree, Checks};
+ghost use Rattle.tree.specs.RecordRows.{startRows, HasRows};
 
 // The number of nodes of a checked record's tree, or that the bytes are no record.
 pub enum Count {
@@ -31,18 +25,34 @@ pub struct Checked {
     pub tree: Tree,
 }
 
+// Has the code room for a tree over n states and k sets?
+fn within_limits(n: usize, k: usize) -> bool
+    ensures { λ r. ⌜ r ≡ (leb n maxStates && leb k maxSets) ⌝ }
+{
+    if n > Tree::NODES {
+        return false;
+    }
+    k <= SETS
+}
+
+// A refusal: the dead tree stands beside it.
+fn no_record() -> Checked
+    ensures { λ r. ⌜ Checks (refused 9) r ⌝ }
+{
+    Checked {
+        count: Count::Refused,
+        tree: Tree {
+            rows: [0u64; Tree::PLACES],
+            count: 0,
+        },
+    }
+}
+
 impl Tree {
-    // At most one node for each state; a record has at most 17 bytes, a name at most 7 numbers.
-    pub const NODES: usize = NODES;
-
-    pub const RECORD: usize = 2 * NODES + 1;
-
-    pub const NAME: usize = NODES - 1;
-
     // "The starting tree is the root alone, the starting states, active set 1." Its one row stands in front of
     // blank ones: the word 0 is the blank row.
     pub fn start(map: u16) -> Tree
-        ensures { λ r. ⌜ rowsIn (r .rows) ≡ startRows map ⌝ }
+        ensures { λ r. ⌜ HasRows (startRows map) r ⌝ }
     {
         let root = Row {
             depth: 0,
@@ -51,23 +61,23 @@ impl Tree {
             active: 1,
             old: 0,
         };
-        let mut rows = [0u64; PLACES];
+        let mut rows = [0u64; Tree::PLACES];
         rows[0] = pack(root);
-        Tree { rows: rows }
+        Tree {
+            rows: rows,
+            count: 1,
+        }
     }
 
     // Question 9: "A step goes on only where its bytes are the record of some tree over n and k: are they?"
     pub fn checked(bytes: &[u8], n: usize, k: usize) -> Checked
-        requires { ⌜ (n ≤ maxStates) × (k < 16) ⌝ }
-        ensures { λ r. ⌜ Checks (readTree n k (now (bytes .entry))) r ⌝ }
+        ensures { λ r. ⌜ Checks (checkedTree n k (now (bytes .entry))) r ⌝ }
     {
+        if !within_limits(n, k) {
+            return no_record();
+        }
         if !record_fits(n, k, bytes) {
-            return Checked {
-                count: Count::Refused,
-                tree: Tree {
-                    rows: [0u64; PLACES],
-                },
-            };
+            return no_record();
         }
         let map = bytes[0] as u16;
         let marks = 1 + u16::count_ones(map) as usize;
@@ -75,7 +85,10 @@ impl Tree {
         let rows = record_rows(n, map, &bytes[1..marks], &bytes[marks..]);
         Checked {
             count: Count::Nodes(nodes),
-            tree: Tree { rows: rows },
+            tree: Tree {
+                rows: rows,
+                count: nodes,
+            },
         }
     }
 }

@@ -1,13 +1,13 @@
 // One letter: the rows of the next tree in one forward pass over the rows of a tree, oldest first.
 // The document's five steps are fused: steps 1 to 3 at a row need only what older nodes have taken, and the union of the
 // new children's labels, which step 4 asks for, is known from the old one.
-use crate::packed::Sides;
 use crate::packed::pack;
 use crate::packed::unpack;
-use crate::rows::NODES;
 use crate::rows::NONE;
 use crate::rows::Row;
+use crate::rows::Sides;
 use crate::rows::Stepped;
+use crate::rows::Tree;
 use table::lookup::LetterTable;
 use table::lookup::look_up;
 ghost use mathlib.Core.Path.{_≡_};
@@ -23,7 +23,7 @@ ghost use Rattle.tree.specs.Pass.{ByDepth, Entered, steppedRows};
 ghost use Rattle.tree.specs.Sides.{rowsOn, Steppable, Stepping};
 
 // Sets of states by depth.
-type ByDepth = [u16; NODES + 1];
+type ByDepth = [u16; Tree::NODES + 1];
 
 // What becomes of a row in steps 1 to 3: its label, the union of its children's labels, and the label that its sprouted
 // child is given in step 2.
@@ -121,7 +121,7 @@ fn next_depth(x: Row, i: usize, count: usize) -> usize
 fn enter(
     taken: &mut ByDepth,
     sprout: &mut ByDepth,
-    named: &mut [bool; NODES + 1],
+    named: &mut [bool; Tree::NODES + 1],
     top: usize,
     met: Met,
 ) -> usize
@@ -170,9 +170,9 @@ pub fn step_rows(
         from (now (sides .entry)) r (now (sides .exit)) ⌝ }
 {
     let to = 1 - from;
-    let mut taken = [0u16; NODES + 1];
-    let mut sprout = [0u16; NODES + 1];
-    let mut named = [true; NODES + 1];
+    let mut taken = [0u16; Tree::NODES + 1];
+    let mut sprout = [0u16; Tree::NODES + 1];
+    let mut named = [true; Tree::NODES + 1];
     let mut accepting = 0u16;
     let mut stable = 0u16;
     let mut top = 0usize;

@@ -1,8 +1,8 @@
-// The record of a tree from its rows, stored into a lent buffer. The rows are lent; that there are PLACES of them is required, since a
+// The record of a tree from its rows, stored into a lent buffer. The rows are lent; that there are Tree::PLACES of them is required, since a
 // contract has a lent array as a list of any length.
-use crate::packed::Rows;
 use crate::packed::unpack;
 use crate::rows::Row;
+use crate::rows::Rows;
 ghost use mathlib.Core.Path.{_≡_};
 ghost use mathlib.Core.Bool.{not, _&&_};
 ghost use Prim.Native.Nat.{_+_, _<_, _≤_};

@@ -18,7 +18,7 @@ use Rattle.word.specs.WalkTables.{Tables}
 use Rattle.treejudge.specs.Names.{Followed, treeOf, Follows, FollowsOn, FollowsTo, begunAt}
 use Rattle.treejudge.specs.SameRows.{sameTrees}
 use Rattle.treejudge.specs.Cycles.{AtRound, CycleOf}
-use Rattle.treejudge.specs.declared.letters.CountedRows.{CountedRows}
+use Rattle.tree.specs.declared.rows.Tree.{Tree as CodeTree}
 use Rattle.treejudge.proofs.NamesFollowed.{begun-follows}
 use Rattle.treejudge.proofs.RoundsRead.{both-small, rows-same, rows-differ}
 
@@ -27,7 +27,7 @@ rounds-more : (r : ℕ) (v : List ℕ) → rounds (r + 1) v ≡ rounds r v ++ v
 rounds-more r v = rounds-add r 1 v ∙ ap (rounds r v ++_) (rounds-one v)
 
 -- at the head of the loop: x is t(power − 1), y is t(half − 1), and lam rounds were followed from x on
-pub record Searching (R : Rule) (u v : List ℕ) (tables : Tables) (k : ℕ) (x y : CountedRows) (half power lam : ℕ)
+pub record Searching (R : Rule) (u v : List ℕ) (tables : Tables) (k : ℕ) (x y : CodeTree) (half power lam : ℕ)
     (now : Followed) : Type 0 where
   pub held : AtRound R u v tables k (power - 1) x
   pub before : AtRound R u v tables k (half - 1) y
@@ -38,7 +38,7 @@ pub record Searching (R : Rule) (u v : List ℕ) (tables : Tables) (k : ℕ) (x 
   pub follows : Follows R (roundTree R u v (power - 1)) (rounds lam v) now
 
 -- t(0) is held first
-pub search-start : {R : Rule} {u v : List ℕ} {tables : Tables} {k : ℕ} {first : CountedRows}
+pub search-start : {R : Rule} {u v : List ℕ} {tables : Tables} {k : ℕ} {first : CodeTree}
     → AtRound R u v tables k 0 first → Searching R u v tables k first first 0 1 0 (begunAt first)
 unfolding rounds
 search-start {R} {u} {v} A = record {
@@ -51,7 +51,7 @@ search-start {R} {u} {v} A = record {
   follows = begun-follows R _ _ (A .tree);
 }
 
-module _ {R : Rule} {u v : List ℕ} {tables : Tables} {k : ℕ} {x y : CountedRows} {half power lam : ℕ} {now : Followed}
+module _ {R : Rule} {u v : List ℕ} {tables : Tables} {k : ℕ} {x y : CodeTree} {half power lam : ℕ} {now : Followed}
     (S : Searching R u v tables k x y half power lam now) where
   -- a round is followed from there
   pub search-follows : FollowsOn R (roundTree R u v (power - 1)) (rounds lam v) tables k v now
@@ -76,8 +76,8 @@ module _ {R : Rule} {u v : List ℕ} {tables : Tables} {k : ℕ} {x y : CountedR
     unfolding FollowsTo
     followed = rw rounds-more (on R _ _ search-follows)
 
-    there : AtRound R u v tables k (power - 1 + (lam + 1)) (treeOf next)
-    there = record {
+    pub search-next : AtRound R u v tables k (power - 1 + (lam + 1)) (treeOf next)
+    search-next = record {
       holds = S .held .holds;
       tabled = S .held .tabled;
       tree = rw (← read-rounds R u v (lam + 1) (power - 1)) (followed .tree);
@@ -85,7 +85,7 @@ module _ {R : Rule} {u v : List ℕ} {tables : Tables} {k : ℕ} {x y : CountedR
 
     -- the held tree and the one reached can be compared
     pub search-small : (x .count ≤ maxStates) × (next .count ≤ maxStates)
-    search-small = both-small (S .held) there
+    search-small = both-small (S .held) search-next
 
     -- where they are the same, the cycle is found
     pub search-found : sameTrees x (treeOf next) ≡ true
@@ -94,7 +94,7 @@ module _ {R : Rule} {u v : List ℕ} {tables : Tables} {k : ℕ} {x y : CountedR
         (record { held = x; before = y; half = half; power = power; period = lam + 1; accepted = next .accepted })
     search-found same entry period F =
         let (back, late) = brent-found (roundTree R u v) (readLetters R v) (round-next R u v) entry period F power lam (S .brent)
-        (rows-same (S .held) there same) in
+        (rows-same (S .held) search-next same) in
         record {
           held = S .held .tree;
           before = S .before .tree;
@@ -108,7 +108,7 @@ module _ {R : Rule} {u v : List ℕ} {tables : Tables} {k : ℕ} {x y : CountedR
 
     module _ (differ : sameTrees x (treeOf next) ≡ false) where
       apart : roundTree R u v (power - 1) ≡ roundTree R u v (power - 1 + (lam + 1)) → ⊥
-      apart = rows-differ (S .held) there differ
+      apart = rows-differ (S .held) search-next differ
 
       -- otherwise the search goes on
       pub search-more : (lam + 1 ≡ power → ⊥) → Searching R u v tables k x y half power (lam + 1) next
@@ -133,7 +133,7 @@ module _ {R : Rule} {u v : List ℕ} {tables : Tables} {k : ℕ} {x y : CountedR
         unfolding rounds
         search-reset =
             let e : power - 1 + (lam + 1) ≡ power + power - 1 = omega (arith, S .below) in
-            let A : AtRound R u v tables k (power + power - 1) (treeOf next) = rw e at there in
+            let A : AtRound R u v tables k (power + power - 1) (treeOf next) = rw e at search-next in
             record {
               held = A;
               before = S .held;

@@ -21,34 +21,24 @@ use Rattle.history.specs.Tree.{startTree}
 use Rattle.history.specs.Rounds.{roundTree}
 use Rattle.history.specs.Verdict.{FirstWitness}
 use Rattle.history.specs.Finding.{yes-node, no-node}
-use Rattle.history.proofs.TreesKept.{start-is-tree, few-nodes}
-use Rattle.tree.specs.RecordRows.{startRows}
-use Rattle.tree.specs.PackedRows.{rowsIn}
-use Rattle.tree.proofs.StartCall.{start-rows-are}
+use Rattle.history.proofs.TreesKept.{few-nodes}
+use Rattle.tree.specs.RecordRows.{startRows, HasRows}
+use Rattle.tree.proofs.StartCall.{start-holds}
 use Rattle.treejudge.specs.JudgeCall.{noName, treeAnswer, namesAfter, Judged}
-use Rattle.word.specs.WalkTables.{Tables, Tabled, TablesFor}
+use Rattle.word.specs.WalkTables.{Tables, Tabled, tablesAfter}
+use Rattle.word.proofs.WalkTables.{tables-for}
 use Rattle.treejudge.specs.Reading.{HasSets, Reads, ReadsTo}
 use Rattle.treejudge.specs.Cycles.{AtRound}
 use Rattle.treejudge.specs.Repeats.{RepeatOf}
 use Rattle.treejudge.specs.NodeNames.{Lowest, SomeNode, IsName}
-use Rattle.treejudge.specs.declared.letters.CountedRows.{CountedRows}
+use Rattle.tree.specs.declared.rows.Tree.{Tree as CodeTree}
 use Rattle.treejudge.specs.declared.repeat.Repeat.{Repeat}
 use Rattle.treejudge.specs.declared.name.Name.{Name}
-use Rattle.treejudge.specs.declared.judge.TreeAnswer.{TreeAnswer}
 
--- the letters still to be read, from the first of u or of v on
+-- the letters still to be read, from the first of u on
 lead-left : (u v w : List ℕ) → w ≡ lettersLeft false u v 0 → u ≡ w
 unfolding lettersLeft
 lead-left u v w e = sym e
-
-tail-left : (u v w : List ℕ) → w ≡ lettersLeft true u v 0 → v ≡ w
-unfolding lettersLeft
-tail-left u v w e = sym e
-
--- so a walk whose tail is read from its first letter on is judged
-pub judged-tail : (R : Rule) (u v w names : List ℕ) (answer : TreeAnswer) (after : List ℕ) → w ≡ lettersLeft true u v 0
-    → Judged R u w names answer after → Judged R u v names answer after
-judged-tail R u v w names answer after left J = rw (tail-left u v w left) J
 
 module _ (R : Rule) (header : Header) (words : List (List ℕ)) (h : HoldsRule R header words) where
   -- the rule is within the limits
@@ -62,35 +52,28 @@ module _ (R : Rule) (header : Header) (words : List (List ℕ)) (h : HoldsRule R
   pub sets-small : header .sets < 256
   sets-small = rw (h .numbers) (omega (arith, h .limits .sets))
 
-  module _ (rows : List ℕ) (made : rowsIn rows ≡ startRows (header .start)) (u v w : List ℕ) (left : w ≡ lettersLeft false u v 0)
-      (lead : Every (λ a. a < header .letters) u) (tail : Every (λ a. a < header .letters) v) (tables : Tables)
-      (for : TablesFor words u v tables) where
+  module _ (start : CodeTree) (made : HasRows (startRows (header .start)) start) (u v w : List ℕ) (left : w ≡ lettersLeft false u v 0)
+      (lead : Every (λ a. a < header .letters) u) (tail : Every (λ a. a < header .letters) v) (before tables : Tables)
+      (filled : tables ≡ tablesAfter words u v before) where
     -- the letters of the walk have their tables
     tabled : Every (Tabled R tables) u × Every (Tabled R tables) v
-    unfolding TablesFor
-    tabled = for R (h .images) (rw (h .numbers) at lead) (rw (h .numbers) at tail)
+    tabled = tables-for h u v lead tail before tables filled
 
     -- u is read from the starting tree
-    pub lead-reads : (x : CountedRows) → x ≡ record { rows = rows; count = 1 } → Reads R (startTree R) tables (header .sets) w x
-    unfolding startTree size
+    pub lead-reads : (x : CodeTree) → x ≡ start → Reads R (startTree R) tables (header .sets) w x
     lead-reads x is = rw is (record {
       holds = has-sets;
       tabled = rw (lead-left u v w left) at (tabled .0);
-      tree = record {
-        fits = start-is-tree R (h .limits .well) (h .limits .some-set);
-        nodes = refl;
-        are = rw (made, h .numbers) (start-rows-are R);
-      };
+      tree = start-holds R start (h .limits .well) (h .limits .some-set) (rw (h .numbers) at made);
     })
 
     -- and leads to t(0)
-    pub first-round : (first : CountedRows) → ReadsTo tables (header .sets) w (record { rows = rows; count = 1 }) first
-        → (v′ : List ℕ) → v′ ≡ lettersLeft true u v 0 → AtRound R u v′ tables (header .sets) 0 first
+    pub first-round : (first : CodeTree) → ReadsTo tables (header .sets) w start first → AtRound R u v tables (header .sets) 0 first
     unfolding ReadsTo roundTree rounds
-    first-round first to v′ left′ = record {
+    first-round first to = record {
       holds = has-sets;
-      tabled = rw (tail-left u v v′ left′) at (tabled .1);
-      tree = rw (append-nil u, lead-left u v w left) (to R (startTree R) (lead-reads _ refl));
+      tabled = tabled .1;
+      tree = rw (append-nil u, lead-left u v w left) (to R (startTree R) (lead-reads start refl));
     }
 
 module _ (R : Rule) (u v : List ℕ) (r : Repeat) (S : RepeatOf R u v r) (before : List ℕ) where

@@ -1,6 +1,6 @@
 -- Reading letters: one letter over the rows of a tree, and the tree after the letters read so far.
-use mathlib.Core.Path.{_≡_, refl, _∙_}
-use mathlib.Core.List.{List, [], _∷_}
+use mathlib.Core.Path.{_≡_, _∙_}
+use mathlib.Core.List.{List, []}
 use Prim.Native.Nat.{ℕ, suc, _+_, _-_, _≤_, _<_}
 use native.Mathlib.Numerals.{add-one}
 use native.Mathlib.Omega.{arith}
@@ -16,20 +16,21 @@ use Rattle.history.proofs.TreesKept.{next-is-tree, few-nodes}
 use Rattle.history.proofs.TreesOfWalk.{read-append}
 use Rattle.tree.specs.Rows.{StepsTo}
 use Rattle.tree.specs.Pass.{steppedRows}
-use Rattle.tree.specs.RecordRows.{places}
 use Rattle.tree.specs.Sides.{rowsOn, TwoSides, Steppable, Stepping}
 use Rattle.tree.specs.declared.rows.Stepped.{Stepped}
-use Rattle.tree.proofs.PassLoop.{two-sides}
-use Rattle.tree.proofs.StepOfRows.{rows-are-nodes, sets-fit, steps-to}
+use Rattle.tree.proofs.TreeRows.{rows-are-nodes}
+use Rattle.tree.proofs.StepOfRows.{sets-fit, steps-to}
 use Rattle.word.specs.WalkTables.{Tables, Tabled}
-use Rattle.treejudge.specs.Reading.{HasSets, HoldsTree, treeOn, Stands, Laid, Reads, Readable, ReadsTo}
-use Rattle.treejudge.specs.declared.letters.CountedRows.{CountedRows}
+use Rattle.tree.specs.Rows.{HoldsTree}
+use Rattle.tree.specs.Sides.{Stands, Laid}
+use Rattle.treejudge.specs.Reading.{HasSets, treeAt, Reads, Readable, ReadsTo}
+use Rattle.tree.specs.declared.rows.Tree.{Tree as CodeTree}
 use Rattle.treejudge.specs.declared.letters.OnSide.{OnSide}
 
 -- A TREE'S ROWS
 
 -- a tree over a rule within the limits has few rows
-pub tree-small : (R : Rule) (T : Tree) (x : CountedRows) → R .states ≤ maxStates → HoldsTree R T x → x .count ≤ maxStates
+pub tree-small : (R : Rule) (T : Tree) (x : CodeTree) → R .states ≤ maxStates → HoldsTree R T x → x .count ≤ maxStates
 tree-small R T x h tree = omega (arith, tree .nodes, few-nodes (R .states) (R .sets) T (tree .fits))
 
 module _ (R : Rule) (T : Tree) (tables : Tables) (k : ℕ) (holds : HasSets R k)
@@ -59,18 +60,14 @@ module _ (R : Rule) (T : Tree) (tables : Tables) (k : ℕ) (holds : HasSets R k)
     }
 
 -- laid on side 0
-pub rows-laid : (x : CountedRows) (other : List ℕ) → length (x .rows) ≡ places → length other ≡ places
-    → Laid x (x .rows ∷ other ∷ [])
-rows-laid x other long-rows long-other = record { arrays = two-sides (x .rows) other long-rows long-other; rows = refl }
-
-pub tree-laid : (x : CountedRows) (sides : List (List ℕ)) → Laid x sides → (at : OnSide) → at ≡ record { side = 0; count = x .count }
-    → treeOn sides at ≡ x
-tree-laid x sides laid at is = rw (is, laid .rows)
+pub tree-laid : (x : CodeTree) (sides : List (List ℕ)) → Laid x sides → (count : ℕ) → count ≡ x .count
+    → (at : OnSide) → at ≡ record { side = 0; count = count } → treeAt sides at ≡ x
+tree-laid x sides laid count counts at is = rw (is, laid .are, counts)
 
 -- LETTER BY LETTER
 
 -- the rows on a side after the first `at` letters of w, read from the rows x
-pub record ReadUpTo (tables : Tables) (k : ℕ) (w : List ℕ) (x : CountedRows) (at : ℕ)
+pub record ReadUpTo (tables : Tables) (k : ℕ) (w : List ℕ) (x : CodeTree) (at : ℕ)
     (sides : List (List ℕ)) (side count : ℕ) : Type 0 where
   pub upto : at ≤ length w
   pub arrays : TwoSides sides
@@ -86,11 +83,11 @@ read-more R w at T h = rw (take-suc w at 0 h, read-append)
 
 -- at the start
 pub upto-none : (tables : Tables) (k : ℕ) (w : List ℕ) (sides : List (List ℕ)) (from : OnSide) → Stands sides (from .side)
-    → ReadUpTo tables k w (treeOn sides from) 0 sides (from .side) (from .count)
+    → ReadUpTo tables k w (treeAt sides from) 0 sides (from .side) (from .count)
 unfolding readLetters
 upto-none tables k w sides from (arrays, on) = record { upto = omega arith; arrays = arrays; on = on; tree = λ R T reads. reads .tree }
 
-module _ (tables : Tables) (k : ℕ) (w : List ℕ) (x : CountedRows) where
+module _ (tables : Tables) (k : ℕ) (w : List ℕ) (x : CodeTree) where
   -- each letter has its place in the tables
   pub letter-small : Readable tables k w x → (at : ℕ) → at < length w → getD w at 0 < maxLetters
   unfolding Readable
@@ -120,6 +117,6 @@ module _ (tables : Tables) (k : ℕ) (w : List ℕ) (x : CountedRows) where
     }
 
 -- letters that are read from a tree, wherever it stands, to a tree that is taken up
-pub reads-taken : (tables : Tables) (k : ℕ) (w : List ℕ) (x y first cut : CountedRows) → x ≡ first → cut ≡ y
+pub reads-taken : (tables : Tables) (k : ℕ) (w : List ℕ) (x y first cut : CodeTree) → x ≡ first → cut ≡ y
     → ReadsTo tables k w x y → ReadsTo tables k w first cut
 reads-taken tables k w x y first cut from to reads = rw (← from, to) reads

@@ -19,9 +19,11 @@ use Rattle.tree.specs.RecordRows.{places}
 use Rattle.tree.specs.Sides.{rowsOn, TwoSides, Steppable, Stepping}
 use Rattle.tree.specs.declared.rows.Stepped.{Stepped}
 use Rattle.word.specs.WalkTables.{Tables, Tabled}
-use Rattle.treejudge.specs.Reading.{HasSets, HoldsTree, treeOn, Stands, Readable}
+use Rattle.tree.specs.Rows.{HoldsTree}
+use Rattle.tree.specs.Sides.{Stands}
+use Rattle.treejudge.specs.Reading.{HasSets, treeAt, Readable}
 use Rattle.treejudge.specs.Names.{Followed, treeOf, followedOn, followedBy, begunAt, begunOn, Follows, FollowsOn, Followable, FollowsTo}
-use Rattle.treejudge.specs.declared.letters.CountedRows.{CountedRows}
+use Rattle.tree.specs.declared.rows.Tree.{Tree as CodeTree}
 use Rattle.treejudge.specs.declared.letters.OnSide.{OnSide}
 use Rattle.treejudge.specs.declared.follow.FollowedOn.{FollowedOn}
 use Rattle.treejudge.proofs.LettersRead.{tree-small, letter-ready, letter-steps, letter-holds}
@@ -29,7 +31,7 @@ use Rattle.treejudge.proofs.LettersRead.{tree-small, letter-ready, lett
 -- BEFORE THE FIRST LETTER
 
 -- all nodes of a tree have kept their names, and none was accepting
-pub begun-follows : (R : Rule) (T : Tree) (x : CountedRows) → HoldsTree R T x → Follows R T [] (begunAt x)
+pub begun-follows : (R : Rule) (T : Tree) (x : CodeTree) → HoldsTree R T x → Follows R T [] (begunAt x)
 unfolding begunAt readLetters
 begun-follows R T x tree = let (kept, accepted) = follow-none R T in record {
   first = tree .fits;
@@ -39,7 +41,7 @@ begun-follows R T x tree = let (kept, accepted) = follow-none R T in record {
 }
 
 -- on a side
-pub begun-there : (sides : List (List ℕ)) (x : OnSide) (tree : CountedRows) → treeOn sides x ≡ tree
+pub begun-there : (sides : List (List ℕ)) (x : OnSide) (tree : CodeTree) → treeAt sides x ≡ tree
     → (now : FollowedOn) → now ≡ begunOn (x .side) (x .count) → followedOn sides now ≡ begunAt tree
 unfolding begunAt
 begun-there sides x tree there now is = rw (is, ← there)

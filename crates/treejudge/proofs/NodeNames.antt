@@ -22,8 +22,8 @@ use Rattle.tree.specs.Pass.{blankRow}
 use Rattle.tree.specs.declared.rows.Row.{Row}
 use Rattle.treejudge.specs.JudgeCall.{nameRoom}
 use Rattle.treejudge.specs.NodeNames.{Lowest, SomeNode, IsName}
-use Rattle.treejudge.specs.Reading.{HoldsTree}
-use Rattle.treejudge.specs.declared.letters.CountedRows.{CountedRows}
+use Rattle.tree.specs.Rows.{HoldsTree}
+use Rattle.tree.specs.declared.rows.Tree.{Tree as CodeTree}
 use Rattle.treejudge.proofs.LettersRead.{tree-small}
 
 -- THE LOWEST NODE
@@ -60,11 +60,11 @@ depths-of-rows d nil = refl
 depths-of-rows d (node x below younger) =
     rw (map-append (λ x. x .depth) (rowsFrom (suc d) below) (rowsFrom d younger), depths-of-rows (suc d) below, depths-of-rows d younger)
 
-abbrev rowDepth : CountedRows → ℕ → ℕ
+abbrev rowDepth : CodeTree → ℕ → ℕ
 rowDepth x i = getD (rowsIn (x .rows)) i blankRow .depth
 
 -- a row has the depth of its node
-depth-at : (R : Rule) (T : Tree) (x : CountedRows) → HoldsTree R T x → (i : ℕ) → i < x .count → rowDepth x i ≡ getD (depths T) i 0
+depth-at : (R : Rule) (T : Tree) (x : CodeTree) → HoldsTree R T x → (i : ℕ) → i < x .count → rowDepth x i ≡ getD (depths T) i 0
 unfolding depths rowsOf
 depth-at R T x held i h =
     let rows = take (x .count) (rowsIn (x .rows)) in
@@ -107,7 +107,7 @@ name-start rows number numbers room =
     record { upto = omega arith; room = room; short = omega arith; name = λ R T count held h. sym (name-root T) }
 
 -- the next node in any tree of the rows: its depth and its name
-module _ (R : Rule) (T : Tree) (x : CountedRows) (held : HoldsTree R T x) (i : ℕ) (h : i + 1 < x .count) where
+module _ (R : Rule) (T : Tree) (x : CodeTree) (held : HoldsTree R T x) (i : ℕ) (h : i + 1 < x .count) where
   later : suc i < size T
   later = omega (arith, held .nodes)
 
@@ -128,10 +128,10 @@ module _ (R : Rule) (T : Tree) (x : CountedRows) (held : HoldsTree R T x) (i : �
       ∙ ap (λ (c : ℕ). getD (names T) c []) (sym (add-one i))
 
 -- a number of a node is below the limit
-pub node-few : {x : CountedRows} {number : ℕ} → SomeNode x number → number < maxStates
+pub node-few : {x : CodeTree} {number : ℕ} → SomeNode x number → number < maxStates
 node-few {x} some = omega (arith, tree-small (some .rule) (some .tree) x (some .states) (some .holds))
 
-module _ {x : CountedRows} {number : ℕ} (some : SomeNode x number) {numbers : List ℕ} {long i : ℕ}
+module _ {x : CodeTree} {number : ℕ} (some : SomeNode x number) {numbers : List ℕ} {long i : ℕ}
     (v : NamedSoFar (x .rows) number numbers long i) (h : i < number) where
   abbrev depth : ℕ
   depth = rowDepth x (i + 1)
@@ -180,7 +180,7 @@ module _ {x : CountedRows} {number : ℕ} (some : SomeNode x number) {numbers : 
       named _ (put-deeper numbers long depth low (omega (arith, v .room)) (omega arith) step)
 
 -- all nodes in front are passed
-pub name-done : {x : CountedRows} {number : ℕ} → SomeNode x number → {numbers : List ℕ} {long i : ℕ}
+pub name-done : {x : CodeTree} {number : ℕ} → SomeNode x number → {numbers : List ℕ} {long i : ℕ}
     → NamedSoFar (x .rows) number numbers long i → number ≤ i → IsName x number (record { numbers = numbers; length = long })
 name-done {x} {number} some {numbers} {long} {i} v h =
     let last : i ≡ number = omega (arith, v .upto) in

@@ -5,14 +5,13 @@ use mathlib.Core.Bool.{Bool, true, false, not, cond}
 use mathlib.Core.List.{List, [], _++_}
 use Prim.Native.Nat.{ℕ, _-_, _≤_, _<_}
 use native.Mathlib.Omega.{arith}
-use lib.ListN.{length, take, drop, take-append-drop}
+use lib.ListN.{take, take-append-drop}
 use Rattle.table.specs.BitSet.{member}
 use Rattle.table.specs.Rule.{Rule}
 use Rattle.table.specs.Table.{Every}
 use Rattle.table.proofs.Every.{append-every}
 use Rattle.table.proofs.Logic.{clash}
-use Rattle.table.proofs.Parts.{to-end}
-use Rattle.word.specs.Walk.{rounds}
+use Rattle.word.specs.Walk.{rounds, lettersLeft}
 use Rattle.word.proofs.Paths.{rounds-one}
 use Rattle.history.specs.Forest.{size}
 use Rattle.history.specs.Tree.{Tree}
@@ -23,12 +22,13 @@ use Rattle.history.proofs.RepeatExists.{repeat-exists}
 use Rattle.history.proofs.CycleVerdict.{member-node, verdict-yes, verdict-no}
 use Rattle.history.proofs.CutCycle.{cut-round, cut-rest, repeat-first, repeat-second, cut-repeat, cut-first, cut-none}
 use Rattle.word.specs.WalkTables.{Tables, Tabled}
-use Rattle.treejudge.specs.Reading.{HoldsTree, Reads, ReadsTo}
+use Rattle.tree.specs.Rows.{HoldsTree}
+use Rattle.treejudge.specs.Reading.{Reads, ReadsTo}
 use Rattle.treejudge.specs.Names.{Followed, treeOf, begunAt, Follows, FollowsOn, FollowsTo}
 use Rattle.treejudge.specs.SameRows.{sameTrees}
 use Rattle.treejudge.specs.Cycles.{AtRound, CycleFound, Searched, EntryFound}
 use Rattle.treejudge.specs.Repeats.{RepeatOf}
-use Rattle.treejudge.specs.declared.letters.CountedRows.{CountedRows}
+use Rattle.tree.specs.declared.rows.Tree.{Tree as CodeTree}
 use Rattle.treejudge.specs.declared.cycle.Cycle.{Cycle}
 use Rattle.treejudge.proofs.NamesFollowed.{begun-follows}
 use Rattle.treejudge.proofs.SameTrees.{same-rows-same, same-trees-same}
@@ -36,7 +36,7 @@ use Rattle.treejudge.proofs.SameTrees.{same-rows-same, same-trees-same}
 -- BY THE SEARCH
 
 -- it is done for the first repeat
-pub searched : (R : Rule) (u v : List ℕ) (tables : Tables) (k : ℕ) (first : CountedRows) → AtRound R u v tables k 0 first
+pub searched : (R : Rule) (u v : List ℕ) (tables : Tables) (k : ℕ) (first : CodeTree) → AtRound R u v tables k 0 first
     → (cycle : Cycle) → CycleFound tables k v first cycle
     → (entry : ℕ) × (period : ℕ) × Searched R u v tables k entry period first cycle
 unfolding CycleFound
@@ -45,7 +45,7 @@ searched R u v tables k first at cycle found =
     let (e, p, F, _) = repeat-exists R (t .limits .well) (t .limits .some-set) (t .limits .states) (t .limits .sets) u v in
     (e, p, record { place = at; repeat = F; cycle = found R u e p at F })
 
-module _ (R : Rule) (u v : List ℕ) (tables : Tables) (k e p : ℕ) (first : CountedRows) (cycle : Cycle)
+module _ (R : Rule) (u v : List ℕ) (tables : Tables) (k e p : ℕ) (first : CodeTree) (cycle : Cycle)
     (S : Searched R u v tables k e p first cycle) where
   -- a number in the map is that of a node
   node-of : (j : ℕ) → member (cycle .accepted) j ≡ true → j < size (roundTree R u v (cycle .power - 1))
@@ -72,12 +72,13 @@ module _ (R : Rule) (u v : List ℕ) (tables : Tables) (k e p : ℕ) (first : Co
 
 -- AT THE CUT
 
--- the two parts of a list that is cut
-pub two-parts : (cut : ℕ) (v : List ℕ) → take (cut - 0) v ++ take (length v - cut) (drop cut v) ≡ v
-two-parts cut v = let e : cut - 0 ≡ cut = omega arith in
-    rw (e, to-end cut v) (take-append-drop cut v)
+-- the letters of the tail up to the cut, and those that are left from there
+pub two-parts : (cut : ℕ) (u v rest : List ℕ) → rest ≡ lettersLeft true u v cut → take (cut - 0) v ++ rest ≡ v
+unfolding lettersLeft
+two-parts cut u v rest left = let e : cut - 0 ≡ cut = omega arith in
+    rw (e, left) (take-append-drop cut v)
 
-module _ (R : Rule) (u head rest : List ℕ) (tables : Tables) (k : ℕ) (first : CountedRows)
+module _ (R : Rule) (u head rest : List ℕ) (tables : Tables) (k : ℕ) (first : CodeTree)
     (A : AtRound R u (head ++ rest) tables k 0 first) where
   abbrev t : ℕ → Tree
   t = roundTree R u (head ++ rest)
@@ -91,10 +92,10 @@ module _ (R : Rule) (u head rest : List ℕ) (tables : Tables) (k : ℕ) (first 
   parts = append-every (Tabled R tables) head rest (A .tabled)
 
   -- the letters up to the cut are read from t(0)
-  pub head-reads : (x : CountedRows) → x ≡ first → Reads R (t 0) tables k head x
+  pub head-reads : (x : CodeTree) → x ≡ first → Reads R (t 0) tables k head x
   head-reads x is = record { holds = A .holds; tabled = parts .0; tree = rw is (A .tree) }
 
-  module _ (cut : CountedRows) (to : ReadsTo tables k head first cut) where
+  module _ (cut : CodeTree) (to : ReadsTo tables k head first cut) where
     pub cut-holds : HoldsTree R (s 0) cut
     unfolding ReadsTo
     cut-holds = rw (cut-round R u head rest 0) (to R (t 0) (head-reads first refl))

@@ -13,28 +13,28 @@ use Rattle.word.specs.WalkTables.{Tables}
 use Rattle.treejudge.specs.Reading.{Reads, ReadsTo}
 use Rattle.treejudge.specs.SameRows.{sameTrees}
 use Rattle.treejudge.specs.Cycles.{AtRound, Ahead}
-use Rattle.treejudge.specs.declared.letters.CountedRows.{CountedRows}
+use Rattle.tree.specs.declared.rows.Tree.{Tree as CodeTree}
 use Rattle.treejudge.proofs.LettersRead.{tree-small}
 use Rattle.treejudge.proofs.SameTrees.{same-rows-same, same-trees-same}
 
-module _ {R : Rule} {u v : List ℕ} {tables : Tables} {k i : ℕ} {x : CountedRows} (X : AtRound R u v tables k i x) where
+module _ {R : Rule} {u v : List ℕ} {tables : Tables} {k i : ℕ} {x : CodeTree} (X : AtRound R u v tables k i x) where
   -- the tail is read from a round's tree
   pub round-reads : Reads R (roundTree R u v i) tables k v x
   round-reads = record { holds = X .holds; tabled = X .tabled; tree = X .tree }
 
   -- to the next round's
-  pub round-read : {y : CountedRows} → ReadsTo tables k v x y → AtRound R u v tables k (i + 1) y
+  pub round-read : {y : CodeTree} → ReadsTo tables k v x y → AtRound R u v tables k (i + 1) y
   unfolding ReadsTo
   round-read read =
       record { holds = X .holds; tabled = X .tabled; tree = rw (add-one, round-next) (read R (roundTree R u v i) round-reads) }
 
   -- or to a later one's
-  pub rounds-read : (count : ℕ) {y : CountedRows} → Ahead tables k v count x y → {place : ℕ} → i + count ≡ place
+  pub rounds-read : (count : ℕ) {y : CodeTree} → Ahead tables k v count x y → {place : ℕ} → i + count ≡ place
       → AtRound R u v tables k place y
   unfolding Ahead
   rounds-read count on to = record { holds = X .holds; tabled = X .tabled; tree = rw to at (on R u i X) }
 
-  module _ {j : ℕ} {y : CountedRows} (Y : AtRound R u v tables k j y) where
+  module _ {j : ℕ} {y : CodeTree} (Y : AtRound R u v tables k j y) where
     -- two trees can be compared
     pub both-small : (x .count ≤ maxStates) × (y .count ≤ maxStates)
     both-small = (tree-small R _ x (X .holds .limits .states) (X .tree), tree-small R _ y (X .holds .limits .states) (Y .tree))

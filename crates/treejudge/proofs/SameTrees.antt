@@ -23,8 +23,8 @@ use Rattle.tree.proofs.PackedWords.{low-same, same-low}
 use Rattle.tree.proofs.RecordOfRows.{record-of-rows}
 use Rattle.tree.specs.PackedRows.{unpacked, rowsIn}
 use Rattle.treejudge.specs.SameRows.{sameRow, sameRows, sameTrees}
-use Rattle.treejudge.specs.Reading.{HoldsTree}
-use Rattle.treejudge.specs.declared.letters.CountedRows.{CountedRows}
+use Rattle.tree.specs.Rows.{HoldsTree}
+use Rattle.tree.specs.declared.rows.Tree.{Tree as CodeTree}
 
 -- ROW BY ROW
 
@@ -121,7 +121,7 @@ same-rows-in (x ∷ rows) [] e = let z : _≡_ {A = ℕ} 0 1 = cc in absurd (ome
 same-rows-in (x ∷ rows) (y ∷ others) e = and-both (sameRow x y) _ (same-row-in x y (cc)) (same-rows-in rows others (cc))
 
 -- trees with the same rows have one record, so they are the same tree
-pub same-rows-same : (R : Rule) (T U : Tree) (x y : CountedRows) → R .sets ≤ maxSets → HoldsTree R T x → HoldsTree R U y
+pub same-rows-same : (R : Rule) (T U : Tree) (x y : CodeTree) → R .sets ≤ maxSets → HoldsTree R T x → HoldsTree R U y
     → sameTrees x y ≡ true → T ≡ U
 same-rows-same R T U x y sets held other e =
     let rows = take (x .count) (rowsIn (x .rows)) in
@@ -130,7 +130,7 @@ same-rows-same R T U x y sets held other e =
     ∙ record-of-rows (R .states) (R .sets) U (other .fits) rows (same-rows-out rows (take (y .count) (rowsIn (y .rows))) e ∙ other .are))
 
 -- one tree has the same rows wherever it is held
-pub same-trees-same : (R : Rule) (T : Tree) (x y : CountedRows) → HoldsTree R T x → HoldsTree R T y
+pub same-trees-same : (R : Rule) (T : Tree) (x y : CodeTree) → HoldsTree R T x → HoldsTree R T y
     → sameTrees x y ≡ true
 same-trees-same R T x y held other =
     same-rows-in (take (x .count) (rowsIn (x .rows))) (take (y .count) (rowsIn (y .rows))) (held .are ∙ sym (other .are))

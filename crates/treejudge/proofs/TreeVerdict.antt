@@ -1,10 +1,10 @@
--- What the tree judge's contract says: its verdict decides whether an endless run goes through every set infinitely often, and the
--- contract leaves no choice of the answer or of the buffer.
+-- What the tree judge's contract says: its verdict decides whether an endless run goes through every set infinitely often, its number
+-- tells whether the call is accepted, and the contract leaves no choice of the answer or of the buffer.
 use mathlib.Core.Path.{_≡_, refl, sym, _∙_, ap}
 use mathlib.Core.Logic.{inl, inr}
 use mathlib.Core.List.{List, []}
 use Prim.Native.Nat.{ℕ, _≤_}
-use Rattle.table.specs.Outcome.{Outcome, refused, accepted}
+use Rattle.table.specs.Outcome.{Outcome, refused, accepted, numberOf}
 use Rattle.table.specs.Rule.{Rule}
 use Rattle.table.specs.Table.{WellFormed}
 use Rattle.word.specs.Run.{AcceptingRun}
@@ -14,7 +14,8 @@ use Rattle.history.specs.Finding.{Finding, yes-node, no-node, Found}
 use Rattle.history.proofs.FirstRepeats.{repeat-unique}
 use Rattle.history.proofs.FirstWitness.{first-unique}
 use Rattle.history.proofs.TreeTheorem.{tree-theorem}
-use Rattle.treejudge.specs.JudgeCall.{treeAnswer, namesAfter, Judged, TreeAnswers}
+use Rattle.word.proofs.RefusalNumbers.{judge-tells}
+use Rattle.treejudge.specs.JudgeCall.{nameRoom, treeOutcome, treeAnswer, namesAfter, Judged, TreeAnswers, TreeNumber}
 use Rattle.treejudge.specs.declared.judge.TreeAnswer.{TreeAnswer}
 
 -- DEMAND 3, THE TREE JUDGE'S PART
@@ -33,6 +34,24 @@ tree-decides R u v names answer after J well sets nonempty = go (J .finding) (J 
       ap (λ (x : TreeAnswer). x .verdict) is,
       λ run. let (w, W) = tree-theorem R well sets u v nonempty (J .entry) (J .period) (J .repeat) .1 run in none w W,
     )
+
+-- THE NUMBER
+
+found-number : (entry period : ℕ) (f : Finding) → treeAnswer entry period f .number ≡ 0
+unfolding treeAnswer
+found-number entry period (yes-node w) = refl
+found-number entry period no-node = refl
+
+tree-answers : (o : Outcome Rule) (u v names : List ℕ) (answer : TreeAnswer) (after : List ℕ) → TreeAnswers o u v names answer after
+    → answer .number ≡ numberOf o
+tree-answers (refused number) u v names answer after (is, _) = ap (λ (x : TreeAnswer). x .number) is
+tree-answers (accepted R) u v names answer after J =
+    ap (λ (x : TreeAnswer). x .number) (J .answers) ∙ found-number (J .entry) (J .period) (J .finding)
+
+pub tree-number : TreeNumber
+unfolding treeOutcome
+tree-number table u v names answer after T =
+    rw (tree-answers (treeOutcome table u v names) u v names answer after T) (judge-tells nameRoom table u v names)
 
 -- THE CONTRACT DETERMINES ANSWER AND BUFFER
 

@@ -4,7 +4,7 @@ use mathlib.Core.Path.{_≡_}
 use mathlib.Core.List.{List}
 use Prim.Native.Nat.{ℕ}
 use lib.ListN.{length}
-use Rattle.table.specs.Outcome.{Outcome, refused, accepted}
+use Rattle.table.specs.Outcome.{Outcome, refused, accepted, Tells}
 use Rattle.table.specs.Rule.{Rule}
 use Rattle.table.specs.Storing.{stored}
 use Rattle.word.specs.Judging.{judgeQuestions}
@@ -50,3 +50,9 @@ abbrev pub TreeAnswers : Outcome Rule → List ℕ → List ℕ → List ℕ →
 TreeAnswers (refused number) u v names answer after =
     (answer ≡ record { number = number; verdict = 0; entry = 0; period = 0; length = 0 }) × (after ≡ names)
 TreeAnswers (accepted R) u v names answer after = Judged R u v names answer after
+
+-- the number that a caller sees tells whether the call is accepted
+abbrev pub TreeNumber : Type 0
+TreeNumber =
+    (table u v names : List ℕ) (answer : TreeAnswer) (after : List ℕ)
+    → TreeAnswers (treeOutcome table u v names) u v names answer after → Tells (treeOutcome table u v names) (answer .number)

@@ -13,8 +13,9 @@ use Rattle.history.specs.Following.{carried, keptMap, acceptedMap}
 use Rattle.tree.specs.PackedRows.{rowsIn}
 use Rattle.tree.specs.declared.rows.Stepped.{Stepped}
 use Rattle.word.specs.WalkTables.{Tables, Tabled}
-use Rattle.treejudge.specs.Reading.{HasSets, HoldsTree}
-use Rattle.treejudge.specs.declared.letters.CountedRows.{CountedRows}
+use Rattle.tree.specs.Rows.{HoldsTree}
+use Rattle.treejudge.specs.Reading.{HasSets}
+use Rattle.tree.specs.declared.rows.Tree.{Tree as CodeTree}
 use Rattle.treejudge.specs.declared.follow.FollowedOn.{FollowedOn}
 
 -- a tree's rows, the map of its nodes that have kept their names, and that of those among them that were accepting once
@@ -25,7 +26,7 @@ pub record Followed : Type 0 where
   pub accepted : ℕ
 
 -- its tree
-abbrev pub treeOf : Followed → CountedRows
+abbrev pub treeOf : Followed → CodeTree
 treeOf x = record { rows = x .rows; count = x .count }
 
 -- on one of two sides
@@ -48,7 +49,7 @@ followedBy words next kept accepted =
     }
 
 -- all nodes, before the first letter
-unfoldable pub begunAt : CountedRows → Followed
+unfoldable pub begunAt : CodeTree → Followed
 begunAt x = record { rows = x .rows; count = x .count; kept = 2 ^ x .count - 1; accepted = 0 }
 
 -- the same on a side

@@ -10,8 +10,8 @@ use Rattle.table.specs.Rule.{Rule}
 use Rattle.history.specs.Forest.{names}
 use Rattle.history.specs.Tree.{Tree}
 use Rattle.treejudge.specs.JudgeCall.{nameRoom}
-use Rattle.treejudge.specs.Reading.{HoldsTree}
-use Rattle.treejudge.specs.declared.letters.CountedRows.{CountedRows}
+use Rattle.tree.specs.Rows.{HoldsTree}
+use Rattle.tree.specs.declared.rows.Tree.{Tree as CodeTree}
 use Rattle.treejudge.specs.declared.name.Name.{Name}
 
 -- the lowest member of a map that has one below the limit
@@ -20,7 +20,7 @@ pub record Lowest (map j : ℕ) : Type 0 where
   pub here : j < maxStates → member map j ≡ true
 
 -- a tree over some rule within the limits, with a node of that number
-pub record SomeNode (x : CountedRows) (j : ℕ) : Type 0 where
+pub record SomeNode (x : CodeTree) (j : ℕ) : Type 0 where
   pub rule : Rule
   pub tree : Tree
   pub states : rule .states ≤ maxStates
@@ -28,7 +28,7 @@ pub record SomeNode (x : CountedRows) (j : ℕ) : Type 0 where
   pub node : j < x .count
 
 -- the name of a tree's node
-pub record IsName (x : CountedRows) (j : ℕ) (name : Name) : Type 0 where
+pub record IsName (x : CodeTree) (j : ℕ) (name : Name) : Type 0 where
   pub places : length (name .numbers) ≡ maxStates
   pub short : name .length ≤ nameRoom
   pub numbers : (R : Rule) (T : Tree) → HoldsTree R T x → take (name .length) (name .numbers) ≡ getD (names T) j []

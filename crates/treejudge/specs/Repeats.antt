@@ -11,9 +11,9 @@ use Rattle.history.specs.Tree.{Tree}
 use Rattle.history.specs.Rounds.{roundTree, FirstRepeat}
 use Rattle.history.specs.Verdict.{Witness, FirstWitness}
 use Rattle.word.specs.WalkTables.{Tables}
-use Rattle.treejudge.specs.Reading.{HoldsTree}
+use Rattle.tree.specs.Rows.{HoldsTree}
 use Rattle.treejudge.specs.Cycles.{AtRound}
-use Rattle.treejudge.specs.declared.letters.CountedRows.{CountedRows}
+use Rattle.tree.specs.declared.rows.Tree.{Tree as CodeTree}
 use Rattle.treejudge.specs.declared.repeat.Repeat.{Repeat}
 
 -- entry and period are those of the first repeat, and the map has the witnesses among the nodes of a tree: its lowest number is that
@@ -28,5 +28,5 @@ pub record RepeatOf (R : Rule) (u v : List ℕ) (r : Repeat) : Type 0 where
   pub none : r .accepted ≡ 0 → (w : List ℕ) → Witness R u v (r .entry) (r .period) w → ⊥
 
 -- the first repeat was found from t(0) on, for every walk with this tail that has this t(0)
-unfoldable pub RepeatFound : Tables → ℕ → List ℕ → CountedRows → Repeat → Type 0
+unfoldable pub RepeatFound : Tables → ℕ → List ℕ → CodeTree → Repeat → Type 0
 RepeatFound tables k v first r = (R : Rule) (u : List ℕ) → AtRound R u v tables k 0 first → RepeatOf R u v r

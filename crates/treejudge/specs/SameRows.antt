@@ -5,7 +5,7 @@ use lib.Dec.{eqb}
 use lib.ListN.{take}
 use Rattle.tree.specs.PackedRows.{rowsIn}
 use Rattle.tree.specs.declared.rows.Row.{Row}
-use Rattle.treejudge.specs.declared.letters.CountedRows.{CountedRows}
+use Rattle.tree.specs.declared.rows.Tree.{Tree as CodeTree}
 
 unfoldable pub sameRow : Row → Row → Bool
 sameRow x y = eqb (x .label) (y .label) && (eqb (x .kids) (y .kids) && (eqb (x .depth) (y .depth) && eqb (x .active) (y .active)))
@@ -17,5 +17,5 @@ sameRows (x ∷ rows) [] = false
 sameRows (x ∷ rows) (y ∷ others) = sameRow x y && sameRows rows others
 
 -- the rows that count of two trees
-abbrev pub sameTrees : CountedRows → CountedRows → Bool
+abbrev pub sameTrees : CodeTree → CodeTree → Bool
 sameTrees x y = sameRows (take (x .count) (rowsIn (x .rows))) (take (y .count) (rowsIn (y .rows)))

@@ -3,18 +3,16 @@
 // on the way: where it comes back, its rounds were one cycle, and the verdict is known.
 use crate::follow::begin;
 use crate::follow::follow_letters;
-use crate::letters::CountedRows;
-use crate::letters::laid;
-use crate::letters::taken;
 use crate::same::same_tree;
+use tree::rows::Tree;
 use word::tables::AllTables;
 ghost use Rattle.treejudge.specs.Cycles.{FirstRound, CycleFound};
 
 // What the search has found: the tree t(power − 1), to which `period` rounds lead back; the map of its nodes that keep their names in
 // these rounds and are accepting once; and the tree that was held before it, t(half − 1), where it was not the first.
 pub struct Cycle {
-    pub held: CountedRows,
-    pub before: CountedRows,
+    pub held: Tree,
+    pub before: Tree,
     pub half: u64,
     pub power: u64,
     pub period: u64,
@@ -22,7 +20,7 @@ pub struct Cycle {
 }
 
 // From t(0) on.
-pub fn find_cycle(tables: &AllTables, k: u8, v: &[u8], first: CountedRows) -> Cycle
+pub fn find_cycle(tables: &AllTables, k: u8, v: &[u8], first: Tree) -> Cycle
     requires { ⌜ FirstRound (now tables) k (now v) first ⌝ }
     ensures { λ r. ⌜ CycleFound (now (tables .entry)) k (now (v .entry)) first r ⌝ }
 {
@@ -31,8 +29,8 @@ pub fn find_cycle(tables: &AllTables, k: u8, v: &[u8], first: CountedRows) -> Cy
     let mut half = 0u64;
     let mut power = 1u64;
     let mut lam = 0u64;
-    let mut sides = laid(first);
-    let mut now = begin(0, first.count);
+    let mut sides = first.laid();
+    let mut now = begin(0, first.nodes());
     loop {
         let next = follow_letters(tables, k, v, &mut sides, now);
         lam += 1;
@@ -48,7 +46,7 @@ pub fn find_cycle(tables: &AllTables, k: u8, v: &[u8], first: CountedRows) -> Cy
         }
         if lam == power {
             before = held;
-            held = taken(&sides, next.side, next.count);
+            held = Tree::taken(&sides, next.side, next.count);
             half = power;
             power = power + power;
             lam = 0;

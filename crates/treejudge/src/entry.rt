@@ -1,30 +1,28 @@
 // The entry, once the period is known: two places that are a period apart go forward together, and the first that have equal trees
 // are t(e) and t(e + p).
 use crate::cycle::Cycle;
-use crate::letters::CountedRows;
-use crate::letters::laid;
 use crate::letters::on_first_side;
 use crate::letters::read_letters;
-use crate::letters::taken;
 use crate::same::same_on;
+use tree::rows::Tree;
 use word::tables::AllTables;
 ghost use Prim.Native.Nat.{_≤_};
 ghost use Rattle.treejudge.specs.Cycles.{SomeRound, Ahead, TwoRounds, ReadTo, Bracketed, EntryBetween, SearchDone, EntryFound};
 
 // The tree `count` rounds further.
-fn read_rounds(tables: &AllTables, k: u8, v: &[u8], count: u64, tree: CountedRows) -> CountedRows
+fn read_rounds(tables: &AllTables, k: u8, v: &[u8], count: u64, tree: Tree) -> Tree
     requires { ⌜ SomeRound (now tables) k (now v) tree ⌝ }
     ensures { λ r. ⌜ Ahead (now (tables .entry)) k (now (v .entry)) count tree r ⌝ }
 {
-    let mut sides = laid(tree);
-    let mut now = on_first_side(tree.count);
+    let mut sides = tree.laid();
+    let mut now = on_first_side(tree.nodes());
     let mut round = 0u64;
     while round < count {
         let next = read_letters(tables, k, v, &mut sides, now);
         now = next;
         round += 1;
     }
-    taken(&sides, now.side, now.count)
+    Tree::taken(&sides, now.side, now.count)
 }
 
 // The entry from `low` to `high`, where `first` is t(low) and `later` is the tree a period further.
@@ -34,16 +32,16 @@ fn entry_between(
     v: &[u8],
     low: u64,
     high: u64,
-    first: CountedRows,
-    later: CountedRows,
+    first: Tree,
+    later: Tree,
 ) -> u64
     requires { ⌜ Bracketed (now tables) k (now v) low high first later ⌝ }
     ensures { λ r. ⌜ EntryBetween (now (tables .entry)) k (now (v .entry)) low high first later r ⌝ }
 {
-    let mut here = laid(first);
-    let mut there = laid(later);
-    let mut now = on_first_side(first.count);
-    let mut ahead = on_first_side(later.count);
+    let mut here = first.laid();
+    let mut there = later.laid();
+    let mut now = on_first_side(first.nodes());
+    let mut ahead = on_first_side(later.nodes());
     let mut place = low;
     while place < high {
         if same_on(&here, now.side, now.count, &there, ahead.side, ahead.count) {
@@ -68,10 +66,10 @@ fn read_to(
     v: &[u8],
     place: u64,
     from: u64,
-    earlier: CountedRows,
+    earlier: Tree,
     high: u64,
-    held: CountedRows,
-) -> CountedRows
+    held: Tree,
+) -> Tree
     requires { ⌜ (from ≤ place) × TwoRounds (now tables) k (now v) from earlier high held ⌝ }
     ensures { λ r. ⌜ ReadTo (now (tables .entry)) k (now (v .entry)) from earlier high held place r ⌝ }
 {
@@ -84,7 +82,7 @@ fn read_to(
 // The entry of the cycle that was found from t(0) on; it is no later than the tree that is held, t(power − 1). A period longer than
 // `half` reaches past the tree that was held before, t(half − 1), so t(period) can be read from there. A shorter one begins at
 // t(half) or later, since t(half − 1) has not come back.
-pub fn find_entry(tables: &AllTables, k: u8, v: &[u8], first: CountedRows, cycle: Cycle) -> u64
+pub fn find_entry(tables: &AllTables, k: u8, v: &[u8], first: Tree, cycle: Cycle) -> u64
     requires { ⌜ SearchDone (now tables) k (now v) first cycle ⌝ }
     ensures { λ r. ⌜ EntryFound (now (tables .entry)) k (now (v .entry)) first cycle r ⌝ }
 {

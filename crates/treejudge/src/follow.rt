@@ -1,8 +1,8 @@
 // Following nodes by their names, letter by letter. Numbers shift from tree to tree, so the followed nodes are kept as maps over
 // the present numbers, and each letter carries them from the old numbers to the new ones.
-use tree::packed::Rows;
-use tree::packed::Sides;
 use tree::packed::unpack;
+use tree::rows::Rows;
+use tree::rows::Sides;
 use tree::step::step_rows;
 use word::tables::AllTables;
 ghost use mathlib.Core.Path.{_≡_};
@@ -11,7 +11,7 @@ ghost use lib.ListN.{length};
 ghost use Rattle.table.specs.Limits.{maxStates};
 ghost use Rattle.history.specs.Following.{carried};
 ghost use Rattle.tree.specs.RecordRows.{places};
-ghost use Rattle.treejudge.specs.Reading.{Stands};
+ghost use Rattle.tree.specs.Sides.{Stands};
 ghost use Rattle.treejudge.specs.Names.{followedOn, oldsIn, begunOn, Followable, FollowsTo};
 
 // A tree on one of two sides, the map of its nodes that have kept their names, and that of those among them that were accepting once.

@@ -1,9 +1,6 @@
 // The tree judge: entry and period of the first repeated tree at a round end, and the verdict with its node.
-use crate::letters::CountedRows;
-use crate::letters::laid;
 use crate::letters::on_first_side;
 use crate::letters::read_letters;
-use crate::letters::taken;
 use crate::name::first_node;
 use crate::name::node_name;
 use crate::name::store_name;
@@ -16,7 +13,7 @@ use table::limits::Words;
 use table::lookup::ENTRIES;
 use table::reader::Reading;
 use table::reader::read_rule;
-use tree::record::Tree;
+use tree::rows::Tree;
 use word::tables::walk_tables;
 use word::walk::letters_left;
 use word::walk::walk_number;
@@ -55,24 +52,18 @@ fn judge_walk<'a>(
     let k = header.sets as u8;
     let mut tables = [[0u64; ENTRIES]; LETTERS];
     walk_tables(words, u, v, &mut tables);
-    let root = Tree::start(header.start);
-    let rows = root.rows;
-    let start = CountedRows {
-        rows: rows,
-        count: 1,
-    };
-    // t(0) follows u; then the rounds, each the whole tail
-    let mut sides = laid(start);
+    // t(0) follows u
+    let start = Tree::start(header.start);
+    let mut sides = start.laid();
     let led = read_letters(
         &tables,
         k,
         letters_left(u, v, false, 0),
         &mut sides,
-        on_first_side(1),
+        on_first_side(start.nodes()),
     );
-    let first = taken(&sides, led.side, led.count);
-    let tail = letters_left(u, v, true, 0);
-    let found = find_repeat(&tables, k, tail, first);
+    let first = Tree::taken(&sides, led.side, led.count);
+    let found = find_repeat(&tables, k, u, v, first);
     if found.accepted == 0 {
         return TreeAnswer {
             number: 0,

@@ -1,7 +1,6 @@
 // The name of a node, in a lent buffer. Nodes are numbered in dictionary order, so the first of a map is the lowest member.
-use crate::letters::CountedRows;
 use tree::packed::unpack;
-use tree::rows::NODES;
+use tree::rows::Tree;
 ghost use mathlib.Core.Path.{_≡_};
 ghost use Prim.Native.Nat.{_≤_};
 ghost use lib.ListN.{length, take};
@@ -11,16 +10,16 @@ ghost use Rattle.treejudge.specs.NodeNames.{Lowest, SomeNode, IsName};
 
 // A node's name: its numbers are the first `length` ones.
 pub struct Name {
-    pub numbers: [u8; NODES],
+    pub numbers: [u8; Tree::NODES],
     pub length: usize,
 }
 
-// The lowest member of a map, or NODES where there is none below.
+// The lowest member of a map, or Tree::NODES where there is none below.
 pub fn first_node(map: u16) -> usize
     ensures { λ r. ⌜ Lowest map r ⌝ }
 {
     let mut j = 0usize;
-    while j < NODES && (map >> j) % 2 == 0 {
+    while j < Tree::NODES && (map >> j) % 2 == 0 {
         j += 1;
     }
     j
@@ -28,12 +27,12 @@ pub fn first_node(map: u16) -> usize
 
 // The name of the node of that number. Each node's name comes from that of the node in front of it: it keeps the numbers above
 // its depth; the last is 0 for a first child, and one more than before for a younger sibling.
-pub fn node_name(tree: CountedRows, number: usize) -> Name
+pub fn node_name(tree: Tree, number: usize) -> Name
     requires { ⌜ SomeNode tree number ⌝ }
     ensures { λ r. ⌜ IsName tree number r ⌝ }
 {
-    let rows = tree.rows;
-    let mut numbers = [0u8; NODES];
+    let rows = tree.rows();
+    let mut numbers = [0u8; Tree::NODES];
     let mut length = 0usize;
     let mut i = 0usize;
     while i < number {

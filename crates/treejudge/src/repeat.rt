@@ -3,13 +3,12 @@ use crate::cycle::find_cycle;
 use crate::entry::find_entry;
 use crate::follow::begin;
 use crate::follow::follow_letters;
-use crate::letters::CountedRows;
-use crate::letters::laid;
 use crate::letters::on_first_side;
 use crate::letters::read_letters;
-use crate::letters::taken;
 use crate::same::same_tree;
+use tree::rows::Tree;
 use word::tables::AllTables;
+use word::walk::letters_left;
 ghost use mathlib.Core.Path.{_≡_};
 ghost use mathlib.Core.Bool.{cond};
 ghost use mathlib.Core.List.{_++_};
@@ -20,7 +19,7 @@ ghost use Rattle.treejudge.specs.Repeats.{RepeatFound};
 // Entry and period of the first repeat, a tree of the cycle, and the map of its nodes that keep their names around the cycle and are
 // accepting once.
 pub struct Repeat {
-    pub tree: CountedRows,
+    pub tree: Tree,
     pub accepted: u16,
     pub entry: u64,
     pub period: u64,
@@ -44,13 +43,13 @@ fn one_if(holds: bool) -> u64
 
 // A long tail mostly leads to one tree, from whatever tree it is read. If t(0) and t(1) lead to the same tree at the cut, then t(1) is
 // t(2), and the letters between are one cycle. A period of 0 says that they do not.
-fn early_repeat(tables: &AllTables, k: u8, head: &[u8], rest: &[u8], first: CountedRows) -> Repeat
+fn early_repeat(tables: &AllTables, k: u8, head: &[u8], rest: &[u8], first: Tree) -> Repeat
     requires { ⌜ FirstRound (now tables) k (now head ++ now rest) first ⌝ }
     ensures { λ r. ⌜ (r .period ≡ 1 → RepeatFound (now (tables .entry)) k (now (head .entry) ++ now (rest .entry)) first r) ⌝ }
 {
-    let mut sides = laid(first);
-    let begun = read_letters(tables, k, head, &mut sides, on_first_side(first.count));
-    let cut = taken(&sides, begun.side, begun.count);
+    let mut sides = first.laid();
+    let begun = read_letters(tables, k, head, &mut sides, on_first_side(first.nodes()));
+    let cut = Tree::taken(&sides, begun.side, begun.count);
     let second = follow_letters(tables, k, rest, &mut sides, begin(begun.side, begun.count));
     let still = same_tree(first, &sides, second.side, second.count);
     let again = follow_letters(tables, k, head, &mut sides, second);
@@ -63,20 +62,22 @@ fn early_repeat(tables: &AllTables, k: u8, head: &[u8], rest: &[u8], first: Coun
     }
 }
 
-// From t(0) on.
-pub fn find_repeat(tables: &AllTables, k: u8, v: &[u8], first: CountedRows) -> Repeat
+// From t(0) on, which follows u: then the rounds, each the whole tail.
+pub fn find_repeat<'a>(tables: &AllTables, k: u8, u: &'a [u8], v: &'a [u8], first: Tree) -> Repeat
     requires { ⌜ FirstRound (now tables) k (now v) first ⌝ }
     ensures { λ r. ⌜ RepeatFound (now (tables .entry)) k (now (v .entry)) first r ⌝ }
 {
     let cut = cut_of(v.len());
     if 0 < cut {
-        let early = early_repeat(tables, k, &v[0..cut], &v[cut..], first);
+        let rest = letters_left(u, v, true, cut);
+        let early = early_repeat(tables, k, &v[0..cut], rest, first);
         if early.period == 1 {
             return early;
         }
     }
-    let cycle = find_cycle(tables, k, v, first);
-    let entry = find_entry(tables, k, v, first, cycle);
+    let tail = letters_left(u, v, true, 0);
+    let cycle = find_cycle(tables, k, tail, first);
+    let entry = find_entry(tables, k, tail, first, cycle);
     let held = cycle.held;
     Repeat {
         tree: held,

@@ -1,14 +1,14 @@
 // Are two trees the same? Their rows tell, but for the old numbers.
-use crate::letters::CountedRows;
-use tree::packed::Rows;
-use tree::packed::Sides;
+use tree::rows::Rows;
+use tree::rows::Sides;
+use tree::rows::Tree;
 ghost use mathlib.Core.Path.{_≡_};
 ghost use Prim.Native.Nat.{_≤_};
 ghost use lib.ListN.{length, take};
 ghost use Rattle.table.specs.Limits.{maxStates};
 ghost use Rattle.tree.specs.PackedRows.{unpacked, rowsIn};
 ghost use Rattle.tree.specs.RecordRows.{places};
-ghost use Rattle.treejudge.specs.Reading.{treeOn, Stands};
+ghost use Rattle.tree.specs.Sides.{treeOn, Stands};
 ghost use Rattle.treejudge.specs.SameRows.{sameRow, sameRows, sameTrees};
 
 // One row and another: the old number stands in a word's highest eight bits.
@@ -34,22 +34,21 @@ fn same_rows(rows: &Rows, others: &Rows, count: usize) -> bool
 }
 
 // A tree, and one on a side.
-pub fn same_tree(tree: CountedRows, sides: &Sides, side: usize, count: usize) -> bool
+pub fn same_tree(tree: Tree, sides: &Sides, side: usize, count: usize) -> bool
     requires { ⌜ ((tree .count ≤ maxStates) × (count ≤ maxStates)) × Stands (now sides) side ⌝ }
-    ensures { λ r. ⌜ r ≡ sameTrees tree (treeOn (now (sides .entry)) (record { side = side; count = count })) ⌝ }
+    ensures { λ r. ⌜ r ≡ sameTrees tree (treeOn (now (sides .entry)) side count) ⌝ }
 {
-    if tree.count != count {
+    if tree.nodes() != count {
         return false;
     }
-    let rows = tree.rows;
+    let rows = tree.rows();
     same_rows(&rows, &sides[side], count)
 }
 
 // A tree on a side, and one on another's.
 pub fn same_on(a: &Sides, from: usize, count: usize, b: &Sides, side: usize, number: usize) -> bool
     requires { ⌜ ((count ≤ maxStates) × (number ≤ maxStates)) × (Stands (now a) from × Stands (now b) side) ⌝ }
-    ensures { λ r. ⌜ r ≡ sameTrees (treeOn (now (a .entry)) (record { side = from; count = count }))
-        (treeOn (now (b .entry)) (record { side = side; count = number })) ⌝ }
+    ensures { λ r. ⌜ r ≡ sameTrees (treeOn (now (a .entry)) from count) (treeOn (now (b .entry)) side number) ⌝ }
 {
     if count != number {
         return false;

@@ -8,4 +8,5 @@ pub mod LoopTheorem
 pub mod Variants
 pub mod WalkQuestions
 pub mod JudgeQuestions
+pub mod RefusalNumbers
 pub mod WalkTables

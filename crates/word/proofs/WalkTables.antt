@@ -1,138 +1,178 @@
--- The tables of a walk: the letters that occur in it, and that each of them has its table.
-use mathlib.Core.Path.{_≡_, refl, sym, _∙_, ap}
-use mathlib.Core.Bool.{true, false}
+-- The tables of a walk: the letters that occur in it, the tables made from their words, and that each letter has its table.
+use mathlib.Core.Path.{_≡_, refl, sym, _∙_, ap, ap₂}
+use mathlib.Core.Logic.{_⊎_, ⊎-elim}
+use mathlib.Core.Bool.{Bool, true, false, _&&_, _||_, cond, or-assoc, or-false}
 use mathlib.Core.List.{List, [], _∷_, _++_}
-use Prim.Native.Nat.{ℕ, _+_, _-_, _^_, _≤_, _<_}
+use Prim.Native.Nat.{ℕ, _+_, _-_, _%_, _^_, _≤_, _<_}
 use native.Mathlib.Decide.{ℕ-discrete}
 use native.Mathlib.Numerals.{add-one}
 use native.Mathlib.Omega.{arith}
-use borrow.Author.Tests.{eq-eqb}
-use lib.Bits.{bitAnd, bitOr}
+use borrow.Author.Tests.{eq-eqb, lt-ltb}
+use lib.Bits.{bitAnd, bitOr, and-le-r, or-zero-r}
 use lib.Count.{trailingZeros}
+use lib.Dec.{eqb}
 use lib.ListN.{length, getD, take, set, length-set}
-use lib.Seq.{take-suc, take-all, getD-set-same, getD-set-other}
+use lib.Seq.{take-suc, take-all, ext-getD, getD-set-same, getD-set-other}
 use Rattle.table.specs.Limits.{maxLetters}
-use Rattle.table.specs.BitSet.{member}
-use Rattle.table.specs.Rule.{Grid, Rule}
+use Rattle.table.specs.BitSet.{member, Subset, collect}
+use Rattle.table.specs.Rule.{Rule}
 use Rattle.table.specs.Table.{Every}
 use Rattle.table.specs.HeldRule.{HoldsRule}
 use Rattle.table.specs.declared.header.Header.{Header}
 use Rattle.table.specs.Held.{held}
-use Rattle.table.specs.Lookup.{LetterTable, squareWords, gridWords, letterTable}
-use Rattle.table.proofs.BitSet.{member-none, member-union, member-single}
+use Rattle.table.specs.Lookup.{tabulate, joinedTable}
+use Rattle.table.proofs.BitSet.{member-none, member-union, union-assoc, member-collect, collect-ext, collect-union, collect-single}
 use Rattle.table.proofs.Every.{every-weaker, every-both}
-use Rattle.table.proofs.Logic.{clash, never, or-l, or-r}
-use Rattle.table.proofs.LowestBit.{lowest-inside, cleared-keeps}
+use Rattle.table.proofs.Logic.{look, clash, never, or-l, or-r}
+use Rattle.table.proofs.LowestBit.{lowest-inside, lowest-stands, cleared-others, cleared-keeps}
 use Rattle.table.proofs.LookupSteps.{table-made}
-use Rattle.word.specs.WalkTables.{Tables, occurring, TablesOf, Tabled, TablesFor}
+use Rattle.table.proofs.Tabulate.{length-tabulate, getD-tabulate, tabulate-ext}
+use Rattle.word.specs.WalkTables.{Tables, occurs, refilled, tablesAfter, Tabled}
 
 -- THE LETTERS THAT OCCUR
 
--- in a word and another behind it
-occurring-append : (others : ℕ) (w x : List ℕ) → occurring others (w ++ x) ≡ occurring (occurring others w) x
-unfolding occurring
-occurring-append others [] x = refl
-occurring-append others (a ∷ w) x = occurring-append (bitOr others (2 ^ a)) w x
+-- the map of the letters of a word
+abbrev lettersOf : List ℕ → ℕ
+lettersOf w = collect maxLetters (occurs w)
 
--- a map of letters keeps its members
-occurring-keeps : (others : ℕ) (w : List ℕ) (a : ℕ) → member others a ≡ true → member (occurring others w) a ≡ true
-unfolding occurring
-occurring-keeps others [] a h = h
-occurring-keeps others (b ∷ w) a h =
-    occurring-keeps (bitOr others (2 ^ b)) w a (member-union others (2 ^ b) a ∙ or-l (member others a) _ h)
+-- in a word with one letter more
+occurs-more : (w : List ℕ) (b a : ℕ) → occurs (w ++ (b ∷ [])) a ≡ (occurs w a || eqb (b % maxLetters) a)
+unfolding occurs
+occurs-more [] b a = or-false _
+occurs-more (c ∷ w) b a =
+    ap (λ (t : Bool). eqb (c % maxLetters) a || t) (occurs-more w b a) ∙ sym (or-assoc (eqb (c % maxLetters) a) (occurs w a) _)
 
--- and each letter of the word is one
-occurring-all : (others : ℕ) (w : List ℕ) → Every (λ a. member (occurring others w) a ≡ true) w
-unfolding occurring
-occurring-all others [] = tt
-occurring-all others (a ∷ w) = (
-  occurring-keeps (bitOr others (2 ^ a)) w a
-      (member-union others (2 ^ a) a ∙ or-r (member others a) _ (member-single a a ∙ eq-eqb a a refl)),
-  occurring-all (bitOr others (2 ^ a)) w,
+-- each letter of a word does
+occurs-all : (w : List ℕ) → Every (λ a. occurs w (a % maxLetters) ≡ true) w
+unfolding occurs
+occurs-all [] = tt
+occurs-all (a ∷ w) = (
+  or-l (eqb (a % maxLetters) (a % maxLetters)) _ (eq-eqb (a % maxLetters) (a % maxLetters) refl),
+  every-weaker _ _ w (λ b m. or-r (eqb (a % maxLetters) (b % maxLetters)) _ m) (occurs-all w),
 )
 
+-- and is joined to their map
+letters-more : (w : List ℕ) (b : ℕ) → lettersOf (w ++ (b ∷ [])) ≡ bitOr (lettersOf w) (2 ^ (b % maxLetters))
+letters-more w b = collect-ext maxLetters _ _ (λ a l. occurs-more w b a) ∙ sym (collect-union maxLetters (occurs w) (λ a. eqb (b % maxLetters) a))
+    ∙ ap (bitOr (lettersOf w)) (collect-single maxLetters (b % maxLetters) (omega arith))
+
 -- the map of the first `at` letters of w, joined to the others
-pub record OccurringUpTo (others : ℕ) (w : List ℕ) (at letters : ℕ) : Type 0 where
+pub record LettersUpTo (others : ℕ) (w : List ℕ) (at letters : ℕ) : Type 0 where
   pub upto : at ≤ length w
-  pub map : letters ≡ occurring others (take at w)
+  pub map : letters ≡ bitOr others (lettersOf (take at w))
 
 -- at the start, after one letter more, and at the end
-pub occurring-none : (others : ℕ) (w : List ℕ) → OccurringUpTo others w 0 others
-unfolding occurring
-occurring-none others w = record { upto = omega arith; map = refl }
+pub letters-none : (others : ℕ) (w : List ℕ) → LettersUpTo others w 0 others
+unfolding occurs collect
+letters-none others w = record { upto = omega arith; map = sym (or-zero-r others) }
 
-module _ (others : ℕ) (w : List ℕ) (at letters : ℕ) (v : OccurringUpTo others w at letters) where
-  pub occurring-more : at < length w → OccurringUpTo others w (at + 1) (bitOr letters (2 ^ getD w at 0))
-  unfolding occurring
-  occurring-more h = record {
+module _ (others : ℕ) (w : List ℕ) (at letters : ℕ) (v : LettersUpTo others w at letters) where
+  pub letters-next : at < length w → LettersUpTo others w (at + 1) (bitOr letters (2 ^ (getD w at 0 % maxLetters)))
+  letters-next h = record {
     upto = omega arith;
-    map = rw (v .map, add-one, take-suc w at 0 h) (sym (occurring-append others (take at w) (getD w at 0 ∷ [])));
+    map = rw (v .map, add-one, take-suc w at 0 h, letters-more (take at w) (getD w at 0)) (sym (union-assoc others (lettersOf (take at w)) _));
   }
 
-  pub occurring-end : length w ≤ at → letters ≡ occurring others w
-  occurring-end h = v .map ∙ ap (occurring others) (take-all at w h)
+  pub letters-end : length w ≤ at → letters ≡ bitOr others (lettersOf w)
+  letters-end h = v .map ∙ ap (λ (x : List ℕ). bitOr others (lettersOf x)) (take-all at w h)
 
 -- THEIR TABLES
 
--- an array with the table of each letter of the map that is no longer in `rest`
-pub record TablesBut (letters rest : ℕ) (words : List (List ℕ)) (tables : Tables) : Type 0 where
+-- tables as they were, but for those of the letters of a map that are no longer in `rest`
+pub record TablesBut (letters rest : ℕ) (words : List (List ℕ)) (before tables : Tables) : Type 0 where
   pub places : length tables ≡ maxLetters
-  pub made : (cells : Grid) → words ≡ gridWords cells → (a : ℕ) → member letters a ≡ true → member rest a ≡ false
-      → getD tables a [] ≡ letterTable (getD cells a [])
+  pub few : rest < 2 ^ maxLetters
+  pub inside : Subset rest letters
+  pub made : (a : ℕ) → member letters a ≡ true → member rest a ≡ false → getD tables a [] ≡ joinedTable (getD words a [])
+  pub stays : (a : ℕ) → member letters a ≡ false → getD tables a [] ≡ getD before a []
 
 -- at the start
-pub tables-none : (letters : ℕ) (words : List (List ℕ)) (tables : Tables) → length tables ≡ maxLetters
-    → TablesBut letters letters words tables
-tables-none letters words tables h = record { places = h; made = λ cells are a m out. clash out m }
+pub tables-none : (letters : ℕ) (words : List (List ℕ)) (tables : Tables) → letters < 2 ^ maxLetters → length tables ≡ maxLetters
+    → TablesBut letters letters words tables tables
+tables-none letters words tables few h = record {
+  places = h;
+  few = few;
+  inside = λ a m. m;
+  made = λ a m out. clash out m;
+  stays = λ a out. refl;
+}
 
-module _ (letters rest : ℕ) (words : List (List ℕ)) (tables : Tables) (v : TablesBut letters rest words tables) where
-  module _ (small : rest < 2 ^ maxLetters) (some : rest ≡ 0 → ⊥) where
+module _ (letters rest : ℕ) (words : List (List ℕ)) (before tables : Tables) (v : TablesBut letters rest words before tables) where
+  module _ (some : rest ≡ 0 → ⊥) where
     abbrev letter : ℕ
     letter = trailingZeros maxLetters rest
 
     -- the next letter of the map
     pub letter-inside : letter < maxLetters
-    letter-inside = lowest-inside maxLetters maxLetters rest (omega arith) (omega arith) small
+    letter-inside = lowest-inside maxLetters maxLetters rest (omega arith) (omega arith) (v .few)
+
+    letter-of : member letters letter ≡ true
+    letter-of = v .inside letter (lowest-stands maxLetters maxLetters rest (omega arith) (omega arith) (v .few))
 
     -- with its table
-    pub tables-more : (made : LetterTable)
-        → ((square : List (List ℕ)) → getD words letter [] ≡ squareWords square → made ≡ letterTable square)
-        → TablesBut letters (bitAnd rest (rest - 1)) words (set tables letter made)
-    tables-more made is = record {
-      places = length-set tables letter made ∙ v .places;
-      made = λ cells are a m out. go cells are a m out (ℕ-discrete a letter);
+    pub tables-more : (table : List ℕ) → table ≡ joinedTable (getD words letter [])
+        → TablesBut letters (bitAnd rest (rest - 1)) words before (set tables letter table)
+    tables-more table is = record {
+      places = length-set tables letter table ∙ v .places;
+      few = omega (arith, v .few, and-le-r rest (rest - 1));
+      inside = λ a m. v .inside a (cleared-others maxLetters maxLetters rest (omega arith) (omega arith) (v .few) a m .0);
+      made = λ a m out. go a m out (ℕ-discrete a letter);
+      stays = λ a out. getD-set-other tables letter a table [] (λ e. clash out (rw e letter-of)) ∙ v .stays a out;
     }
       where
-        go : (cells : Grid) → words ≡ gridWords cells → (a : ℕ) → member letters a ≡ true → member (bitAnd rest (rest - 1)) a ≡ false
-            → Dec (a ≡ letter) → getD (set tables letter made) a [] ≡ letterTable (getD cells a [])
-        go cells are a m out (yes e) = rw e (getD-set-same tables letter made [] (omega (arith, v .places, letter-inside))
-            ∙ table-made cells are letter is)
-        go cells are a m out (no e) = getD-set-other tables letter a made [] e ∙ v .made cells are a m
-            (never (member rest a) (λ stands. clash out (cleared-keeps maxLetters maxLetters rest (omega arith) (omega arith) small a stands e)))
+        go : (a : ℕ) → member letters a ≡ true → member (bitAnd rest (rest - 1)) a ≡ false → Dec (a ≡ letter)
+            → getD (set tables letter table) a [] ≡ joinedTable (getD words a [])
+        go a m out (yes e) = rw e (getD-set-same tables letter table [] (omega (arith, v .places, letter-inside)) ∙ is)
+        go a m out (no e) = getD-set-other tables letter a table [] e ∙ v .made a m
+            (never (member rest a) (λ stands. clash out (cleared-keeps maxLetters maxLetters rest (omega arith) (omega arith) (v .few) a stands e)))
 
   -- at the end
-  pub tables-end : rest ≡ 0 → (cells : Grid) → words ≡ gridWords cells → TablesOf letters cells tables
-  unfolding TablesOf
-  tables-end none cells are a m = v .made cells are a m (rw none (member-none a))
+  pub tables-end : rest ≡ 0 → tables ≡ refilled (member letters) words before
+  unfolding refilled
+  tables-end none = ext-getD [] tables (tabulate maxLetters entry) (v .places ∙ sym (length-tabulate maxLetters entry))
+      (λ a h. go a (look (member letters a)) ∙ sym (getD-tabulate maxLetters entry a [] (omega (arith, v .places))))
+    where
+      entry : ℕ → List ℕ
+      entry a = cond (member letters a) (joinedTable (getD words a [])) (getD before a [])
+
+      go : (a : ℕ) → (member letters a ≡ true) ⊎ (member letters a ≡ false) → getD tables a [] ≡ entry a
+      go a = ⊎-elim (λ m. rw m (v .made a m (rw none (member-none a)))) (λ out. rw out (v .stays a out))
 
 -- THE LETTERS OF A WALK
 
--- each letter of u has its table, and each of v
-pub tables-for : (words : List (List ℕ)) (u v : List ℕ) (lead-letters letters : ℕ) → lead-letters ≡ occurring 0 u → letters ≡ occurring lead-letters v
-    → (tables : Tables) → ((cells : Grid) → words ≡ gridWords cells → TablesOf letters cells tables) → TablesFor words u v tables
-unfolding TablesFor TablesOf
-tables-for words u v lead-letters letters lead-are are tables of R is lead tail = (
-  every-weaker _ _ u has-table (every-both _ _ u lead (every-weaker _ _ u (λ a m. occurring-keeps (occurring 0 u) v a m) (occurring-all 0 u))),
-  every-weaker _ _ v has-table (every-both _ _ v tail (occurring-all (occurring 0 u) v)),
-)
+-- the tables of the letters of u and of v
+pub tables-walk : (words : List (List ℕ)) (u v : List ℕ) (lead-letters letters : ℕ) (before : Tables)
+    → lead-letters ≡ bitOr 0 (lettersOf u) → letters ≡ bitOr lead-letters (lettersOf v)
+    → refilled (member letters) words before ≡ tablesAfter words u v before
+unfolding tablesAfter refilled
+tables-walk words u v lead-letters letters before lead-are are = tabulate-ext maxLetters _ _ (λ a l.
+    ap (λ (t : Bool). cond t (joinedTable (getD words a [])) (getD before a [])) (same a l))
   where
-    all : letters ≡ occurring (occurring 0 u) v
-    all = rw lead-are at are
+    of : (w : List ℕ) (a : ℕ) → a < maxLetters → member (lettersOf w) a ≡ occurs w a
+    of w a l = member-collect maxLetters (occurs w) a ∙ ap (λ (t : Bool). t && occurs w a) (lt-ltb a maxLetters l)
 
-    has-table : (a : ℕ) → (a < R .letters) × (member (occurring (occurring 0 u) v) a ≡ true) → Tabled R tables a
-    has-table a (less, m) = record { below = less; entries = of (held (R .grid)) is a (rw all m) }
+    same : (a : ℕ) → a < maxLetters → member letters a ≡ (occurs u a || occurs v a)
+    same a l = ap (λ (x : ℕ). member x a) are ∙ member-union lead-letters (lettersOf v) a
+        ∙ ap₂ _||_ (ap (λ (x : ℕ). member x a) lead-are ∙ member-union 0 (lettersOf u) a
+        ∙ ap₂ _||_ (member-none a) (of u a l)) (of v a l)
 
--- the letters of a walk over a read table are within the limit
-pub letters-small : {R : Rule} {header : Header} {words : List (List ℕ)} → HoldsRule R header words → (w : List ℕ)
-    → Every (λ a. a < header .letters) w → Every (λ a. a < maxLetters) w
-letters-small h w below = every-weaker _ _ w (λ a less. omega (arith, ap (λ (x : Header). x .letters) (h .numbers), h .limits .letters)) below
+-- so each letter of a walk over a rule that the words are of has its table
+module _ {R : Rule} {header : Header} {words : List (List ℕ)} (h : HoldsRule R header words) (u v : List ℕ)
+    (lead : Every (λ a. a < header .letters) u) (tail : Every (λ a. a < header .letters) v)
+    (before tables : Tables) (made : tables ≡ tablesAfter words u v before) where
+  has-table : (a : ℕ) → a < header .letters → (occurs u (a % maxLetters) || occurs v (a % maxLetters)) ≡ true → Tabled R tables a
+  unfolding tablesAfter refilled
+  has-table a less m =
+      let below : a < R .letters = rw (h .numbers) at less in
+      let small : a < maxLetters = omega (arith, h .limits .letters) in
+      let same : a % maxLetters ≡ a = omega arith in
+      record {
+        below = below;
+        entries = table-made (held (R .grid)) (h .images) a (rw made (getD-tabulate maxLetters _ a [] small ∙ rw (rw same at m)));
+      }
+
+  pub tables-for : Every (Tabled R tables) u × Every (Tabled R tables) v
+  tables-for = (
+    every-weaker _ _ u (λ a (less, m). has-table a less (or-l _ _ m)) (every-both _ _ u lead (occurs-all u)),
+    every-weaker _ _ v (λ a (less, m). has-table a less (or-r (occurs u (a % maxLetters)) _ m)) (every-both _ _ v tail (occurs-all v)),
+  )

@@ -5,7 +5,7 @@ use mathlib.Core.List.{List, [], _∷_, _++_}
 use Prim.Native.Nat.{ℕ, zero, suc, _-_, _%_}
 use lib.Dec.{leb, ltb}
 use lib.ListN.{length, getD, drop}
-use Rattle.table.specs.Outcome.{Outcome, accepted, ask}
+use Rattle.table.specs.Outcome.{Outcome, accepted, ask, numberOf, Tells}
 
 -- "A walk is a lead-in u (0 to 4,096 letters, a byte each) and a tail v (1 to 4,096)."
 abbrev pub maxLength : ℕ
@@ -27,6 +27,10 @@ askWalk m u v next = ask (lengthsFit u v) 7 (ask (lettersBelow m u && lettersBel
 -- questions 7 and 8 put to a walk by themselves
 unfoldable pub walkOutcome : ℕ → List ℕ → List ℕ → Outcome (Unit {0})
 walkOutcome m u v = askWalk m u v (accepted tt)
+
+-- "No gives the number": what the number that is given to a walk tells (proved: crates/word/proofs/RefusalNumbers.antt)
+abbrev pub WalkNumber : Type 0
+WalkNumber = (m : ℕ) (u v : List ℕ) → Tells (walkOutcome m u v) (numberOf (walkOutcome m u v))
 
 -- "At each place the letters still to be read are the rest of whichever of u and v is being read."
 unfoldable pub lettersLeft : Bool → List ℕ → List ℕ → ℕ → List ℕ

@@ -1,36 +1,33 @@
 -- The look-up tables of a walk's letters, for the judges that read letters by them.
 use mathlib.Core.Path.{_≡_}
-use mathlib.Core.Bool.{true}
+use mathlib.Core.Bool.{Bool, false, _||_, cond}
 use mathlib.Core.List.{List, [], _∷_}
-use Prim.Native.Nat.{ℕ, _^_, _<_}
-use lib.Bits.{bitOr}
+use Prim.Native.Nat.{ℕ, _%_, _<_}
+use lib.Dec.{eqb}
 use lib.ListN.{getD}
-use Rattle.table.specs.BitSet.{member}
-use Rattle.table.specs.Rule.{Grid, Rule}
+use Rattle.table.specs.Limits.{maxLetters}
+use Rattle.table.specs.Rule.{Rule}
 use Rattle.table.specs.Held.{held}
-use Rattle.table.specs.Lookup.{LetterTable, gridWords, letterTable}
-use Rattle.table.specs.Table.{Every}
+use Rattle.table.specs.Lookup.{tabulate, LetterTable, letterTable, joinedTable}
 
 -- a table for each letter
 abbrev pub Tables : Type 0
 Tables = List LetterTable
 
--- the map of the letters of a word, joined to a map of letters
-unfoldable pub occurring : ℕ → List ℕ → ℕ
-occurring others [] = others
-occurring others (a ∷ w) = occurring (bitOr others (2 ^ a)) w
+-- does letter a occur in the word? A byte from the limit up counts by its remainder.
+unfoldable pub occurs : List ℕ → ℕ → Bool
+occurs [] a = false
+occurs (b ∷ w) a = eqb (b % maxLetters) a || occurs w a
 
--- the tables of a map of letters
-unfoldable pub TablesOf : ℕ → Grid → Tables → Type 0
-TablesOf letters cells tables = (a : ℕ) → member letters a ≡ true → getD tables a [] ≡ letterTable (getD cells a [])
+-- the tables where those of some letters are made from the words of their states; the others stay
+unfoldable pub refilled : (ℕ → Bool) → List (List ℕ) → Tables → Tables
+refilled chosen words tables = tabulate maxLetters (λ a. cond (chosen a) (joinedTable (getD words a [])) (getD tables a []))
+
+-- the tables after those of a walk's letters are made
+unfoldable pub tablesAfter : List (List ℕ) → List ℕ → List ℕ → Tables → Tables
+tablesAfter words u v tables = refilled (λ a. occurs u a || occurs v a) words tables
 
 -- a letter of the rule has its table
 pub record Tabled (R : Rule) (tables : Tables) (a : ℕ) : Type 0 where
   pub below : a < R .letters
   pub entries : getD tables a [] ≡ letterTable (getD (held (R .grid)) a [])
-
--- whatever rule the words are of: each letter of a walk over that rule has its table
-unfoldable pub TablesFor : List (List ℕ) → List ℕ → List ℕ → Tables → Type 0
-TablesFor words u v tables =
-    (R : Rule) → words ≡ gridWords (held (R .grid)) → Every (λ a. a < R .letters) u → Every (λ a. a < R .letters) v
-    → Every (Tabled R tables) u × Every (Tabled R tables) v

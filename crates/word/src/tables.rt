@@ -4,35 +4,32 @@ use table::limits::Words;
 use table::lookup::LetterTable;
 use table::lookup::fill_table;
 ghost use mathlib.Core.Path.{_≡_};
-ghost use Prim.Native.Nat.{_<_};
+ghost use lib.Bits.{bitOr};
 ghost use lib.ListN.{length};
+ghost use Rattle.table.specs.BitSet.{collect, member};
 ghost use Rattle.table.specs.Limits.{maxLetters};
-ghost use Rattle.table.specs.Lookup.{gridWords};
-ghost use Rattle.table.specs.Rule.{Grid};
-ghost use Rattle.table.specs.Table.{Every};
-ghost use Rattle.word.specs.WalkTables.{occurring, TablesOf, TablesFor};
+ghost use Rattle.word.specs.WalkTables.{occurs, refilled, tablesAfter};
 
 // A table for each letter.
 pub type AllTables = [LetterTable; LETTERS];
 
-// The map of the letters of w, joined to a map of letters.
+// The map of the letters of w, joined to a map of letters. A byte from the limit up counts by its remainder.
 fn occurring(w: &[u8], others: u16) -> u16
-    requires { ⌜ Every (λ a. a < maxLetters) (now w) ⌝ }
-    ensures { λ r. ⌜ r ≡ occurring others (now (w .entry)) ⌝ }
+    ensures { λ r. ⌜ r ≡ bitOr others (collect maxLetters (occurs (now (w .entry)))) ⌝ }
 {
     let mut letters = others;
     let mut at = 0usize;
     while at < w.len() {
-        letters = letters | (1u16 << w[at]);
+        letters = letters | (1u16 << (w[at] % LETTERS as u8));
         at += 1;
     }
     letters
 }
 
-// The tables of a map of letters, made in place from the words of their states.
+// The tables of a map of letters, made in place from the words of their states; those of other letters stay.
 fn fill_tables(words: &Words, letters: u16, tables: &mut AllTables)
     requires { ⌜ length (now tables) ≡ maxLetters ⌝ }
-    ensures { λ _. ⌜ ((cells : Grid) → now (words .entry) ≡ gridWords cells → TablesOf letters cells (now (tables .exit))) ⌝ }
+    ensures { λ _. ⌜ now (tables .exit) ≡ refilled (member letters) (now (words .entry)) (now (tables .entry)) ⌝ }
 {
     let mut rest = letters;
     while rest != 0 {
@@ -42,10 +39,10 @@ fn fill_tables(words: &Words, letters: u16, tables: &mut AllTables)
     }
 }
 
-// The tables of the letters that occur in a walk, and of no others, made in place. Both judges read letters by them.
+// The tables of the letters that occur in a walk, made in place; those of other letters stay. Both judges read letters by them.
 pub fn walk_tables(words: &Words, u: &[u8], v: &[u8], tables: &mut AllTables)
-    requires { ⌜ (Every (λ a. a < maxLetters) (now u) × Every (λ a. a < maxLetters) (now v)) × (length (now tables) ≡ maxLetters) ⌝ }
-    ensures { λ _. ⌜ TablesFor (now (words .entry)) (now (u .entry)) (now (v .entry)) (now (tables .exit)) ⌝ }
+    requires { ⌜ length (now tables) ≡ maxLetters ⌝ }
+    ensures { λ _. ⌜ now (tables .exit) ≡ tablesAfter (now (words .entry)) (now (u .entry)) (now (v .entry)) (now (tables .entry)) ⌝ }
 {
     let lead_letters = occurring(u, 0);
     let letters = occurring(v, lead_letters);

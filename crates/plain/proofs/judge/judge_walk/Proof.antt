@@ -3,7 +3,6 @@ use borrow.Author.Needs.{needs}
 use Rattle.table.specs.Rule.{Rule}
 use Rattle.table.specs.HeldRule.{HoldsRule}
 use Rattle.plain.specs.Walks.{Walks}
-use Rattle.word.proofs.WalkTables.{letters-small}
 use Rattle.plain.proofs.Judging.{held-walks}
 use Rattle.plain.proofs.judge.judge_walk.Statement.{statement}
 use Rattle.plain.proofs.judge.judge_walk.Tie as tie
@@ -15,13 +14,10 @@ walks : (c : tie.After-walk-tables) →
     → Walks R (args .header) (c .walk-tables .last .1 .1 .1 .0) (args .u .now) (args .v .now)
 walks c R holds =
     let pre = c .before .before .before .before .before .pre in
-    held-walks holds _ _ (pre .lead) (pre .tail) _ (c .walk-tables .ensures)
+    held-walks holds _ _ (pre .lead) (pre .tail) _ _ (c .walk-tables .ensures)
 
 walk-tables-requires : tie.Need-walk-tables-requires
-walk-tables-requires c κs =
-    let start = c .before .before .before .before in
-    let holds = start .pre .holds in
-    ((letters-small holds (start .args .u .now) (start .pre .lead), letters-small holds (start .args .v .now) (start .pre .tail)), search needs)
+walk-tables-requires c κs = search needs
 
 walk-verdict-requires : tie.Need-walk-verdict-requires
 walk-verdict-requires c κs = let pre = c .before .before .before .before .before .before .pre in

@@ -1,34 +1,51 @@
 -- `walk_verdict` meets its contract, by the laws of Judging.
 use borrow.Author.Needs.{needs}
+use Rattle.word.specs.Walk.{lettersLeft}
 use Rattle.plain.proofs.Judging.{states-few, sets-few, lead-small, tail-small, verdict-right}
 use Rattle.plain.proofs.judge.walk_verdict.Statement.{statement}
 use Rattle.plain.proofs.judge.walk_verdict.Tie as tie
 
+letters-left-requires : tie.Need-letters-left-requires
+letters-left-requires c κs = search needs
+
 states-after-requires : tie.Need-states-after-requires
-states-after-requires c κs = lead-small (c .before .before .pre .1)
+unfolding lettersLeft
+states-after-requires c κs = rw (c .letters-left .ensures) (lead-small (c .before .before .before .pre .1))
+
+letters-left-requires-2 : tie.Need-letters-left-requires-2
+letters-left-requires-2 c κs = search needs
 
 tail-rows-requires : tie.Need-tail-rows-requires
-tail-rows-requires c κs = let walks = c .before .before .before .pre .1 in (states-few walks, tail-small walks)
+unfolding lettersLeft
+tail-rows-requires c κs =
+    let walks = c .before .before .before .before .before .pre .1 in
+    (states-few walks, rw (c .letters-left2 .ensures) (tail-small walks))
 
 widen-rows-requires : tie.Need-widen-rows-requires
-widen-rows-requires c κs = (states-few (c .before .before .before .before .before .pre .1), search needs)
+widen-rows-requires c κs = (states-few (c .before .before .before .before .before .before .before .pre .1), search needs)
 
 some-loop-requires : tie.Need-some-loop-requires
-some-loop-requires c κs = let walks = c .before .before .before .before .before .before .before .pre .1 in (states-few walks, sets-few walks)
+some-loop-requires c κs =
+    let walks = c .before .before .before .before .before .before .before .before .before .pre .1 in
+    (states-few walks, sets-few walks)
 
 returns : tie.Need-returns
+unfolding lettersLeft
 returns c =
     let wide = c .before .before in
     let tail = wide .before .before in
-    let lead = tail .before in
-    λ R walks. verdict-right walks _ _ _ _ (lead .states-after .ensures) (tail .tail-rows .ensures) (wide .widen-rows .ensures)
-    (c .some-loop .ensures)
+    let left = tail .before in
+    let lead = left .before in
+    λ R walks. verdict-right walks _ _ _ _ (rw (lead .before .letters-left .ensures) at (lead .states-after .ensures))
+    (rw (left .letters-left2 .ensures) at (tail .tail-rows .ensures)) (wide .widen-rows .ensures) (c .some-loop .ensures)
 
 pub walk-verdict-spec : {M : Type 1} → statement M
 walk-verdict-spec =
     tie.close
     (tie.spec
+    letters-left-requires
     states-after-requires
+    letters-left-requires-2
     tail-rows-requires
     widen-rows-requires
     some-loop-requires

@@ -1,6 +1,5 @@
 -- Questions 4 and 5 at one byte.
 use borrow.Author.Needs.{needs}
-use mathlib.Core.Path.{sym, _∙_}
 use Rattle.table.proofs.CellByte.{byte-missing, byte-accepted, byte-refused}
 use Rattle.table.proofs.cells.read_byte.Statement.{statement}
 use Rattle.table.proofs.cells.read_byte.Tie as tie
@@ -27,17 +26,17 @@ shr-if1 : tie.Need-shr-if1
 shr-if1 c = search needs
 
 returns : tie.Need-returns
-returns c = byte-missing _ _ _ (sym (c .before .before .byte-at .ensures) ∙ c .enum-told .given .1)
+returns c = byte-missing _ _ _ (rw (c .enum-told .given .1) at (c .before .before .byte-at .ensures))
 
 returns-2 : tie.Need-returns-2
 returns-2 c =
     let a = c .before .before .before .before .before in
-    byte-accepted _ _ _ _ _ _ (sym (a .byte-at .ensures) ∙ c .before .before .before .x .given .1) (a .before .before .pre) (c .before .widen .ensures) (c .if1 .taken)
+    byte-accepted _ _ _ _ _ _ (rw (c .before .before .before .x .given .1) at (a .byte-at .ensures)) (a .before .before .pre) (c .before .widen .ensures) (c .if1 .taken)
 
 returns-3 : tie.Need-returns-3
 returns-3 c =
     let a = c .before .before .before .before .before in
-    byte-refused _ _ _ _ _ _ (sym (a .byte-at .ensures) ∙ c .before .before .before .x .given .1) (a .before .before .pre) (c .before .widen .ensures) (c .if1 .left)
+    byte-refused _ _ _ _ _ _ (rw (c .before .before .before .x .given .1) at (a .byte-at .ensures)) (a .before .before .pre) (c .before .widen .ensures) (c .if1 .left)
 
 pub read-byte-spec : {M : Type 1} → statement M
 read-byte-spec =

@@ -1,31 +1,37 @@
 -- The set bytes of a cell, by the laws of RowReading and RowWords.
+use mathlib.Core.Path.{sym}
 use Prim.Native.Nat.{_<_}
 use native.Mathlib.Omega.{arith}
 use borrow.Author.Needs.{needs}
-use lib.Count.{ones}
 use lib.ListN.{drop}
 use lib.Pow.{pow-mono}
 use Rattle.table.specs.Limits.{maxStates}
 use Rattle.table.specs.Table.{readRow}
 use Rattle.table.proofs.CellByte.{byte-below}
-use Rattle.table.proofs.RowReading.{RowSoFar, row-start, row-some, row-inside, row-take, row-refused, row-less, row-done}
-use Rattle.table.proofs.RowWords.{WordSoFar, word-start, word-take}
+use Rattle.table.proofs.RowReading.{RowSoFar, row-start, row-some, row-inside, row-take, row-refused, row-none, row-done}
+use Rattle.table.proofs.RowWords.{WordSoFar, word-blank, word-start, word-take, word-done}
 use Rattle.table.proofs.cells.read_row.Statement.{statement}
 use Rattle.table.proofs.cells.read_row.Tie as tie
 
 abbrev Inv-loop : tie.InvT-loop
-Inv-loop s standing k row₀ word₀ at₀ rest₀ made₀ row word at rest made =
-    RowSoFar s k maxStates (readRow k maxStates standing (drop (at₀ .at) s)) row (at .at) rest × WordSoFar row rest made
+Inv-loop s map k row₀ word₀ at₀ left₀ rest₀ made₀ row word at left rest made =
+    RowSoFar s k maxStates (readRow k maxStates map (drop (at₀ .at) s)) row (at .at) rest left × WordSoFar row rest made
 
 abbrev μ-loop : tie.MeasureT-loop
-μ-loop s standing k row₀ word₀ at₀ rest₀ made₀ row word at rest made = ones rest
+μ-loop s map k row₀ word₀ at₀ left₀ rest₀ made₀ row word at left rest made = left
 
 loop-holds : tie.Need-loop-holds Inv-loop μ-loop
 loop-holds c = rw (c .before .pre .1) (row-start _ _ _ _ _ (c .before .pre .0 .0), word-start _)
 
--- a u16 has 16 bits, more than a row has places
+-- a u64 has more bits than a row has places
 cast-r : tie.Need-cast-r Inv-loop μ-loop
-cast-r c = omega (arith, row-inside (c .before .loop .inv .0) (c .loop-test .taken) 16 (omega arith))
+cast-r c = omega (arith, row-inside (c .before .loop .inv .0) (c .loop-test .taken) 64 (omega arith))
+
+sub-rest : tie.Need-sub-rest Inv-loop μ-loop
+sub-rest c = row-some (c .before .loop .inv .0) (c .loop-test .taken)
+
+sub-left : tie.Need-sub-left Inv-loop μ-loop
+sub-left c = search needs
 
 read-byte-requires : tie.Need-read-byte-requires Inv-loop μ-loop
 read-byte-requires c κs = search needs
@@ -35,11 +41,11 @@ enum-known-number c = search needs
 
 returns : tie.Need-returns Inv-loop μ-loop
 returns c =
-    let r = c .before .before .before in
-    let l = r .before in
-    let inv = l .before .loop .inv in (
-      row-refused (inv .0) (l .loop-test .taken) 16 (omega arith) _ (rw (c .before .number .given .1) at (r .read-byte .ensures)),
-      inv .1 .is,
+    let told = c .before in
+    let r = told .before .before .before in
+    let l = r .before in (
+      row-refused (l .before .loop .inv .0) (l .loop-test .taken) 64 (omega arith) _ (rw (told .before .number .given .1) at (r .read-byte .ensures)),
+      sym word-blank,
     )
 
 enum-known-sets : tie.Need-enum-known-sets Inv-loop μ-loop
@@ -48,7 +54,7 @@ enum-known-sets c = search needs
 element-write-row : tie.Need-element-write-row Inv-loop μ-loop
 element-write-row c =
     let l = c .before .before .before .before in
-    row-inside (l .before .loop .inv .0) (l .loop-test .taken) 16 (omega arith)
+    row-inside (l .before .loop .inv .0) (l .loop-test .taken) 64 (omega arith)
 
 widen-requires : tie.Need-widen-requires Inv-loop μ-loop
 widen-requires c κs = search needs
@@ -64,26 +70,16 @@ few c =
 mul-spread : tie.Need-mul-spread Inv-loop μ-loop
 mul-spread c = omega (arith, few (c .before), c .widen .ensures)
 
-add-spread : tie.Need-add-spread Inv-loop μ-loop
-add-spread c = omega (arith, few (c .before), c .widen .ensures)
-
 spread-requires : tie.Need-spread-requires Inv-loop μ-loop
 spread-requires c κs = omega (arith, few (c .before), c .widen .ensures)
 
 shl-made : tie.Need-shl-made Inv-loop μ-loop
 shl-made c =
     let l = c .before .before .before .before .before .before in
-    omega (arith, row-inside (l .before .loop .inv .0) (l .loop-test .taken) 16 (omega arith))
-
-sub-rest : tie.Need-sub-rest Inv-loop μ-loop
-sub-rest c =
-    let l = c .before .before .before .before .before .before in
-    row-some (l .before .loop .inv .0) (l .loop-test .taken)
+    omega (arith, row-inside (l .before .loop .inv .0) (l .loop-test .taken) 64 (omega arith))
 
 loop-less : tie.Need-loop-less Inv-loop μ-loop
-loop-less c =
-    let l = c .before .before .before .before .before .before in
-    row-less (l .before .loop .inv .0) (l .loop-test .taken)
+loop-less c = search needs
 
 loop-again : tie.Need-loop-again Inv-loop μ-loop
 loop-again c =
@@ -92,12 +88,15 @@ loop-again c =
     let l = r .before in
     let inv = l .before .loop .inv in
     let h = l .loop-test .taken in (
-      row-take (inv .0) h 16 (omega arith) _ _ (rw (told .before .sets .given .1) at (r .read-byte .ensures)),
-      word-take (inv .1) (inv .0 .size) (inv .0 .small) (row-some (inv .0) h) 16 (omega arith) _ _ _ (few told) (rw (c .before .widen .ensures)) (c .spread .ensures),
+      row-take (inv .0) h 64 (omega arith) _ _ (rw (told .before .sets .given .1) at (r .read-byte .ensures)),
+      word-take (inv .1) (inv .0 .size) (inv .0 .small) (row-some (inv .0) h) 64 (omega arith) _ _ _ (few told) (rw (c .before .widen .ensures)) (c .spread .ensures),
     )
 
 returns-2 : tie.Need-returns-2 Inv-loop μ-loop
-returns-2 c = (row-done (c .before .loop .inv .0) (c .loop-test .left), c .before .loop .inv .1 .is)
+returns-2 c =
+    let inv = c .before .loop .inv in
+    let h = c .loop-test .left in
+    (row-done (inv .0) h, word-done (inv .1) (row-none (inv .0) h))
 
 pub read-row-spec : {M : Type 1} → statement M
 read-row-spec =
@@ -107,6 +106,8 @@ read-row-spec =
     μ-loop
     loop-holds
     cast-r
+    sub-rest
+    sub-left
     read-byte-requires
     enum-known-number
     returns
@@ -114,10 +115,8 @@ read-row-spec =
     element-write-row
     widen-requires
     mul-spread
-    add-spread
     spread-requires
     shl-made
-    sub-rest
     loop-less
     loop-again
     returns-2)

@@ -1,23 +1,18 @@
 -- `add_state` meets its contract. The loop stores the entries of the sets with the highest state q, in order.
 use borrow.Author.Needs.{needs}
-use mathlib.Core.Path.{_≡_, _∙_, subst}
-use mathlib.Core.List.{List, []}
-use Prim.Native.Nat.{ℕ, suc, _+_, _*_, _-_, _%_, _^_, _≤_}
-use native.Mathlib.Nat.{pow-suc, one-mul, add-zero}
+use mathlib.Core.Path.{_≡_, _∙_}
+use Prim.Native.Nat.{_*_, _-_, _%_, _^_, _≤_}
+use native.Mathlib.Nat.{one-mul}
 use native.Mathlib.Omega.{arith}
-use lib.ListN.{length, getD, length-set}
 use lib.Pow.{pow-mono, shl-exact}
-use Rattle.table.specs.Lookup.{rowWord, squareWords}
-use Rattle.table.specs.LookupSteps.{Filled}
-use Rattle.table.proofs.LookupSteps.{filled-more}
-use Rattle.table.proofs.RowWords.{word-at}
+use Rattle.table.specs.LookupSteps.{StateAdded}
+use Rattle.table.proofs.LookupSteps.{added-none, added-more}
 use Rattle.table.proofs.lookup.add_state.Statement.{statement}
 use Rattle.table.proofs.lookup.add_state.Tie as tie
 
 abbrev Inv-loop : tie.InvT-loop
 Inv-loop table₀ words q low high made j₀ table j =
-    (made ≡ 2 ^ q) × (made ≤ 8) × (j ≤ made) × (length table ≡ 32)
-    × ((square : List (List ℕ)) → words ≡ squareWords square → Filled square made table₀ → Filled square (made + j) table)
+    (made ≡ 2 ^ q) × (made ≤ 8) × (j ≤ made) × StateAdded words q j table₀ table
 
 abbrev μ-loop : tie.MeasureT-loop
 μ-loop table₀ words q low high made j₀ table j = made - j
@@ -46,7 +41,7 @@ loop-holds c =
     let q = start .args .q in
     let made : 1 * 2 ^ q % 2 ^ 64 ≡ 2 ^ q = shl-exact {a = 1} 1 q 64 (omega arith) (omega arith) ∙ one-mul (2 ^ q) in
     let small : 2 ^ q ≤ 8 = pow-mono {i = q} {j = 3} (omega arith) in
-    (made, omega arith, omega arith, start .pre .1, λ square is begun. rw add-zero begun)
+    (made, omega arith, omega arith, added-none _ q _ (start .pre .1))
 
 add-set : tie.Need-add-set Inv-loop μ-loop
 add-set c = search needs
@@ -89,24 +84,14 @@ loop-less c = search needs
 
 loop-again : tie.Need-loop-again Inv-loop μ-loop
 loop-again c =
-    let at = c .before .before .before in
-    let inv = at .loop .inv in
-    let words : List ℕ = at .before .before .before .args .words .now in
-    let word : (square : List (List ℕ)) (p : ℕ) → words ≡ squareWords square → getD words p 0 ≡ rowWord (getD square p []) =
-    λ square p is. rw is (word-at square p) in (
-      inv .0,
-      inv .1,
-      omega arith,
-      simp length-set (inv .3),
-      λ square is begun. filled-more _ _ _ _ _ (inv .4 square is begun) (inv .0) (omega arith) (omega arith) _ _ (word square _ is) (word square _ is),
-    )
+    let inv = c .before .before .before .loop .inv in
+    (inv .0, inv .1, omega arith, added-more _ _ _ _ _ _ (inv .3) (inv .0) (omega arith) (omega arith))
 
 returns : tie.Need-returns Inv-loop μ-loop
 returns c =
     let inv = c .before .loop .inv in
-    let q = c .before .before .before .before .args .q in
-    let all : 1 * 2 ^ q % 2 ^ 64 + c .before .loop .j ≡ 2 ^ suc q = omega (arith, pow-suc 2 q) in
-    (inv .3, λ square is begun. subst (λ (n : ℕ). Filled square n (c .before .loop .table)) all (inv .4 square is (rw (inv .0) begun)))
+    let all : c .before .loop .j ≡ 2 ^ c .before .before .before .before .args .q = omega arith in
+    rw all at (inv .3)
 
 pub add-state-spec : {M : Type 1} → statement M
 add-state-spec =

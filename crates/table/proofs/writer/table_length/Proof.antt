@@ -46,7 +46,7 @@ add-t15 c =
     let t = c .before .before .before in
     let x = t .before .before in
     let range = header-range _ _ _ _ (sym (x .before .header-number .ensures) ∙ x .if1 .left) in
-    let count = count-small _ _ _ (sym (c .before .count .given .1) ∙ t .count-transitions .ensures) in
+    let count = count-small _ _ _ (rw (c .before .count .given .1) at (t .count-transitions .ensures)) in
     omega (arith, rows-small range, bytes-small range, count)
 
 returns-3 : tie.Need-returns-3
@@ -54,14 +54,14 @@ returns-3 c =
     let t = c .before .before in
     let x = t .before .before in
     length-misfit _ _ _ _ _ (sym (x .before .header-number .ensures) ∙ x .if1 .left) (t .before .if2 .left)
-    (sym (c .enum-told .given .1) ∙ t .count-transitions .ensures)
+    (rw (c .enum-told .given .1) at (t .count-transitions .ensures))
 
 returns-4 : tie.Need-returns-4
 returns-4 c =
     let t = c .before .before .before in
     let x = t .before .before in
     length-exact _ _ _ _ _ (sym (x .before .header-number .ensures) ∙ x .if1 .left) (t .before .if2 .left) _
-    (sym (c .before .count .given .1) ∙ t .count-transitions .ensures)
+    (rw (c .before .count .given .1) at (t .count-transitions .ensures))
 
 pub table-length-spec : {M : Type 1} → statement M
 table-length-spec =

@@ -32,13 +32,22 @@ returns c =
 start-requires : tie.Need-start-requires
 start-requires c κs = search needs
 
+rows-requires : tie.Need-rows-requires
+rows-requires c κs = search needs
+
+nodes-requires : tie.Need-nodes-requires
+nodes-requires c κs = search needs
+
 put-record-requires : tie.Need-put-record-requires
 put-record-requires c κs =
-    let made = c .before .before .before in
+    let counted = c .before in
+    let given = counted .before .before in
+    let made = given .before in
     let h = made .before .before .before in
     let r = h .before .before in
     let v = reading-rule _ _ (r .read-rule .ensures .1) _ (sym (h .header .given .1) ∙ r .read-rule .ensures .0) in
-    (start-recordable _ [] _ _ v _ (made .start .ensures), made .before .if1 .left, let whole = made .start .ok in search needs)
+    let (fits, long) = start-recordable _ [] _ _ v _ (made .start .ensures) in
+    (rw (given .rows .ensures, counted .nodes .ensures) fits, made .before .if1 .left, rw (given .rows .ensures) long)
 
 returns-2 : tie.Need-returns-2
 returns-2 c =
@@ -52,11 +61,14 @@ same-length c = search needs
 returns-3 : tie.Need-returns-3
 returns-3 c =
     let put = c .before .before in
-    let made = put .before .before .before .before in
+    let counted = put .before .before in
+    let given = counted .before .before in
+    let made = given .before in
     let h = made .before .before .before in
     let r = h .before .before in
     let v = reading-rule _ _ (r .read-rule .ensures .1) _ (sym (h .header .given .1) ∙ r .read-rule .ensures .0) in
-    start-done _ _ _ _ v _ (made .start .ensures) (made .before .if1 .left) _ _ (put .put-record .ensures .0) (put .put-record .ensures .1)
+    let (length, bytes) = rw (given .rows .ensures, counted .nodes .ensures) at (put .put-record .ensures) in
+    start-done _ _ _ _ v _ (made .start .ensures) (made .before .if1 .left) _ _ length bytes
 
 pub start-spec : {M : Type 1} → statement M
 start-spec =
@@ -69,6 +81,8 @@ start-spec =
     start-refusal-requires-2
     returns
     start-requires
+    rows-requires
+    nodes-requires
     put-record-requires
     returns-2
     same-length

@@ -23,7 +23,10 @@ rule c = let r = c .before .before in reading-rule _ _ (r .read-rule .ensures .1
 tree : (c : tie.After-nodes) → let k = c .before .before .before in let h = k .before .before .before .before in
     TreeRead (h .header .given .0 .0 .states) (h .header .given .0 .0 .sets)
     (h .before .before .before .before .before .before .before .before .args .bytes .now) (c .nodes .given .0 .0) (k .checked .result .tree .rows)
-tree c = let k = c .before .before .before in tree-read _ _ _ _ (k .checked .ensures) _ (c .nodes .given .1)
+tree c =
+    let k = c .before .before .before in
+    let (states, (some, sets)) = numbers-fit (rule (k .before .before .before .before)) in
+    tree-read _ _ _ _ states sets (k .checked .ensures) _ (c .nodes .given .1)
 
 -- the letter's square is one of the arrays
 letter : (c : tie.Else2) → let l = c .before .before .before .before .before .before in let h = l .before .before .before in
@@ -64,9 +67,7 @@ returns c =
     step-no-letter _ _ _ _ _ _ (rule h) (c .before .if1 .taken) _ (c .step-refusal2 .ensures)
 
 checked-requires : tie.Need-checked-requires
-checked-requires c κs =
-    let (states, (some, sets)) = numbers-fit (rule (c .before .before .before)) in
-    (states, omega arith)
+checked-requires c κs = search needs
 
 enum-known-nodes : tie.Need-enum-known-nodes
 enum-known-nodes c = search needs
@@ -81,7 +82,8 @@ returns-2 : tie.Need-returns-2
 returns-2 c =
     let k = c .before .before .before .before in
     let h = k .before .before .before .before in
-    step-no-tree _ _ _ _ _ _ (rule h) (k .before .if1 .left) (tree-refused _ _ _ _ (k .checked .ensures) (c .before .enum-told .given .1)) _
+    let (states, (some, sets)) = numbers-fit (rule h) in
+    step-no-tree _ _ _ _ _ _ (rule h) (k .before .if1 .left) (tree-refused _ _ _ _ states sets (k .checked .ensures) (c .before .enum-told .given .1)) _
     (c .step-refusal3 .ensures)
 
 step-refusal-requires-4 : tie.Need-step-refusal-requires-4
@@ -102,19 +104,22 @@ index-1-fill-table c = letter c
 fill-table-requires : tie.Need-fill-table-requires
 fill-table-requires c κs = search needs
 
+laid-requires : tie.Need-laid-requires
+laid-requires c κs = search needs
+
+-- from the tree's rows on the first side
 cast-step-rows : tie.Need-cast-step-rows
 cast-step-rows c =
-    let l = c .before .before .before .before .before .before .before .before .before .before .before .before in
+    let n = c .before .before .before .before .before .before .before .before in
+    let l = n .before .before .before .before in
     omega (arith, numbers-fit (rule (l .before .before .before)))
-
-array-set-from-sides : tie.Need-array-set-from-sides
-array-set-from-sides c = search needs
 
 step-rows-requires : tie.Need-step-rows-requires
 step-rows-requires c κs =
-    let n = c .before .before .before .before .before .before .before .before .before in
+    let laid = c .before .before .before in
+    let n = laid .before .before .before .before .before .before in
     let l = n .before .before .before .before in
-    step-ready _ _ _ [] _ _ (rule (l .before .before .before)) (l .if1 .left) _ _ (tree n) _ (search needs)
+    rw (laid .laid .ensures .are) (step-ready _ _ _ [] _ _ (rule (l .before .before .before)) (l .if1 .left) _ _ (tree n) _ (search needs))
 
 index-1-put-record : tie.Need-index-1-put-record
 index-1-put-record c = search needs
@@ -122,11 +127,12 @@ index-1-put-record c = search needs
 put-record-requires : tie.Need-put-record-requires
 put-record-requires c κs =
     let s = c .before .before in
-    let n = s .before .before .before .before .before .before .before .before .before .before in
+    let laid = s .before .before .before .before in
+    let n = laid .before .before .before .before .before .before in
     let l = n .before .before .before .before in
     let (fits, long) = step-recordable _ _ _ [] _ _ (rule (l .before .before .before)) (l .if1 .left) _ _ (tree n) _ _ _ _
-    (filled (s .before .before .before .before .before)) (s .step-rows .ensures) in
-    (fits, s .before .before .before .before .before .before .before .before .if2 .left, long)
+    (filled (laid .before)) (rw (laid .laid .ensures .are) at (s .step-rows .ensures)) in
+    (fits, laid .before .before .before .before .if2 .left, long)
 
 returns-4 : tie.Need-returns-4
 returns-4 c =
@@ -141,11 +147,12 @@ returns-5 : tie.Need-returns-5
 returns-5 c =
     let p = c .before .before in
     let s = p .before .before .before in
-    let n = s .before .before .before .before .before .before .before .before .before .before in
+    let laid = s .before .before .before .before in
+    let n = laid .before .before .before .before .before .before in
     let l = n .before .before .before .before in
     step-done _ _ _ _ _ _ (rule (l .before .before .before)) (l .if1 .left) _ _ (tree n) _ _ _ _
-    (filled (s .before .before .before .before .before)) (s .step-rows .ensures)
-    (s .before .before .before .before .before .before .before .before .if2 .left) _ _ (p .put-record .ensures .0) (p .put-record .ensures .1)
+    (filled (laid .before)) (rw (laid .laid .ensures .are) at (s .step-rows .ensures))
+    (laid .before .before .before .before .if2 .left) _ _ (p .put-record .ensures .0) (p .put-record .ensures .1)
 
 pub step-spec : {M : Type 1} → statement M
 step-spec =
@@ -167,7 +174,7 @@ step-spec =
     mul-fill-table
     index-1-fill-table
     fill-table-requires
-    array-set-from-sides
+    laid-requires
     cast-step-rows
     step-rows-requires
     index-1-put-record

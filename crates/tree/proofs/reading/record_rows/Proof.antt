@@ -1,13 +1,13 @@
 -- A row for each mark, by the laws of ReadingInTurn.
 use borrow.Author.Needs.{needs}
 use Prim.Native.Nat.{_+_, _-_}
-use mathlib.Core.Path.{refl, sym, _∙_}
+use mathlib.Core.Path.{refl}
 use native.Mathlib.Omega.{arith}
 use lib.ListN.{length}
 use Rattle.history.specs.Record.{hostedIn}
 use Rattle.table.proofs.Parts.{to-end}
-use Rattle.tree.specs.PackedRows.{rowsIn}
-use Rattle.tree.proofs.PackedWords.{row-written, rows-length}
+use Rattle.tree.specs.PackedRows.{unpacked, rowsIn}
+use Rattle.tree.proofs.PackedWords.{row-written}
 use Rattle.tree.proofs.ReadingInTurn.{deeper-few, RowsSoFar, rows-start, rows-next, rows-done}
 use Rattle.tree.proofs.reading.record_rows.Statement.{statement}
 use Rattle.tree.proofs.reading.record_rows.Tie as tie
@@ -19,6 +19,7 @@ abbrev μ-loop : tie.MeasureT-loop
 μ-loop n map hosts marks rows₀ node₀ rows node = length marks - node
 
 loop-holds : tie.Need-loop-holds Inv-loop μ-loop
+unfolding unpacked
 loop-holds c = rows-start _ _ _ refl (c .before .before .pre .1)
 
 shared-slice-read-mark : tie.Need-shared-slice-read-mark Inv-loop μ-loop
@@ -78,10 +79,7 @@ loop-again c =
     (row-written (turn .before .loop .rows) node (c .pack .result) (c .pack .ensures))
 
 returns : tie.Need-returns Inv-loop μ-loop
-returns c = (
-  rows-done (c .before .loop .inv) (c .loop-test .left),
-  sym (rows-length (c .before .loop .rows)) ∙ c .before .loop .inv .held,
-)
+returns c = rows-done (c .before .loop .inv) (c .loop-test .left)
 
 pub record-rows-spec : {M : Type 1} → statement M
 record-rows-spec =

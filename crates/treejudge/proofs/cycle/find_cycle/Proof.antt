@@ -5,14 +5,14 @@ use mathlib.Core.Path.{refl, sym, _∙_}
 use mathlib.Core.List.{List}
 use Prim.Native.Nat.{ℕ, _+_, _-_, _^_}
 use Rattle.table.specs.Rule.{Rule}
-use Rattle.treejudge.specs.Reading.{Stands}
+use Rattle.tree.specs.Sides.{Stands}
 use Rattle.treejudge.specs.Names.{followedOn, begunAt, Followable}
 use Rattle.treejudge.specs.Cycles.{AtRound, FirstRound, CycleFound}
 use Rattle.treejudge.proofs.LettersRead.{tree-laid}
 use Rattle.treejudge.proofs.NamesFollowed.{begun-there}
 use Rattle.treejudge.proofs.RoundsRead.{both-small}
 use Rattle.treejudge.proofs.CycleSearch.{Searching, search-start, search-follows, lam-fits, search-measure, search-small}
-use Rattle.treejudge.proofs.CycleSearch.{search-found, search-more, power-fits, search-reset}
+use Rattle.treejudge.proofs.CycleSearch.{search-next, search-found, search-more, power-fits, search-reset}
 use Rattle.treejudge.proofs.cycle.find_cycle.Statement.{statement}
 use Rattle.treejudge.proofs.cycle.find_cycle.Tie as tie
 
@@ -25,24 +25,28 @@ abbrev μ-loop : tie.MeasureT-loop
 μ-loop tables k v held₀ before₀ half₀ power₀ lam₀ sides₀ now₀ held before half power lam sides now = 2 ^ 65 - (power + lam)
 
 -- the search over the rule and the lead-in that are known
-search-known : (c : tie.At-loop Inv-loop μ-loop) → let args = c .before .before .before .before .args in (R : Rule) × (u : List ℕ)
+search-known : (c : tie.At-loop Inv-loop μ-loop) → let args = c .before .before .before .before .before .args in (R : Rule) × (u : List ℕ)
     × Searching R u (args .v .now) (args .tables .now) (args .k) (c .loop .held) (c .loop .before) (c .loop .half) (c .loop .power)
     (c .loop .lam) (followedOn (c .loop .sides) (c .loop .now))
 unfolding FirstRound
-search-known c = let (R, u, A) = c .before .before .before .before .pre in (R, u, c .loop .inv .1 R u A)
+search-known c = let (R, u, A) = c .before .before .before .before .before .pre in (R, u, c .loop .inv .1 R u A)
 
 laid-requires : tie.Need-laid-requires Inv-loop μ-loop
 laid-requires c κs = search needs
 
+nodes-requires : tie.Need-nodes-requires Inv-loop μ-loop
+nodes-requires c κs = search needs
+
 begin-requires : tie.Need-begin-requires Inv-loop μ-loop
 unfolding FirstRound
-begin-requires c κs = let (R, u, A) = c .before .before .pre in both-small A A .0
+begin-requires c κs = let (R, u, A) = c .before .before .before .pre in rw (c .nodes .ensures) (both-small A A .0)
 
 loop-holds : tie.Need-loop-holds Inv-loop μ-loop
 loop-holds c =
-    let laid = c .before .laid .ensures in (
+    let counted = c .before in
+    let laid = counted .before .laid .ensures in (
       (laid .arrays, rw (c .begin .ensures) (omega arith)),
-      λ R u A. rw (begun-there _ _ _ (tree-laid _ _ laid _ refl) _ (c .begin .ensures)) (search-start A),
+      λ R u A. rw (begun-there _ _ _ (tree-laid _ _ laid _ (counted .nodes .ensures) _ refl) _ (c .begin .ensures)) (search-start A),
     )
 
 follow-letters-requires : tie.Need-follow-letters-requires Inv-loop μ-loop
@@ -68,7 +72,11 @@ returns c R u entry period A F =
     (sym (same .same-tree .ensures) ∙ c .if1 .taken) entry period F
 
 taken-requires : tie.Need-taken-requires Inv-loop μ-loop
-taken-requires c κs = c .before .before .before .before .before .follow-letters .ensures .0
+taken-requires c κs =
+    let followed = c .before .before .before .before .before in
+    let (R, u, S) = search-known (followed .before .before) in
+    let (on, to) = followed .follow-letters .ensures in
+    record { stands = on; rule = R; tree = _; holds = search-next S _ to .tree }
 
 add-power : tie.Need-add-power Inv-loop μ-loop
 add-power c =
@@ -127,6 +135,7 @@ find-cycle-spec =
     Inv-loop
     μ-loop
     laid-requires
+    nodes-requires
     begin-requires
     loop-holds
     follow-letters-requires

@@ -5,14 +5,13 @@ use mathlib.Core.List.{[]}
 use Rattle.table.specs.Rule.{Rule}
 use Rattle.table.specs.HeldRule.{HoldsRule}
 use Rattle.word.specs.Judging.{Judgeable}
-use Rattle.word.proofs.WalkTables.{letters-small}
 use Rattle.history.specs.Tree.{startTree}
 use Rattle.treejudge.specs.JudgeCall.{nameRoom}
-use Rattle.treejudge.specs.Reading.{Readable}
+use Rattle.treejudge.specs.Reading.{treeAt, Reads, Readable, ReadsTo}
 use Rattle.treejudge.specs.Cycles.{AtRound, FirstRound}
 use Rattle.treejudge.specs.Repeats.{RepeatFound}
 use Rattle.treejudge.proofs.LettersRead.{tree-laid, reads-taken}
-use Rattle.treejudge.proofs.Judging.{sets-small, judged-tail, lead-reads, first-round, says-no, some-node, says-yes}
+use Rattle.treejudge.proofs.Judging.{sets-small, lead-reads, first-round, says-no, some-node, says-yes}
 use Rattle.treejudge.proofs.judge.judge_walk.Statement.{statement}
 use Rattle.treejudge.proofs.judge.judge_walk.Tie as tie
 
@@ -22,39 +21,51 @@ known : (c : tie.After-walk-tables) →
     Judgeable (args .header) (args .words .now) (args .u .now) (args .v .now) nameRoom (args .names .now)
 known c = c .before .before .before .before .before .before .pre
 
--- t(0) of the walk, over a rule that the table holds
-first-place : (c : tie.After-letters-left2) →
-    let tables = c .before .before .before .before .before .before .before .before .before .before .before in
+-- where the tables are made
+abbrev made-tables : tie.After-on-first-side → tie.After-walk-tables
+made-tables c = c .before .before .before .before .before .before .before
+
+-- u is read from the starting tree, over a rule that the table holds
+lead-read : (c : tie.After-on-first-side) →
+    let tables = made-tables c in
+    let args = tables .before .before .before .before .before .before .args in
+    let lead = c .before .before .before in
+    (R : Rule) → HoldsRule R (args .header) (args .words .now)
+    → Reads R (startTree R) (tables .walk-tables .last .1 .1 .1 .0) (args .header .sets) (lead .letters-left .result .now)
+    (treeAt (lead .before .before .laid .result) (c .on-first-side .result))
+lead-read c R holds =
+    let counted = c .before in
+    let lead = counted .before .before in
+    let laid = lead .before .before in
+    let made = laid .before in
+    let tables = made .before in
+    lead-reads R _ _ holds _ (made .start .ensures) _ _ _ (lead .letters-left .ensures) (known tables .lead) (known tables .tail)
+    _ _ (tables .walk-tables .ensures) _ (tree-laid _ _ (laid .laid .ensures) _ (counted .nodes .ensures) _ (c .on-first-side .ensures))
+
+-- t(0) of the walk
+first-place : (c : tie.After-taken) →
+    let tables = made-tables (c .before .before .before) in
     let args = tables .before .before .before .before .before .before .args in
     (R : Rule) → HoldsRule R (args .header) (args .words .now)
-    → AtRound R (args .u .now) (c .letters-left2 .result .now) (tables .walk-tables .last .1 .1 .1 .0) (args .header .sets) 0
-    (c .before .taken .result)
+    → AtRound R (args .u .now) (args .v .now) (tables .walk-tables .last .1 .1 .1 .0) (args .header .sets) 0 (c .taken .result)
 first-place c R holds =
-    let first = c .before in
-    let read = first .before .before in
+    let read = c .before .before in
     let placed = read .before in
-    let lead = placed .before .before in
+    let counted = placed .before in
+    let lead = counted .before .before in
     let laid = lead .before .before in
-    let made = laid .before .before in
+    let made = laid .before in
     let tables = made .before in
     first-round R _ _ holds _ (made .start .ensures) _ _ _ (lead .letters-left .ensures) (known tables .lead) (known tables .tail)
-    _ (tables .walk-tables .ensures) _
-    (reads-taken _ _ _ _ _ _ _ (tree-laid _ _ (laid .laid .ensures) _ (placed .on-first-side .ensures)) (first .taken .ensures)
-    (read .read-letters .ensures .1))
-    _ (c .letters-left2 .ensures)
-
--- where the tables are made
-abbrev made-tables : tie.After-letters-left2 → tie.After-walk-tables
-made-tables c = c .before .before .before .before .before .before .before .before .before .before .before
+    _ _ (tables .walk-tables .ensures) _
+    (reads-taken _ _ _ _ _ _ _ (tree-laid _ _ (laid .laid .ensures) _ (counted .nodes .ensures) _ (placed .on-first-side .ensures))
+    (c .taken .ensures) (read .read-letters .ensures .1))
 
 cast-k : tie.Need-cast-k
 cast-k c = let pre = c .before .before .before .before .pre in omega (arith, sets-small (pre .rule) _ _ (pre .holds))
 
 walk-tables-requires : tie.Need-walk-tables-requires
-walk-tables-requires c κs =
-    let start = c .before .before .before .before .before in
-    let holds = start .pre .holds in
-    ((letters-small holds (start .args .u .now) (start .pre .lead), letters-small holds (start .args .v .now) (start .pre .tail)), search needs)
+walk-tables-requires c κs = search needs
 
 start-requires : tie.Need-start-requires
 start-requires c κs = search needs
@@ -65,45 +76,41 @@ laid-requires c κs = search needs
 letters-left-requires : tie.Need-letters-left-requires
 letters-left-requires c κs = search needs
 
+nodes-requires : tie.Need-nodes-requires
+nodes-requires c κs = search needs
+
 on-first-side-requires : tie.Need-on-first-side-requires
 on-first-side-requires c κs = search needs
 
 read-letters-requires : tie.Need-read-letters-requires
 unfolding Readable
 read-letters-requires c κs =
-    let lead = c .before .before in
-    let laid = lead .before .before in
-    let made = laid .before .before in
-    let tables = made .before in
-    let pre = known tables in (
-      (laid .laid .ensures .arrays, rw (c .on-first-side .ensures) (omega arith)),
-      (
-        pre .rule,
-        startTree (pre .rule),
-        lead-reads (pre .rule) _ _ (pre .holds) _ (made .start .ensures) _ _ _ (lead .letters-left .ensures) (pre .lead) (pre .tail)
-            _ (tables .walk-tables .ensures) _ (tree-laid _ _ (laid .laid .ensures) _ (c .on-first-side .ensures)),
-      ),
+    let pre = known (made-tables c) in (
+      (c .before .before .before .before .before .laid .ensures .arrays, rw (c .on-first-side .ensures) (omega arith)),
+      (pre .rule, startTree (pre .rule), lead-read c (pre .rule) (pre .holds)),
     )
 
 taken-requires : tie.Need-taken-requires
-taken-requires c κs = c .before .read-letters .ensures .0
-
-letters-left-requires-2 : tie.Need-letters-left-requires-2
-letters-left-requires-2 c κs = search needs
+unfolding ReadsTo
+taken-requires c κs =
+    let read = c .before in
+    let placed = read .before in
+    let pre = known (made-tables placed) in
+    let (on, to) = read .read-letters .ensures in
+    record { stands = on; rule = pre .rule; tree = _; holds = to (pre .rule) (startTree (pre .rule)) (lead-read placed (pre .rule) (pre .holds)) }
 
 find-repeat-requires : tie.Need-find-repeat-requires
 unfolding FirstRound
 find-repeat-requires c κs =
-    let pre = known (made-tables (c .before)) in
-    (pre .rule, _, first-place (c .before) (pre .rule) (pre .holds))
+    let first = c .before in
+    let pre = known (made-tables (first .before .before .before)) in
+    (pre .rule, _, first-place first (pre .rule) (pre .holds))
 
 returns : tie.Need-returns
 unfolding RepeatFound
 returns c R holds =
     let found = c .before .before in
-    let tail = found .before .before in
-    judged-tail R _ _ _ _ _ _ (tail .letters-left2 .ensures)
-    (says-no R _ _ _ (found .find-repeat .ensures R _ (first-place tail R holds)) _ (c .if1 .taken))
+    says-no R _ _ _ (found .find-repeat .ensures R _ (first-place (found .before .before) R holds)) _ (c .if1 .taken)
 
 first-node-requires : tie.Need-first-node-requires
 first-node-requires c κs = search needs
@@ -112,19 +119,19 @@ node-name-requires : tie.Need-node-name-requires
 unfolding RepeatFound
 node-name-requires c κs =
     let found = c .before .before .before in
-    let tail = found .before .before in
-    let pre = known (made-tables tail) in
+    let first = found .before .before in
+    let pre = known (made-tables (first .before .before .before)) in
     let R = pre .rule in
-    some-node R _ _ _ (found .find-repeat .ensures R _ (first-place tail R (pre .holds))) [] (pre .holds .limits .states)
+    some-node R _ _ _ (found .find-repeat .ensures R _ (first-place first R (pre .holds))) [] (pre .holds .limits .states)
     (c .before .if1 .left) _ (c .first-node .ensures)
 
 store-name-requires : tie.Need-store-name-requires
 store-name-requires c κs =
-    let tail = c .before .before .before .before .before .before .before in
-    (c .before .node-name .ensures .short, known (made-tables tail) .room)
+    let first = c .before .before .before .before .before .before .before in
+    (c .before .node-name .ensures .short, known (made-tables (first .before .before .before)) .room)
 
-cast-t31 : tie.Need-cast-t31
-cast-t31 c = search needs
+cast-t28 : tie.Need-cast-t28
+cast-t28 c = search needs
 
 same-length : tie.Need-same-length
 same-length c = search needs
@@ -136,10 +143,8 @@ returns-2 c R holds =
     let named = stored .before .before in
     let told = named .before in
     let found = told .before .before .before in
-    let tail = found .before .before in
-    judged-tail R _ _ _ _ _ _ (tail .letters-left2 .ensures)
-    (says-yes R _ _ _ (found .find-repeat .ensures R _ (first-place tail R holds)) _ (holds .limits .states) (told .before .if1 .left)
-    _ (told .first-node .ensures) _ (named .node-name .ensures) _ (stored .store-name .ensures))
+    says-yes R _ _ _ (found .find-repeat .ensures R _ (first-place (found .before .before) R holds)) _ (holds .limits .states)
+    (told .before .if1 .left) _ (told .first-node .ensures) _ (named .node-name .ensures) _ (stored .store-name .ensures)
 
 pub judge-walk-spec : {M : Type 1} → statement M
 judge-walk-spec =
@@ -150,15 +155,15 @@ judge-walk-spec =
     start-requires
     laid-requires
     letters-left-requires
+    nodes-requires
     on-first-side-requires
     read-letters-requires
     taken-requires
-    letters-left-requires-2
     find-repeat-requires
     returns
     first-node-requires
     node-name-requires
     store-name-requires
-    cast-t31
+    cast-t28
     same-length
     returns-2)

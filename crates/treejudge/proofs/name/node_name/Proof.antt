@@ -19,11 +19,19 @@ Inv-loop number rows numbers₀ long₀ i₀ numbers long i = NamedSoFar rows nu
 abbrev μ-loop : tie.MeasureT-loop
 μ-loop number rows numbers₀ long₀ i₀ numbers long i = number - i
 
+-- the name so far, by the tree's rows
+so-far : (c : tie.At-loop Inv-loop μ-loop) → let args = c .before .before .args in
+    NamedSoFar (args .tree .rows) (args .number) (c .loop .numbers) (c .loop .length) (c .loop .i)
+so-far c = rw (c .before .rows .ensures) at (c .loop .inv)
+
 -- the depth of the row that is read
 depth : (c : tie.After-unpack Inv-loop μ-loop)
     → c .unpack .result .depth ≡ getD (rowsIn (c .before .before .before .before .args .tree .rows)) (c .before .before .loop .i + 1) blankRow .depth
 depth c = ap (λ (r : Row). r .depth) (row-read (c .before .before .before .before .args .tree .rows) (c .before .before .loop .i + 1)
-    (c .unpack .ensures))
+    (rw (c .before .before .before .rows .ensures) at (c .unpack .ensures)))
+
+rows-requires : tie.Need-rows-requires Inv-loop μ-loop
+rows-requires c κs = search needs
 
 loop-holds : tie.Need-loop-holds Inv-loop μ-loop
 loop-holds c = name-start _ _ _ refl
@@ -43,37 +51,37 @@ unpack-requires c κs = search needs
 cast-depth : tie.Need-cast-depth Inv-loop μ-loop
 cast-depth c =
     let turn = c .before .before in
-    omega (arith, depth (c .before), depth-short (turn .before .before .before .pre) (turn .before .loop .inv) (turn .loop-test .taken))
+    omega (arith, depth (c .before), depth-short (turn .before .before .before .pre) (so-far (turn .before)) (turn .loop-test .taken))
 
 sub-last : tie.Need-sub-last Inv-loop μ-loop
 sub-last c =
     let turn = c .before .before in
-    rw (depth (c .before)) (depth-low (turn .before .before .before .pre) (turn .before .loop .inv) (turn .loop-test .taken))
+    rw (depth (c .before)) (depth-low (turn .before .before .before .pre) (so-far (turn .before)) (turn .loop-test .taken))
 
 array-read-numbers : tie.Need-array-read-numbers Inv-loop μ-loop
 array-read-numbers c =
     let u = c .before .before in
     let turn = u .before in
-    omega (arith, depth u, depth-short (turn .before .before .before .pre) (turn .before .loop .inv) (turn .loop-test .taken))
+    omega (arith, depth u, depth-short (turn .before .before .before .pre) (so-far (turn .before)) (turn .loop-test .taken))
 
 add-numbers : tie.Need-add-numbers Inv-loop μ-loop
 add-numbers c =
     let u = c .before .before in
     let turn = u .before in
-    let small = number-small (turn .before .before .before .pre) (turn .before .loop .inv) (turn .loop-test .taken) (rw (depth u) at (c .if1 .taken)) in
+    let small = number-small (turn .before .before .before .pre) (so-far (turn .before)) (turn .loop-test .taken) (rw (depth u) at (c .if1 .taken)) in
     omega (arith, rw (← depth u) at small)
 
 array-write-numbers : tie.Need-array-write-numbers Inv-loop μ-loop
 array-write-numbers c =
     let u = c .before .before in
     let turn = u .before in
-    omega (arith, depth u, depth-short (turn .before .before .before .pre) (turn .before .loop .inv) (turn .loop-test .taken))
+    omega (arith, depth u, depth-short (turn .before .before .before .pre) (so-far (turn .before)) (turn .loop-test .taken))
 
 array-write-numbers-2 : tie.Need-array-write-numbers-2 Inv-loop μ-loop
 array-write-numbers-2 c =
     let u = c .before .before in
     let turn = u .before in
-    omega (arith, depth u, depth-short (turn .before .before .before .pre) (turn .before .loop .inv) (turn .loop-test .taken))
+    omega (arith, depth u, depth-short (turn .before .before .before .pre) (so-far (turn .before)) (turn .loop-test .taken))
 
 loop-less : tie.Need-loop-less Inv-loop μ-loop
 loop-less c = search needs
@@ -82,7 +90,7 @@ loop-again : tie.Need-loop-again Inv-loop μ-loop
 loop-again c =
     let u = c .before .before in
     let turn = u .before in
-    rw (depth u) (name-beside (turn .before .before .before .pre) (turn .before .loop .inv) (turn .loop-test .taken) (rw (depth u) at (c .if1 .taken)))
+    rw (turn .before .before .rows .ensures, depth u) (name-beside (turn .before .before .before .pre) (so-far (turn .before)) (turn .loop-test .taken) (rw (depth u) at (c .if1 .taken)))
 
 loop-less-2 : tie.Need-loop-less-2 Inv-loop μ-loop
 loop-less-2 c = search needs
@@ -91,10 +99,10 @@ loop-again-2 : tie.Need-loop-again-2 Inv-loop μ-loop
 loop-again-2 c =
     let u = c .before .before in
     let turn = u .before in
-    rw (depth u) (name-deeper (turn .before .before .before .pre) (turn .before .loop .inv) (turn .loop-test .taken) (rw (depth u) at (c .if1 .left)))
+    rw (turn .before .before .rows .ensures, depth u) (name-deeper (turn .before .before .before .pre) (so-far (turn .before)) (turn .loop-test .taken) (rw (depth u) at (c .if1 .left)))
 
 returns : tie.Need-returns Inv-loop μ-loop
-returns c = name-done (c .before .before .before .pre) (c .before .loop .inv) (c .loop-test .left)
+returns c = name-done (c .before .before .before .pre) (so-far (c .before)) (c .loop-test .left)
 
 pub node-name-spec : {M : Type 1} → statement M
 node-name-spec =
@@ -102,6 +110,7 @@ node-name-spec =
     (tie.spec
     Inv-loop
     μ-loop
+    rows-requires
     loop-holds
     add-i
     mul-unpack

@@ -16,13 +16,14 @@ use Rattle.treejudge.proofs.repeat.early_repeat.Tie as tie
 
 -- the letters up to the cut lead from t(0) to the tree at the cut
 to-cut : (c : tie.After-taken) →
-    let args = c .before .before .before .before .before .before .before .before .args in
+    let args = c .before .before .before .before .before .before .before .before .before .args in
     ReadsTo (args .tables .now) (args .k) (args .head .now) (args .first) (c .taken .result)
 to-cut c =
     let read = c .before .before in
     let placed = read .before in
-    reads-taken _ _ _ _ _ _ _ (tree-laid _ _ (placed .before .before .laid .ensures) _ (placed .on-first-side .ensures)) (c .taken .ensures)
-    (read .read-letters .ensures .1)
+    let counted = placed .before in
+    reads-taken _ _ _ _ _ _ _ (tree-laid _ _ (counted .before .before .laid .ensures) _ (counted .nodes .ensures) _ (placed .on-first-side .ensures))
+    (c .taken .ensures) (read .read-letters .ensures .1)
 
 -- its nodes are followed from there
 begun : (c : tie.After-begin) → let cut = c .before .before in
@@ -35,33 +36,49 @@ begun c =
 laid-requires : tie.Need-laid-requires
 laid-requires c κs = search needs
 
+nodes-requires : tie.Need-nodes-requires
+nodes-requires c κs = search needs
+
 on-first-side-requires : tie.Need-on-first-side-requires
 on-first-side-requires c κs = search needs
 
 read-letters-requires : tie.Need-read-letters-requires
 unfolding FirstRound Readable
 read-letters-requires c κs =
-    let laid = c .before .before in
+    let counted = c .before in
+    let laid = counted .before .before in
     let (R, u, A) = laid .before .before .before .pre in (
       (laid .laid .ensures .arrays, rw (c .on-first-side .ensures) (omega arith)),
-      (R, _, head-reads R u _ _ _ _ _ A _ (tree-laid _ _ (laid .laid .ensures) _ (c .on-first-side .ensures))),
+      (R, _, head-reads R u _ _ _ _ _ A _ (tree-laid _ _ (laid .laid .ensures) _ (counted .nodes .ensures) _ (c .on-first-side .ensures))),
     )
 
 taken-requires : tie.Need-taken-requires
-taken-requires c κs = c .before .read-letters .ensures .0
+unfolding FirstRound ReadsTo
+taken-requires c κs =
+    let read = c .before in
+    let counted = read .before .before in
+    let laid = counted .before .before in
+    let (R, u, A) = laid .before .before .before .pre in
+    let (on, to) = read .read-letters .ensures in
+    record {
+      stands = on;
+      rule = R;
+      tree = _;
+      holds = to R _ (head-reads R u _ _ _ _ _ A _ (tree-laid _ _ (laid .laid .ensures) _ (counted .nodes .ensures) _ (read .before .on-first-side .ensures)));
+    }
 
 begin-requires : tie.Need-begin-requires
 unfolding FirstRound
 begin-requires c κs =
     let cut = c .before in
-    let (R, u, A) = cut .before .before .before .before .before .before .before .before .pre in
+    let (R, u, A) = cut .before .before .before .before .before .before .before .before .before .pre in
     rw (cut .taken .ensures) at (tree-small R _ _ (A .holds .limits .states) (cut-holds R u _ _ _ _ _ A _ (to-cut cut)))
 
 follow-letters-requires : tie.Need-follow-letters-requires
 unfolding FirstRound Followable
 follow-letters-requires c κs =
     let cut = c .before .before in
-    let (R, u, A) = cut .before .before .before .before .before .before .before .before .pre in (
+    let (R, u, A) = cut .before .before .before .before .before .before .before .before .before .pre in (
       rw (c .begin .ensures) (cut .before .before .read-letters .ensures .0),
       (R, _, [], rest-follows R u _ _ _ _ _ A _ (to-cut cut) _ (begun c)),
     )
@@ -72,7 +89,7 @@ same-tree-requires c κs =
     let second = c .before in
     let begin = second .before in
     let cut = begin .before .before in
-    let (R, u, A) = cut .before .before .before .before .before .before .before .before .pre in
+    let (R, u, A) = cut .before .before .before .before .before .before .before .before .before .pre in
     let (on, to) = second .follow-letters .ensures in
     let from = begun begin in (
       (
@@ -88,7 +105,7 @@ follow-letters-requires-2 c κs =
     let second = c .before .before .before in
     let begin = second .before in
     let cut = begin .before .before in
-    let (R, u, A) = cut .before .before .before .before .before .before .before .before .pre in
+    let (R, u, A) = cut .before .before .before .before .before .before .before .before .before .pre in
     let (on, to) = second .follow-letters .ensures in
     let from = begun begin in
     (on, (R, _, _, head-follows R u _ _ _ _ _ A _ (to-cut cut) _ from _ to))
@@ -100,7 +117,7 @@ same-tree-requires-2 c κs =
     let second = again .before .before .before .before in
     let begin = second .before in
     let cut = begin .before .before in
-    let (R, u, A) = cut .before .before .before .before .before .before .before .before .pre in
+    let (R, u, A) = cut .before .before .before .before .before .before .before .before .before .pre in
     let (on, back) = again .follow-letters2 .ensures in
     let from = begun begin in (
       (
@@ -135,6 +152,7 @@ early-repeat-spec =
     tie.close
     (tie.spec
     laid-requires
+    nodes-requires
     on-first-side-requires
     read-letters-requires
     taken-requires

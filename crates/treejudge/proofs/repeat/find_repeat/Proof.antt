@@ -1,6 +1,7 @@
 -- `find_repeat` meets its contract: the two parts of a cut tail are the tail.
 use borrow.Author.Needs.{needs}
 use native.Mathlib.Omega.{arith}
+use Rattle.word.specs.Walk.{lettersLeft}
 use Rattle.treejudge.specs.Cycles.{FirstRound, SearchDone}
 use Rattle.treejudge.specs.Repeats.{RepeatFound}
 use Rattle.treejudge.proofs.RepeatSearch.{two-parts, searched, repeat-searched}
@@ -10,6 +11,9 @@ use Rattle.treejudge.proofs.repeat.find_repeat.Tie as tie
 cut-of-requires : tie.Need-cut-of-requires
 cut-of-requires c κs = search needs
 
+letters-left-requires : tie.Need-letters-left-requires
+letters-left-requires c κs = search needs
+
 sub-early-repeat : tie.Need-sub-early-repeat
 sub-early-repeat c = search needs
 
@@ -17,53 +21,61 @@ part-early-repeat-start : tie.Need-part-early-repeat-start
 part-early-repeat-start c = search needs
 
 part-early-repeat-end : tie.Need-part-early-repeat-end
-part-early-repeat-end c = omega (arith, c .before .cut-of .ensures)
-
-sub-early-repeat-2 : tie.Need-sub-early-repeat-2
-sub-early-repeat-2 c = omega (arith, c .before .before .cut-of .ensures)
-
-part-early-repeat-start-2 : tie.Need-part-early-repeat-start-2
-part-early-repeat-start-2 c = omega (arith, c .before .before .cut-of .ensures)
-
-part-early-repeat-end-2 : tie.Need-part-early-repeat-end-2
-part-early-repeat-end-2 c = search needs
+part-early-repeat-end c = omega (arith, c .before .before .cut-of .ensures)
 
 early-repeat-requires : tie.Need-early-repeat-requires
-early-repeat-requires c κs = rw two-parts (c .before .before .before .before .before .pre)
+early-repeat-requires c κs =
+    let rest = c .before in
+    let cut = rest .before .before in
+    let start = cut .before .before .before in
+    rw (two-parts (cut .cut-of .result) (start .args .u .now) (start .args .v .now) (rest .letters-left .result .now) (rest .letters-left .ensures))
+    (start .pre)
 
 returns : tie.Need-returns
-returns c = rw two-parts at (c .before .before .early-repeat .ensures (c .if2 .taken))
+returns c =
+    let early = c .before .before in
+    let rest = early .before .before in
+    let cut = rest .before .before in
+    let start = cut .before .before .before in
+    rw (two-parts (cut .cut-of .result) (start .args .u .now) (start .args .v .now) (rest .letters-left .result .now) (rest .letters-left .ensures))
+    at (early .early-repeat .ensures (c .if2 .taken))
+
+letters-left-requires-2 : tie.Need-letters-left-requires-2
+letters-left-requires-2 c κs = search needs
 
 find-cycle-requires : tie.Need-find-cycle-requires
-find-cycle-requires c κs = search needs
+unfolding lettersLeft
+find-cycle-requires c κs = rw (c .letters-left2 .ensures) (c .before .before .before .before .before .pre)
 
 find-entry-requires : tie.Need-find-entry-requires
-unfolding FirstRound SearchDone
+unfolding FirstRound SearchDone lettersLeft
 find-entry-requires c κs =
-    let (R, u, A) = c .before .before .before .before .pre in
-    let (e, p, S) = searched R u _ _ _ _ A _ (c .find-cycle .ensures) in
-    (R, u, e, p, S)
+    let tail = c .before in
+    let (R, u, A) = tail .before .before .before .before .before .pre in
+    let (e, p, S) = searched R u _ _ _ _ A _ (rw (tail .letters-left2 .ensures) at (c .find-cycle .ensures)) in
+    (R, u, e, p, rw (tail .letters-left2 .ensures) S)
 
 returns-2 : tie.Need-returns-2
-unfolding RepeatFound
+unfolding RepeatFound lettersLeft
 returns-2 c R u A =
     let entered = c .before in
-    let (e, p, S) = searched R u _ _ _ _ A _ (entered .before .find-cycle .ensures) in
-    repeat-searched R u _ _ _ e p _ _ S _ (entered .find-entry .ensures)
+    let found = entered .before in
+    let tail = found .before in
+    let (e, p, S) = searched R u _ _ _ _ A _ (rw (tail .letters-left2 .ensures) at (found .find-cycle .ensures)) in
+    repeat-searched R u _ _ _ e p _ _ S _ (rw (tail .letters-left2 .ensures) at (entered .find-entry .ensures))
 
 pub find-repeat-spec : {M : Type 1} → statement M
 find-repeat-spec =
     tie.close
     (tie.spec
     cut-of-requires
+    letters-left-requires
     sub-early-repeat
     part-early-repeat-start
     part-early-repeat-end
-    sub-early-repeat-2
-    part-early-repeat-start-2
-    part-early-repeat-end-2
     early-repeat-requires
     returns
+    letters-left-requires-2
     find-cycle-requires
     find-entry-requires
     returns-2)

@@ -1,6 +1,6 @@
 -- Two counts that differ, or the rows, by the laws of SameTrees.
 use borrow.Author.Needs.{needs}
-use mathlib.Core.Path.{_≡_}
+use mathlib.Core.Path.{_≡_, _∙_}
 use mathlib.Core.List.{[]}
 use lib.ListN.{length, getD, length-map}
 use Rattle.tree.specs.RecordRows.{places}
@@ -15,10 +15,18 @@ long c = simp length-map at (c .good .0 .1 .1 .0 .1 .0 .1)
 
 returns : tie.Need-returns
 returns c =
-    let start = c .before .before in
+    let counted = c .before in
+    let start = counted .before in
     let (arrays, side) = start .pre .1 in
     counts-differ _ _ _ _ (rows-many (start .args .tree .rows) (long start))
-    (rows-many (getD (start .args .sides .now) (start .args .side) []) (arrays .long _ side)) (start .pre .0 .0) (start .pre .0 .1) (c .if1 .taken)
+    (rows-many (getD (start .args .sides .now) (start .args .side) []) (arrays .long _ side)) (start .pre .0 .0) (start .pre .0 .1)
+    (λ e. c .if1 .taken (counted .nodes .ensures ∙ e))
+
+nodes-requires : tie.Need-nodes-requires
+nodes-requires c κs = search needs
+
+rows-requires : tie.Need-rows-requires
+rows-requires c κs = search needs
 
 mul-same-rows : tie.Need-mul-same-rows
 mul-same-rows c = search needs
@@ -28,12 +36,16 @@ index-1-same-rows c = search needs
 
 same-rows-requires : tie.Need-same-rows-requires
 same-rows-requires c κs =
-    let start = c .before .before .before .before .before in
+    let given = c .before .before in
+    let start = given .before .before .before in
     let (arrays, side) = start .pre .1 in
-    (start .pre .0 .1, (long start, arrays .long _ side))
+    (start .pre .0 .1, (rw (given .rows .ensures) (long start), arrays .long _ side))
 
 returns-2 : tie.Need-returns-2
-returns-2 c = rw (c .before .before .before .before .if1 .left) (c .same-rows .ensures)
+returns-2 c =
+    let given = c .before .before .before in
+    let counted = given .before .before in
+    rw (← given .rows .ensures, ← counted .nodes .ensures, given .before .if1 .left) (c .same-rows .ensures)
 
 pub same-tree-spec : {M : Type 1} → statement M
-same-tree-spec = tie.close (tie.spec returns mul-same-rows index-1-same-rows same-rows-requires returns-2)
+same-tree-spec = tie.close (tie.spec nodes-requires returns rows-requires mul-same-rows index-1-same-rows same-rows-requires returns-2)

@@ -1,6 +1,6 @@
 -- `fill_tables` meets its contract. The loop fills the table of each letter of the map, the lowest first.
 use borrow.Author.Needs.{needs}
-use Prim.Native.Nat.{_-_, _^_, _<_}
+use Prim.Native.Nat.{_-_, _<_}
 use native.Mathlib.Omega.{arith}
 use lib.Bits.{and-le-r}
 use lib.Count.{trailingZeros}
@@ -10,17 +10,17 @@ use Rattle.word.proofs.tables.fill_tables.Statement.{statement}
 use Rattle.word.proofs.tables.fill_tables.Tie as tie
 
 abbrev Inv-loop : tie.InvT-loop
-Inv-loop words letters tables₀ rest₀ tables rest = (rest < 2 ^ maxLetters) × TablesBut letters rest words tables
+Inv-loop words letters tables₀ rest₀ tables rest = TablesBut letters rest words tables₀ tables
 
 abbrev μ-loop : tie.MeasureT-loop
 μ-loop words letters tables₀ rest₀ tables rest = rest
 
 loop-holds : tie.Need-loop-holds Inv-loop μ-loop
-loop-holds c = (search needs, tables-none _ _ _ (c .pre))
+loop-holds c = tables-none _ _ _ (search needs) (c .pre)
 
 -- the letter is below the limit
 inside : (c : tie.In-loop Inv-loop μ-loop) → trailingZeros maxLetters (c .before .loop .rest) < maxLetters
-inside c = let inv = c .before .loop .inv in letter-inside _ _ _ _ (inv .1) (inv .0) (c .loop-test .taken)
+inside c = letter-inside _ _ _ _ _ (c .before .loop .inv) (c .loop-test .taken)
 
 cast-letter : tie.Need-cast-letter Inv-loop μ-loop
 cast-letter c = omega (arith, inside c)
@@ -52,14 +52,10 @@ loop-less c =
 loop-again : tie.Need-loop-again Inv-loop μ-loop
 loop-again c =
     let turn = c .before .before .before in
-    let inv = turn .before .loop .inv in
-    let rest = turn .before .loop .rest in (
-      omega (arith, inv .0, and-le-r rest (rest - 1)),
-      tables-more _ _ _ _ (inv .1) (inv .0) (turn .loop-test .taken) _ (c .fill-table .ensures),
-    )
+    tables-more _ _ _ _ _ (turn .before .loop .inv) (turn .loop-test .taken) _ (c .fill-table .ensures)
 
 returns : tie.Need-returns Inv-loop μ-loop
-returns c = tables-end _ _ _ _ (c .before .loop .inv .1) (c .loop-test .left)
+returns c = tables-end _ _ _ _ _ (c .before .loop .inv) (c .loop-test .left)
 
 pub fill-tables-spec : {M : Type 1} → statement M
 fill-tables-spec =

@@ -1,33 +1,37 @@
 -- `occurring` meets its contract. The loop has the map of the letters that it has passed.
 use borrow.Author.Needs.{needs}
-use Prim.Native.Nat.{_-_, _<_}
+use Prim.Native.Nat.{_-_, _%_}
 use native.Mathlib.Omega.{arith}
 use lib.ListN.{length, getD}
 use Rattle.table.specs.Limits.{maxLetters}
-use Rattle.table.proofs.Every.{every-at}
 use Rattle.table.proofs.BitSet.{one-shifted}
-use Rattle.word.proofs.WalkTables.{OccurringUpTo, occurring-none, occurring-more, occurring-end}
+use Rattle.word.proofs.WalkTables.{LettersUpTo, letters-none, letters-next, letters-end}
 use Rattle.word.proofs.tables.occurring.Statement.{statement}
 use Rattle.word.proofs.tables.occurring.Tie as tie
 
 abbrev Inv-loop : tie.InvT-loop
-Inv-loop w others letters₀ at₀ letters at = OccurringUpTo others w at letters
+Inv-loop w others letters₀ at₀ letters at = LettersUpTo others w at letters
 
 abbrev μ-loop : tie.MeasureT-loop
 μ-loop w others letters₀ at₀ letters at = length w - at
 
 loop-holds : tie.Need-loop-holds Inv-loop μ-loop
-loop-holds c = occurring-none _ _
+loop-holds c = letters-none _ _
 
 shared-slice-read-letters : tie.Need-shared-slice-read-letters Inv-loop μ-loop
 shared-slice-read-letters c = search needs
 
-shl-letters : tie.Need-shl-letters Inv-loop μ-loop
-shl-letters c = let start = c .before .before .before in
-    every-at (λ a. a < maxLetters) (start .args .w .now) _ 0 (start .pre) (c .before .loop-test .taken)
-
 cast-letters : tie.Need-cast-letters Inv-loop μ-loop
-cast-letters c = omega (arith, shl-letters c)
+cast-letters c = search needs
+
+rem-letters : tie.Need-rem-letters Inv-loop μ-loop
+rem-letters c = search needs
+
+cast-letters-2 : tie.Need-cast-letters-2 Inv-loop μ-loop
+cast-letters-2 c = search needs
+
+shl-letters : tie.Need-shl-letters Inv-loop μ-loop
+shl-letters c = search needs
 
 add-at : tie.Need-add-at Inv-loop μ-loop
 add-at c = search needs
@@ -37,11 +41,11 @@ loop-less c = search needs
 
 loop-again : tie.Need-loop-again Inv-loop μ-loop
 loop-again c = let at = c .before .before in
-    rw (one-shifted 16 (getD (at .before .args .w .now) (at .loop .at) 0) (shl-letters c))
-    (occurring-more _ _ _ _ (at .loop .inv) (c .before .loop-test .taken))
+    rw (one-shifted 16 (getD (at .before .args .w .now) (at .loop .at) 0 % maxLetters) (omega arith))
+    (letters-next _ _ _ _ (at .loop .inv) (c .before .loop-test .taken))
 
 returns : tie.Need-returns Inv-loop μ-loop
-returns c = occurring-end _ _ _ _ (c .before .loop .inv) (c .loop-test .left)
+returns c = letters-end _ _ _ _ (c .before .loop .inv) (c .loop-test .left)
 
 pub occurring-spec : {M : Type 1} → statement M
 occurring-spec =
@@ -52,6 +56,8 @@ occurring-spec =
     loop-holds
     shared-slice-read-letters
     cast-letters
+    rem-letters
+    cast-letters-2
     shl-letters
     add-at
     loop-less

@@ -1,0 +1,6 @@
+// The program `judge`, run on no input.
+use program::console::run;
+
+fn main() {
+    run();
+}

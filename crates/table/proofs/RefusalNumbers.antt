@@ -1,0 +1,105 @@
+-- The numbers of refusals: no question has the number 0, so 0 tells that a call is accepted.
+use mathlib.Core.Path.{_≡_, refl, _∙_}
+use mathlib.Core.Bool.{Bool, true, false}
+use mathlib.Core.List.{List, [], _∷_}
+use Prim.Native.Nat.{ℕ, zero, suc, _/_, _%_, _^_}
+use native.Mathlib.Omega.{arith}
+use lib.Dec.{eqb, leb, ltb}
+use lib.ListN.{length, getD, drop}
+use Rattle.table.specs.Outcome.{Outcome, refused, accepted, ask, _then_, numberOf, Tells}
+use Rattle.table.specs.Table.{Read, inRange, startFits, askHeader, readByte, readTransition, readRow, readCell, readMany, readGrid}
+use Rattle.table.specs.Table.{ended, readBody, readRule, gridFits, writeRule}
+
+-- if the outcome is a refusal, its number has the property P
+abbrev pub IfRefused : {A : Type 0} → (ℕ → Type 0) → Outcome A → Type 0
+IfRefused P (refused number) = P number
+IfRefused P (accepted a) = Unit {0}
+
+module _ {A : Type 0} (P : ℕ → Type 0) where
+  pub ask-number : (t : Bool) (number : ℕ) (next : Outcome A) → P number → IfRefused P next → IfRefused P (ask t number next)
+  ask-number true number next own later = later
+  ask-number false number next own later = own
+
+  pub then-number : {B : Type 0} (o : Outcome B) (next : B → Outcome A) → IfRefused P o → ((b : B) → IfRefused P (next b)) → IfRefused P (o then next)
+  then-number (refused number) next first later = first
+  then-number (accepted b) next first later = later b
+
+-- the number is not 0
+abbrev pub NotZero : ℕ → Type 0
+NotZero number = number ≡ 0 → ⊥
+
+-- then it tells whether the call is accepted
+pub tells : {A : Type 0} (o : Outcome A) → IfRefused NotZero o → Tells o (numberOf o)
+tells {A} (refused number) some = record {
+  accepts = ((λ e. absurd (some e)), no);
+  refuses = λ other e. let same : number ≡ other = cc in (same, λ z. some (same ∙ z));
+}
+  where
+    no : (a : A) × (refused number ≡ accepted a) → number ≡ 0
+    no (a, e) = let z : _≡_ {A = ℕ} 0 1 = cc in absurd (omega arith)
+tells (accepted a) some = record {
+  accepts = ((λ e. (a, refl)), (λ h. refl));
+  refuses = λ number e. let z : _≡_ {A = ℕ} 0 1 = cc in absurd (omega arith);
+}
+
+-- QUESTIONS 2 AND 3
+
+header-number : {A : Type 0} (n m k start : ℕ) (next : Outcome A) → IfRefused NotZero next → IfRefused NotZero (askHeader n m k start next)
+unfolding askHeader
+header-number n m k start next later =
+    ask-number NotZero (inRange n m k) 2 _ (λ e. omega arith) (ask-number NotZero (startFits n start) 3 next (λ e. omega arith) later)
+
+-- QUESTIONS 1 TO 6
+
+byte-number : (w : ℕ) (bytes : List ℕ) → IfRefused NotZero (readByte w bytes)
+unfolding readByte
+byte-number w [] = λ e. omega arith
+byte-number w (x ∷ rest) = ask-number NotZero (ltb x (2 ^ w)) 5 _ (λ e. omega arith) tt
+
+transition-number : (k : ℕ) (t : Bool) (bytes : List ℕ) → IfRefused NotZero (readTransition k t bytes)
+unfolding readTransition
+transition-number k true bytes = byte-number k bytes
+transition-number k false bytes = tt
+
+row-number : (k w standing : ℕ) (bytes : List ℕ) → IfRefused NotZero (readRow k w standing bytes)
+unfolding readRow
+row-number k zero standing bytes = tt
+row-number k (suc w) standing bytes =
+    then-number NotZero (readTransition k (eqb (standing % 2) 1) bytes) _ (transition-number k (eqb (standing % 2) 1) bytes) (λ x.
+    then-number NotZero (readRow k w (standing / 2) (x .1)) _ (row-number k w (standing / 2) (x .1)) (λ row. tt))
+
+cell-number : (n k w : ℕ) (bytes : List ℕ) → IfRefused NotZero (readCell n k w bytes)
+unfolding readCell
+cell-number n k w bytes = then-number NotZero (readByte n bytes) _ (byte-number n bytes) (λ x. row-number k w (x .0) (x .1))
+
+many-number : {A : Type 0} (one : List ℕ → Read A) → ((bytes : List ℕ) → IfRefused NotZero (one bytes)) → (c : ℕ) (bytes : List ℕ)
+    → IfRefused NotZero (readMany one c bytes)
+unfolding readMany
+many-number one each zero bytes = tt
+many-number one each (suc c) bytes =
+    then-number NotZero (one bytes) _ (each bytes) (λ x.
+    then-number NotZero (readMany one c (x .1)) _ (many-number one each c (x .1)) (λ xs. tt))
+
+body-number : (n m k start : ℕ) (bytes : List ℕ) → IfRefused NotZero (readBody n m k start bytes)
+unfolding readBody readGrid
+body-number n m k start bytes =
+    then-number NotZero (readMany (readMany (readCell n k n) n) m bytes) _
+    (many-number (readMany (readCell n k n) n) (many-number (readCell n k n) (cell-number n k n) n) m bytes)
+    (λ cells. ask-number NotZero (ended (cells .1)) 6 _ (λ e. omega arith) tt)
+
+pub rule-number : (table : List ℕ) → IfRefused NotZero (readRule table)
+unfolding readRule
+rule-number table =
+    let n = getD table 0 0 in
+    let m = getD table 1 0 in
+    let k = getD table 2 0 in
+    let start = getD table 3 0 in
+    ask-number NotZero (leb 4 (length table)) 1 _ (λ e. omega arith)
+    (header-number n m k start _ (body-number n m k start (drop 4 table)))
+
+-- QUESTIONS 2, 3 AND 11
+
+pub write-number : (n m k start : ℕ) (bytes : List ℕ) → IfRefused NotZero (writeRule n m k start bytes)
+unfolding writeRule
+write-number n m k start bytes =
+    header-number n m k start _ (ask-number NotZero (gridFits n m k bytes) 11 _ (λ e. omega arith) tt)

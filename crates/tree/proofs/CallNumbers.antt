@@ -1,0 +1,50 @@
+-- The numbers that the calls on trees answer: no question has the number 0.
+use mathlib.Core.Path.{_≡_, refl}
+use mathlib.Core.List.{List}
+use Prim.Native.Nat.{ℕ}
+use native.Mathlib.Omega.{arith}
+use lib.Dec.{leb, ltb}
+use lib.ListN.{length}
+use Rattle.table.specs.Outcome.{Outcome, refused, accepted, numberOf}
+use Rattle.table.specs.Table.{readRule}
+use Rattle.table.proofs.RefusalNumbers.{IfRefused, NotZero, ask-number, then-number, tells, rule-number}
+use Rattle.history.specs.Record.{isRecord, readTree}
+use Rattle.tree.specs.TreeCalls.{recordRoom, startOutcome, startAnswer, Moved, stepOutcome, stepAnswer, StartNumber, StepNumber}
+
+-- THE STARTING RECORD
+
+start-questions : (table buffer : List ℕ) → IfRefused NotZero (startOutcome table buffer)
+unfolding startOutcome
+start-questions table buffer = then-number NotZero (readRule table) _ (rule-number table) (λ R.
+    ask-number NotZero (leb recordRoom (length buffer)) 10 _ (λ e. omega arith) tt)
+
+start-answers : (o : Outcome (List ℕ)) → startAnswer o .number ≡ numberOf o
+unfolding startAnswer
+start-answers (refused number) = refl
+start-answers (accepted bytes) = refl
+
+pub start-number : StartNumber
+start-number table buffer = rw (start-answers (startOutcome table buffer)) (tells (startOutcome table buffer) (start-questions table buffer))
+
+-- ONE LETTER
+
+-- question 9
+tree-questions : (n k : ℕ) (bytes : List ℕ) → IfRefused NotZero (readTree n k bytes)
+unfolding readTree
+tree-questions n k bytes = ask-number NotZero (isRecord n k bytes) 9 _ (λ e. omega arith) tt
+
+step-questions : (table : List ℕ) (a : ℕ) (bytes buffer : List ℕ) → IfRefused NotZero (stepOutcome table a bytes buffer)
+unfolding stepOutcome
+step-questions table a bytes buffer = then-number NotZero (readRule table) _ (rule-number table) (λ R.
+    ask-number NotZero (ltb a (R .letters)) 8 _ (λ e. omega arith)
+    (then-number NotZero (readTree (R .states) (R .sets) bytes) _ (tree-questions (R .states) (R .sets) bytes) (λ T.
+    ask-number NotZero (leb recordRoom (length buffer)) 10 _ (λ e. omega arith) tt)))
+
+step-answers : (o : Outcome Moved) → stepAnswer o .number ≡ numberOf o
+unfolding stepAnswer
+step-answers (refused number) = refl
+step-answers (accepted moved) = refl
+
+pub step-number : StepNumber
+step-number table a bytes buffer = let o = stepOutcome table a bytes buffer in
+    rw (step-answers o) (tells o (step-questions table a bytes buffer))

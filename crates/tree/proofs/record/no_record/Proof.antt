@@ -1,0 +1,16 @@
+-- The dead tree, by computation.
+use mathlib.Core.Path.{refl}
+use Rattle.table.specs.Held.{pad}
+use Rattle.tree.specs.PackedRows.{unpacked}
+use Rattle.tree.specs.RecordCode.{treeBeside}
+use Rattle.tree.specs.RecordRows.{blankBehind}
+use Rattle.tree.specs.Rows.{rowsFrom, rowsOf}
+use Rattle.tree.proofs.record.no_record.Statement.{statement}
+use Rattle.tree.proofs.record.no_record.Tie as tie
+
+returns : tie.Need-returns
+unfolding treeBeside rowsOf rowsFrom blankBehind pad unpacked
+returns c = record { count = refl; tree = record { rows = refl; count = refl } }
+
+pub no-record-spec : {M : Type 1} → statement M
+no-record-spec = tie.close (tie.spec returns)
