@@ -1,9 +1,14 @@
 /* Suthreldo for C: the public calls of the rule judge (libcapi.a, made by `rt staticlib capi`).
  *
- * A lent slice is a pointer and a length. No pointer is NULL, also where its length is 0, and a buffer that is written does not
- * overlap another argument: this the caller sees to. Each function ends, reads and writes nothing but what it is lent, and answers for
- * all inputs as its comment says. `number` is 0 where the call is accepted; else it is the number of the first question of the
- * specification that is answered no, every other field is 0, and no lent byte is altered. docs/CONTRACTS.md has the contracts. */
+ * What a call promises. It ends, reads and writes nothing but what it is lent, and answers for all inputs as its comment says.
+ * `number` is 0 (SUTHRELDO_ACCEPTED) where the call is accepted. Else it is the number of the first question of the specification that
+ * is answered no, every other field is 0, and no lent byte is altered. No call keeps a pointer, allocates, or calls itself; calls that
+ * are lent different buffers may run at the same time. docs/CONTRACTS.md has the contracts, docs/REFUSALS.md the questions.
+ *
+ * What the caller must see to. A lent slice is a pointer and a length: no pointer is NULL, also where its length is 0; that many bytes
+ * may be read there, and written where the parameter is not const; a buffer that is written overlaps no other argument. The stack
+ * has room for the call: each comment says how many bytes a call was seen to take at most (measured on x86-64 with the largest
+ * tables and the longest walks, as docs/PERFORMANCE.md says; nothing is proved of it). */
 #ifndef SUTHRELDO_H
 #define SUTHRELDO_H
 
@@ -14,7 +19,34 @@
 extern "C" {
 #endif
 
-/* What the buffers must hold. */
+/* The version of this interface. The first number changes when a call or a struct does, the second when a call is added. */
+#define SUTHRELDO_VERSION_MAJOR 1
+#define SUTHRELDO_VERSION_MINOR 0
+
+/* The numbers of refusals, in the order in which they are asked. */
+#define SUTHRELDO_ACCEPTED 0
+#define SUTHRELDO_TABLE_TOO_SHORT 1     /* the table has less than four bytes */
+#define SUTHRELDO_NUMBERS_OUT_OF_RANGE 2 /* n, m or k is out of range */
+#define SUTHRELDO_START_MISFIT 3        /* the starting map is empty or has a bit from n up */
+#define SUTHRELDO_CELL_MISSING 4        /* a cell byte is not there */
+#define SUTHRELDO_CELL_MISFIT 5         /* a map has a bit from n up, or a set byte one from k up */
+#define SUTHRELDO_TABLE_TOO_LONG 6      /* bytes stand behind the last cell */
+#define SUTHRELDO_WALK_LENGTH 7         /* u or v has no allowed length */
+#define SUTHRELDO_LETTER_OUT_OF_RANGE 8 /* a letter is not below m */
+#define SUTHRELDO_NO_RECORD 9           /* the bytes are the record of no tree */
+#define SUTHRELDO_GRID_MISFIT 11        /* the grid has not m·n·n bytes, or one does not fit */
+#define SUTHRELDO_NO_ROOM 10            /* a lent buffer is too short */
+
+/* Limits. */
+#define SUTHRELDO_STATES 8       /* n is at most this */
+#define SUTHRELDO_LETTERS 16     /* m */
+#define SUTHRELDO_SETS 4         /* k */
+#define SUTHRELDO_WALK 4096      /* letters of u, and of v, at most; v has at least one */
+#define SUTHRELDO_TABLE 1156     /* bytes of the longest table */
+#define SUTHRELDO_GRID 1024      /* bytes of the largest grid */
+#define SUTHRELDO_NO_TRANSITION 255 /* a grid's byte for no transition */
+
+/* What the lent buffers must hold. */
 #define SUTHRELDO_RECORD 17      /* bytes for a tree's record */
 #define SUTHRELDO_NAME 7         /* bytes for a node's name */
 #define SUTHRELDO_NO_NAME 255    /* name length where the tree judge says no */
@@ -28,33 +60,35 @@ typedef struct { uint8_t number, verdict; uint64_t entry, period; uint8_t length
 typedef struct { uint8_t number, verdict; } SuthreldoPlain;
 
 /* Reads a rule table into grid bytes. Questions 1 to 6, then 10. Accepted: n, m, k and the map of starting states; the first
- * m·n·n bytes of `grid` are the rule's grid, the rest is unchanged. */
+ * m·n·n bytes of `grid` are the rule's grid, the rest is unchanged. Stack: 2,440 bytes. */
 SuthreldoRead suthreldo_read(const uint8_t *table, size_t table_length, uint8_t *grid, size_t grid_length);
 
 /* Writes a rule's numbers and grid as a table. Questions 2, 3 and 11, then 10. Accepted: the table's length; its bytes stand at
- * the front of `table`, the rest is unchanged. */
+ * the front of `table`, the rest is unchanged. Stack: 80 bytes. */
 SuthreldoWrite suthreldo_write(size_t n, size_t m, size_t k, uint16_t start, const uint8_t *grid, size_t grid_length,
                                uint8_t *table, size_t table_length);
 
 /* The record of a table's starting tree. Questions 1 to 6, then 10. Accepted: the record's length; exactly the record is
- * written to the front of `buffer`, the rest unchanged. */
+ * written to the front of `buffer`, the rest unchanged. Stack: 2,280 bytes. */
 SuthreldoStart suthreldo_start(const uint8_t *table, size_t table_length, uint8_t *buffer, size_t buffer_length);
 
 /* One letter on the tree of a record. Questions 1 to 6, 8, 9, then 10. Accepted: the length of the next tree's record, which is
  * written to the front of `buffer`, the rest unchanged, and the maps of accepting and of stable nodes by old node number (bit i for
- * node i; only the low eight bits can stand). */
+ * node i; only the low eight bits can stand). Stack: 3,112 bytes. */
 SuthreldoStep suthreldo_step(const uint8_t *table, size_t table_length, uint8_t letter, const uint8_t *record, size_t record_length,
                              uint8_t *buffer, size_t buffer_length);
 
 /* The tree judge. Questions 1 to 8, then 10. Accepted: entry and period of the first repeated tree at a round end.
  * verdict 1 (yes): some endless run of the rule over u and then v for ever goes through every accepting set infinitely often;
  * `length` numbers of the first witnessing node's name stand at the front of `names`, the rest is unchanged.
- * verdict 0 (no): there is no such run; `length` is 255 and `names` is unchanged. */
+ * verdict 0 (no): there is no such run; `length` is 255 and `names` is unchanged.
+ * Stack: 8,888 bytes. Time: mostly under a millisecond; the longest known is 1 to 3 seconds (docs/PERFORMANCE.md). */
 SuthreldoTree suthreldo_tree_judge(const uint8_t *table, size_t table_length, const uint8_t *u, size_t u_length,
                                    const uint8_t *v, size_t v_length, uint8_t *names, size_t names_length);
 
 /* The plain judge, which builds no tree. Questions 1 to 8, then 10. Accepted: verdict 1 exactly when there is such a run,
- * 0 exactly when there is none; the first 32,768 bytes of `scratch` are left zero, those past them unchanged. */
+ * 0 exactly when there is none; the first 32,768 bytes of `scratch` are left zero, those past them unchanged.
+ * Stack: 6,600 bytes. Time: linear in the walk's letters. */
 SuthreldoPlain suthreldo_plain_judge(const uint8_t *table, size_t table_length, const uint8_t *u, size_t u_length,
                                      const uint8_t *v, size_t v_length, uint8_t *scratch, size_t scratch_length);
 
