@@ -9,37 +9,37 @@ use lib.ListN.{length, take, drop, length-append}
 use lib.Seq.{take-append-seam}
 use Rattle.notation.specs.Hexadecimal.{bytesOf, noLonger, longest, byteString, zeros, bytesAnswer, Within}
 use Rattle.notation.specs.Testing.{Tests}
-use Rattle.notation.specs.Laying.{Lays}
+use Rattle.notation.specs.Putting.{Puts}
 use Rattle.notation.proofs.Testing.{both-true, and-yes}
-use Rattle.notation.specs.declared.hexadecimal.Laid.{Laid}
+use Rattle.notation.specs.declared.hexadecimal.Put.{Put}
 use Rattle.notation.specs.declared.hexadecimal.Bytes.{Bytes}
 
--- WHAT IS LAID IS THE ANSWER
+-- WHAT IS PUT IS THE ANSWER
 
-laid-no : (o : Option (List ℕ)) (after : List ℕ) (laid : Laid) → Lays o zeros after laid → laid .right ≡ false
-    → record { room = zeros; end = laid .end; right = laid .right } ≡ bytesAnswer o
+put-no : (o : Option (List ℕ)) (after : List ℕ) (put : Put) → Puts o zeros after put → put .right ≡ false
+    → record { room = zeros; end = put .end; right = put .right } ≡ bytesAnswer o
 unfolding bytesAnswer
-laid-no none after laid is wrong = λ i. record { room = zeros; end = is i .end; right = is i .right }
-laid-no (some bytes) after laid (is, stands) wrong = absurd (false≢true (sym wrong ∙ ap (λ (l : Laid). l .right) is))
+put-no none after put is wrong = λ i. record { room = zeros; end = is i .end; right = is i .right }
+put-no (some bytes) after put (is, stands) wrong = absurd (false≢true (sym wrong ∙ ap (λ (l : Put). l .right) is))
 
-laid-yes : (o : Option (List ℕ)) (after : List ℕ) (laid : Laid) → Lays o zeros after laid → laid .right ≡ true
-    → record { room = after; end = laid .end; right = laid .right } ≡ bytesAnswer o
+put-yes : (o : Option (List ℕ)) (after : List ℕ) (put : Put) → Puts o zeros after put → put .right ≡ true
+    → record { room = after; end = put .end; right = put .right } ≡ bytesAnswer o
 unfolding bytesAnswer
-laid-yes none after laid is right = absurd (false≢true (sym (ap (λ (l : Laid). l .right) is) ∙ right))
-laid-yes (some bytes) after laid (is, stands) right = λ i. record { room = stands i; end = is i .end; right = is i .right }
+put-yes none after put is right = absurd (false≢true (sym (ap (λ (l : Put). l .right) is) ∙ right))
+put-yes (some bytes) after put (is, stands) right = λ i. record { room = stands i; end = is i .end; right = is i .right }
 
-module _ (text room : List ℕ) (blank : room ≡ zeros) (size : 33000 ≡ length room) (after : List ℕ) (laid : Laid) where
-  lays-there : Lays (noLonger (length room) (bytesOf text)) room after laid → Lays (byteString text) zeros after laid
+module _ (text room : List ℕ) (blank : room ≡ zeros) (size : 33000 ≡ length room) (after : List ℕ) (put : Put) where
+  puts-there : Puts (noLonger (length room) (bytesOf text)) room after put → Puts (byteString text) zeros after put
   unfolding byteString longest
-  lays-there lays = rw (← size, blank) at lays
+  puts-there puts = rw (← size, blank) at puts
 
-  pub answer-no : Lays (noLonger (length room) (bytesOf text)) room after laid → laid .right ≡ false → (again : List ℕ) → again ≡ zeros
-      → record { room = again; end = laid .end; right = laid .right } ≡ bytesAnswer (byteString text)
-  answer-no lays wrong again e = rw e (laid-no (byteString text) after laid (lays-there lays) wrong)
+  pub answer-no : Puts (noLonger (length room) (bytesOf text)) room after put → put .right ≡ false → (again : List ℕ) → again ≡ zeros
+      → record { room = again; end = put .end; right = put .right } ≡ bytesAnswer (byteString text)
+  answer-no puts wrong again e = rw e (put-no (byteString text) after put (puts-there puts) wrong)
 
-  pub answer-yes : Lays (noLonger (length room) (bytesOf text)) room after laid → laid .right ≡ true
-      → record { room = after; end = laid .end; right = laid .right } ≡ bytesAnswer (byteString text)
-  answer-yes lays right = laid-yes (byteString text) after laid (lays-there lays) right
+  pub answer-yes : Puts (noLonger (length room) (bytesOf text)) room after put → put .right ≡ true
+      → record { room = after; end = put .end; right = put .right } ≡ bytesAnswer (byteString text)
+  answer-yes puts right = put-yes (byteString text) after put (puts-there puts) right
 
 -- WHAT AN ANSWER SAYS
 

@@ -12,7 +12,7 @@ use lib.ListN.{length, take, drop, getD, set, replicate, length-append, length-d
 use lib.Seq.{drop-cons, drop-drop, set-at, take-suc, take-length, length-take-le}
 use Rattle.notation.specs.Decimal.{digitValue, decimal, noLarger, numberAnswer}
 use Rattle.notation.specs.Hexadecimal.{arePair, pairByte, arePairs, pairBytes, hexadecimal, times, bytesOf, noLonger}
-use Rattle.notation.specs.Laying.{byteFrom, Lays}
+use Rattle.notation.specs.Putting.{byteFrom, Puts}
 use Rattle.notation.proofs.Testing.{both-true}
 use Rattle.notation.specs.declared.decimal.Number.{Number}
 
@@ -126,16 +126,16 @@ pub record PairsLaid (text buffer : List ℕ) (at end : ℕ) (after : List ℕ) 
   pub few : end ≤ length (pairBytes text)
   pub same-pairs : arePairs text ≡ arePairs (drop at text)
   pub same-bytes : drop end (pairBytes text) ≡ pairBytes (drop at text)
-  pub laid : after ≡ take end (pairBytes text) ++ drop end buffer
+  pub put : after ≡ take end (pairBytes text) ++ drop end buffer
 
 pub pairs-start : (text buffer : List ℕ) → PairsLaid text buffer 0 0 buffer
 pairs-start text buffer =
-    record { place = omega arith; room = omega arith; few = omega arith; same-pairs = refl; same-bytes = refl; laid = refl }
+    record { place = omega arith; room = omega arith; few = omega arith; same-pairs = refl; same-bytes = refl; put = refl }
 
 module _ {text buffer : List ℕ} {at end : ℕ} {after : List ℕ} (v : PairsLaid text buffer at end after) where
   pub pairs-size : length after ≡ length buffer
   pairs-size =
-      ap length (v .laid) ∙ front-size (take end (pairBytes text)) buffer end (length-take-le end (pairBytes text) (v .few)) (v .room)
+      ap length (v .put) ∙ front-size (take end (pairBytes text)) buffer end (length-take-le end (pairBytes text) (v .few)) (v .room)
 
   -- no pair there
   pub pairs-none : at < length text → 255 < byteFrom (drop at text) → noLonger (length buffer) (hexadecimal text) ≡ none
@@ -165,7 +165,7 @@ module _ {text buffer : List ℕ} {at end : ℕ} {after : List ℕ} (v : PairsLa
         go true = rw (lt-leb (length (pairBytes text)) (length buffer) long)
         go false = refl
 
-    -- its byte laid
+    -- its byte put
     pub pairs-more : end < length buffer → (byte : ℕ) → byte ≡ byteFrom (drop at text)
         → PairsLaid text buffer (at + 2) (end + 1) (set after end byte)
     pairs-more h byte e = record {
@@ -174,7 +174,7 @@ module _ {text buffer : List ℕ} {at end : ℕ} {after : List ℕ} (v : PairsLa
       few = omega (arith, more);
       same-pairs = v .same-pairs ∙ pair .pairs ∙ ap arePairs (drop-drop 2 at text);
       same-bytes = sym (drop-drop 1 end (pairBytes text)) ∙ ap (drop 1) both ∙ ap pairBytes (drop-drop 2 at text);
-      laid = ap (λ (l : List ℕ). set l end byte) (v .laid)
+      put = ap (λ (l : List ℕ). set l end byte) (v .put)
           ∙ one-more (take end (pairBytes text)) buffer end byte (length-take-le end (pairBytes text) (v .few)) h
           ∙ ap (λ (l : List ℕ). l ++ drop (end + 1) buffer) (sym longer);
     }
@@ -200,7 +200,7 @@ module _ {text buffer : List ℕ} {at end : ℕ} {after : List ℕ} (v : PairsLa
       let fits : length (pairBytes text) ≤ length buffer = omega (arith, v .room) in (
         rw (right, le-leb (length (pairBytes text)) (length buffer) fits),
         same,
-        v .laid ∙ rw same (ap (λ (l : List ℕ). l ++ drop (length (pairBytes text)) buffer) (take-length (pairBytes text))),
+        v .put ∙ rw same (ap (λ (l : List ℕ). l ++ drop (length (pairBytes text)) buffer) (take-length (pairBytes text))),
       )
 
 -- ONE BYTE SO MANY TIMES
@@ -233,12 +233,12 @@ run-none room byte (some count) number e r = go (leb count room) refl e
 
 -- THE FORMS OF A BYTE STRING
 
--- no bytes to lay, or no byte string
-pub lays-dash : (t : Bool) (room : ℕ) (buffer : List ℕ)
-    → Lays (noLonger room (cond t (some []) none)) buffer buffer (record { end = 0; right = t })
+-- no bytes to put, or no byte string
+pub puts-dash : (t : Bool) (room : ℕ) (buffer : List ℕ)
+    → Puts (noLonger room (cond t (some []) none)) buffer buffer (record { end = 0; right = t })
 unfolding noLonger
-lays-dash true room buffer = rw (leb·zero room) (refl, refl)
-lays-dash false room buffer = refl
+puts-dash true room buffer = rw (leb·zero room) (refl, refl)
+puts-dash false room buffer = refl
 
 pub one-letter : (text : List ℕ) → length text ≡ 1 → bytesOf text ≡ cond (eqb (getD text 0 0) 45) (some []) none
 unfolding bytesOf

@@ -4,6 +4,6 @@ pub mod Decimal
 pub mod Hexadecimal
 pub mod OneLine
 pub mod Testing
--- Inside: bytes that are laid in a lent buffer, and the letters at the front of a line.
-pub mod Laying
+-- Inside: bytes that are put in a lent buffer, and the letters at the front of a line.
+pub mod Putting
 pub mod LineFront

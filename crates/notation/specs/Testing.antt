@@ -1,5 +1,6 @@
 -- What the answer of a comparer says.
 use mathlib.Core.Path.{_≡_}
+use mathlib.Core.Logic.{_↔_}
 use mathlib.Core.Bool.{Bool, true}
 use mathlib.Core.List.{List, map}
 use mathlib.Core.Option.{some}
@@ -9,7 +10,7 @@ use Rattle.notation.specs.Decimal.{decimal}
 
 -- the answer is yes exactly when P holds
 abbrev pub Tests : Bool → Type 0 → Type 0
-Tests answer P = (answer ≡ true → P) × (P → answer ≡ true)
+Tests answer P = (answer ≡ true) ↔ P
 
 -- a text has just these numbers, in decimal, with one space between two
 abbrev pub HasNumbers : List ℕ → List ℕ → Type 0

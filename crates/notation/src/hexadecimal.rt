@@ -11,11 +11,11 @@ ghost use lib.Dec.{ltb};
 ghost use lib.ListN.{drop, length, replicate};
 ghost use Rattle.notation.specs.Decimal.{decimal};
 ghost use Rattle.notation.specs.Hexadecimal.{Within, byteString, bytesAnswer, bytesOf, hexadecimal, noLonger, times, zeros};
-ghost use Rattle.notation.specs.Laying.{Lays, byteFrom};
+ghost use Rattle.notation.specs.Putting.{Puts, byteFrom};
 ghost use Rattle.notation.specs.Testing.{Tests};
 
 // Where the bytes in a buffer end, and whether all is right: the text was a byte string, and the buffer had room for it.
-struct Laid {
+struct Put {
     end: usize,
     right: bool,
 }
@@ -30,10 +30,10 @@ pub struct Bytes {
     pub right: bool,
 }
 
-fn wrong() -> Laid
+fn wrong() -> Put
     ensures { λ r. ⌜ r ≡ record { end = 0; right = false } ⌝ }
 {
-    Laid {
+    Put {
         end: 0,
         right: false,
     }
@@ -59,8 +59,8 @@ fn byte_at(text: &[u8], at: usize) -> u16
 }
 
 // The bytes of pairs of digits.
-fn lay_pairs(text: &[u8], out: &mut [u8]) -> Laid
-    ensures { λ r. ⌜ Lays (noLonger (length (now (out .entry))) (hexadecimal (now (text .entry)))) (now (out .entry)) (now (out .exit)) r ⌝ }
+fn put_pairs(text: &[u8], out: &mut [u8]) -> Put
+    ensures { λ r. ⌜ Puts (noLonger (length (now (out .entry))) (hexadecimal (now (text .entry)))) (now (out .entry)) (now (out .exit)) r ⌝ }
 {
     let mut end = 0usize;
     let mut at = 0usize;
@@ -76,7 +76,7 @@ fn lay_pairs(text: &[u8], out: &mut [u8]) -> Laid
         end += 1;
         at += 2;
     }
-    Laid {
+    Put {
         end: end,
         right: true,
     }
@@ -95,8 +95,8 @@ fn fill(byte: u8, count: usize, out: &mut [u8])
 }
 
 // A byte as many times as a text says.
-fn lay_run(byte: u16, count: &[u8], out: &mut [u8]) -> Laid
-    ensures { λ r. ⌜ Lays (noLonger (length (now (out .entry))) (cond (ltb byte 256) (times byte (decimal (now (count .entry)))) none))
+fn put_run(byte: u16, count: &[u8], out: &mut [u8]) -> Put
+    ensures { λ r. ⌜ Puts (noLonger (length (now (out .entry))) (cond (ltb byte 256) (times byte (decimal (now (count .entry)))) none))
         (now (out .entry)) (now (out .exit)) r ⌝ }
 {
     if 255 < byte {
@@ -108,29 +108,29 @@ fn lay_run(byte: u16, count: &[u8], out: &mut [u8]) -> Laid
     }
     let end = number.value as usize;
     fill(byte as u8, end, out);
-    Laid {
+    Put {
         end: end,
         right: true,
     }
 }
 
 // A byte string.
-fn lay(text: &[u8], out: &mut [u8]) -> Laid
-    ensures { λ r. ⌜ Lays (noLonger (length (now (out .entry))) (bytesOf (now (text .entry)))) (now (out .entry)) (now (out .exit)) r ⌝ }
+fn put_bytes(text: &[u8], out: &mut [u8]) -> Put
+    ensures { λ r. ⌜ Puts (noLonger (length (now (out .entry))) (bytesOf (now (text .entry)))) (now (out .entry)) (now (out .exit)) r ⌝ }
 {
     if text.len() == 1 {
-        return Laid {
+        return Put {
             end: 0,
             right: text[0] == b'-',
         };
     }
     if text.len() < 3 {
-        return lay_pairs(text, out);
+        return put_pairs(text, out);
     }
     if text[2] != b'*' {
-        return lay_pairs(text, out);
+        return put_pairs(text, out);
     }
-    lay_run(byte_at(text, 0), &text[3..], out)
+    put_run(byte_at(text, 0), &text[3..], out)
 }
 
 fn room() -> [u8; LONGEST]
@@ -144,14 +144,14 @@ pub fn bytes_of(text: &[u8]) -> Bytes
     ensures { λ r. ⌜ (r ≡ bytesAnswer (byteString (now (text .entry)))) × Within (r .end) (r .room) ⌝ }
 {
     let mut bytes = room();
-    let laid = lay(text, &mut bytes);
-    if !laid.right {
+    let put = put_bytes(text, &mut bytes);
+    if !put.right {
         bytes = room();
     }
     Bytes {
         room: bytes,
-        end: laid.end,
-        right: laid.right,
+        end: put.end,
+        right: put.right,
     }
 }
 

@@ -10,7 +10,7 @@ use lib.Seq.{take-all}
 use Rattle.notation.specs.Parts.{newline, parts, partAt}
 use Rattle.notation.proofs.TextParts.{some-part, next-parts, last-part, first-between}
 use Rattle.stored.specs.Tallies.{withoutEnd, linesOf, hasCase, Tallied, no-line, no-case, is-right, differs}
-use Rattle.stored.specs.Comparing.{Counted, not-counted, found-right, found-different}
+use Rattle.stored.specs.Comparing.{LineTallied, not-counted, found-right, found-different}
 use Rattle.stored.specs.declared.files.Kind.{Kind}
 use Rattle.stored.specs.declared.files.Tally.{Tally}
 
@@ -67,14 +67,14 @@ add-one-first a b = omega arith
 
 module _ (kind : Kind) (line : List ℕ) (before after : Tally) where
   -- there are no more differences than cases, and one case more at most
-  pub counted-few : Counted kind line before after → before .differences ≤ before .cases
+  pub counted-few : LineTallied kind line before after → before .differences ≤ before .cases
       → (after .differences ≤ after .cases) × (after .cases ≤ before .cases + 1)
   counted-few (not-counted none same) h = rw same (omega arith)
   counted-few (found-right case right same) h = rw same (omega arith)
   counted-few (found-different case wrong same) h = rw same (omega arith)
 
   -- what the lines behind it come to, with those before
-  counted-on : (lines all : List (List ℕ)) → Counted kind line before after
+  counted-on : (lines all : List (List ℕ)) → LineTallied kind line before after
       → ((c d : ℕ) → Tallied kind (line ∷ lines) c d → Tallied kind all (before .cases + c) (before .differences + d))
       → (c d : ℕ) → Tallied kind lines c d → Tallied kind all (after .cases + c) (after .differences + d)
   counted-on lines all (not-counted none same) so c d t = rw same (so c d (no-case none t))
@@ -98,7 +98,7 @@ counting-start kind text c d t = subst₂ (Tallied kind (linesOf text)) (omega a
 
 module _ (kind : Kind) (text : List ℕ) (tally : Tally) (at : ℕ) (so : Counting kind text tally at) where
   module _ (end : ℕ) (ends : end ≡ at + length (partAt newline (drop at text) 0)) (h : at < length text) (after : Tally)
-      (counted : Counted kind (take (end - at) (drop at text)) tally after) where
+      (counted : LineTallied kind (take (end - at) (drop at text)) tally after) where
     pub counting-next : end < length text → Counting kind text after (end + 1)
     counting-next more =
         counted-on kind (take (end - at) (drop at text)) tally after (linesOf (drop (end + 1) text)) (linesOf text) counted

@@ -5,7 +5,7 @@ use mathlib.Core.List.{List}
 use Prim.Native.Nat.{ℕ, _+_}
 use Rattle.notation.specs.Testing.{Tests, HasNumbers}
 use Rattle.stored.specs.Calls.{nameOf, RuleText, Gives}
-use Rattle.stored.specs.Tallies.{hasCase, Right}
+use Rattle.stored.specs.Tallies.{hasCase, LineRight}
 use Rattle.stored.specs.declared.calls.Call.{Call}
 use Rattle.stored.specs.declared.calls.Named.{Named}
 use Rattle.stored.specs.declared.calls.Named.the-variants.{Known, Unknown}
@@ -32,9 +32,9 @@ pub record Compared (call : Call) (line lent text after : List ℕ) (result : Bo
   pub only : result ≡ true → (numbers : List ℕ) × Gives call line lent numbers after
 
 -- one line counted
-pub data Counted (kind : Kind) (line : List ℕ) (before after : Tally) : Type 0 where
-  not-counted : hasCase line ≡ false → after ≡ before → Counted kind line before after
-  found-right : hasCase line ≡ true → Right kind line → after ≡ record { cases = before .cases + 1; differences = before .differences }
-      → Counted kind line before after
-  found-different : hasCase line ≡ true → (Right kind line → ⊥)
-      → after ≡ record { cases = before .cases + 1; differences = before .differences + 1 } → Counted kind line before after
+pub data LineTallied (kind : Kind) (line : List ℕ) (before after : Tally) : Type 0 where
+  not-counted : hasCase line ≡ false → after ≡ before → LineTallied kind line before after
+  found-right : hasCase line ≡ true → LineRight kind line → after ≡ record { cases = before .cases + 1; differences = before .differences }
+      → LineTallied kind line before after
+  found-different : hasCase line ≡ true → (LineRight kind line → ⊥)
+      → after ≡ record { cases = before .cases + 1; differences = before .differences + 1 } → LineTallied kind line before after

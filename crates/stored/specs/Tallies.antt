@@ -27,16 +27,16 @@ hasCase [] = true
 hasCase (letter ∷ rest) = not (eqb letter (code "#"))
 
 -- when a line's case is right, by what the file has
-abbrev pub Right : Kind → List ℕ → Type 0
-Right Calls line = CallRight line
-Right Jobs line = JobRight line
+abbrev pub LineRight : Kind → List ℕ → Type 0
+LineRight Calls line = CallRight line
+LineRight Jobs line = JobRight line
 
 -- these lines come to so many cases, of which so many differ
 pub data Tallied (kind : Kind) : List (List ℕ) → ℕ → ℕ → Type 0 where
   no-line : Tallied kind [] zero zero
   no-case : {line : List ℕ} {lines : List (List ℕ)} {cases differences : ℕ} → hasCase line ≡ false → Tallied kind lines cases differences
       → Tallied kind (line ∷ lines) cases differences
-  is-right : {line : List ℕ} {lines : List (List ℕ)} {cases differences : ℕ} → hasCase line ≡ true → Right kind line
+  is-right : {line : List ℕ} {lines : List (List ℕ)} {cases differences : ℕ} → hasCase line ≡ true → LineRight kind line
       → Tallied kind lines cases differences → Tallied kind (line ∷ lines) (suc cases) differences
-  differs : {line : List ℕ} {lines : List (List ℕ)} {cases differences : ℕ} → hasCase line ≡ true → (Right kind line → ⊥)
+  differs : {line : List ℕ} {lines : List (List ℕ)} {cases differences : ℕ} → hasCase line ≡ true → (LineRight kind line → ⊥)
       → Tallied kind lines cases differences → Tallied kind (line ∷ lines) (suc cases) (suc differences)

@@ -8,8 +8,8 @@ ghost use mathlib.Core.Path.{_≡_};
 ghost use Prim.Native.Nat.{_<_, _≤_};
 ghost use lib.ListN.{length};
 ghost use Rattle.notation.specs.Testing.{Tests};
-ghost use Rattle.stored.specs.Tallies.{Right, Tallied, hasCase, linesOf};
-ghost use Rattle.stored.specs.Comparing.{Counted};
+ghost use Rattle.stored.specs.Tallies.{LineRight, Tallied, hasCase, linesOf};
+ghost use Rattle.stored.specs.Comparing.{LineTallied};
 
 // What the lines of a file have.
 pub enum Kind {
@@ -35,7 +35,7 @@ fn has_case(line: &[u8]) -> bool
 
 // Is a line right?
 fn is_right(kind: Kind, line: &[u8]) -> bool
-    ensures { λ r. ⌜ Tests r (Right kind (now (line .entry))) ⌝ }
+    ensures { λ r. ⌜ Tests r (LineRight kind (now (line .entry))) ⌝ }
 {
     match kind {
         Kind::Calls => call_right(line),
@@ -72,7 +72,7 @@ fn say_not_run(name: &[u8], why: &[u8]) {
 // Runs the case of a line, if it has one, and counts it. A difference is named by file and line.
 fn run_line(name: &[u8], kind: Kind, number: u64, line: &[u8], tally: Tally) -> Tally
     requires { ⌜ (tally .differences ≤ tally .cases) × (tally .cases < number) ⌝ }
-    ensures { λ r. ⌜ Counted kind (now (line .entry)) tally r ⌝ }
+    ensures { λ r. ⌜ LineTallied kind (now (line .entry)) tally r ⌝ }
 {
     if !has_case(line) {
         return tally;

@@ -59,7 +59,8 @@ fn hosted(n: usize, map: u16, hosts: &[u8], low: usize, high: usize) -> u16
     states
 }
 
-// A row for each mark, in front of blank ones. A node's label are the states hosted at the node or below it, its children's are those below it.
+// A row for each mark, in front of blank ones. A node's label are the states hosted at the node or below it, its children's are
+// those below it.
 pub fn record_rows(n: usize, map: u16, hosts: &[u8], marks: &[u8]) -> Rows
     requires { ⌜ ((n ≤ 16) × ((map < 2 ^ n) × (ones map ≤ length (now hosts)))) × (length (now marks) ≤ places) ⌝ }
     ensures { λ r. ⌜ rowsIn r ≡ blankBehind (rowsOfMarks (hostedIn n map (now (hosts .entry))) 0 (now (marks .entry))) ⌝ }

@@ -1,5 +1,5 @@
-// The record of a tree from its rows, stored into a lent buffer. The rows are lent; that there are Tree::PLACES of them is required, since a
-// contract has a lent array as a list of any length.
+// The record of a tree from its rows, stored into a lent buffer. The rows are lent; that there are Tree::PLACES of them is
+// required, since a contract has a lent array as a list of any length.
 use crate::packed::unpack;
 use crate::rows::Row;
 use crate::rows::Rows;

@@ -5,8 +5,8 @@ use Prim.Native.Nat.{_-_}
 use native.Mathlib.Omega.{arith}
 use lib.ListN.{length}
 use Rattle.notation.proofs.ByteTexts.{PairsLaid, pairs-start, pairs-size, pairs-none, pairs-full, pairs-more, pairs-all}
-use Rattle.notation.proofs.hexadecimal.lay_pairs.Statement.{statement}
-use Rattle.notation.proofs.hexadecimal.lay_pairs.Tie as tie
+use Rattle.notation.proofs.hexadecimal.put_pairs.Statement.{statement}
+use Rattle.notation.proofs.hexadecimal.put_pairs.Tie as tie
 
 abbrev Inv-loop : tie.InvT-loop
 Inv-loop text out₀ end₀ at₀ out end at = PairsLaid text out₀ at end out
@@ -70,11 +70,11 @@ same-length-3 c = pairs-size (c .before .loop .inv)
 
 returns-3 : tie.Need-returns-3 Inv-loop μ-loop
 returns-3 c =
-    let (laid, end, after) = pairs-all (c .before .loop .inv) (c .loop-test .left) in
-    rw laid (λ i. record { end = end i; right = true }, after)
+    let (put, end, after) = pairs-all (c .before .loop .inv) (c .loop-test .left) in
+    rw put (λ i. record { end = end i; right = true }, after)
 
-pub lay-pairs-spec : {M : Type 1} → statement M
-lay-pairs-spec =
+pub put-pairs-spec : {M : Type 1} → statement M
+put-pairs-spec =
     tie.close
     (tie.spec
     Inv-loop

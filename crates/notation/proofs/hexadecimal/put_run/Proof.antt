@@ -6,8 +6,8 @@ use borrow.Author.Tests.{le-ltb, lt-ltb, not-true, not-false}
 use lib.ListN.{length-replicate}
 use Rattle.notation.specs.Hexadecimal.{noLonger}
 use Rattle.notation.proofs.ByteTexts.{run-some, run-none}
-use Rattle.notation.proofs.hexadecimal.lay_run.Statement.{statement}
-use Rattle.notation.proofs.hexadecimal.lay_run.Tie as tie
+use Rattle.notation.proofs.hexadecimal.put_run.Statement.{statement}
+use Rattle.notation.proofs.hexadecimal.put_run.Tie as tie
 
 wrong-requires : tie.Need-wrong-requires
 wrong-requires c κs = search needs
@@ -45,11 +45,11 @@ returns-3 c =
     let left = c .before .before .before .before in
     let called = left .before .before in
     let byte = called .before .before .before .before .args .byte in
-    let laid = run-some _ byte _ _ (called .number-of .ensures) (not-false _ (left .if2 .left)) .0 in
-    rw (lt-ltb byte 256 (omega arith), laid, length-replicate (called .number-of .result .value) byte) (refl, c .before .before .fill .ensures)
+    let put = run-some _ byte _ _ (called .number-of .ensures) (not-false _ (left .if2 .left)) .0 in
+    rw (lt-ltb byte 256 (omega arith), put, length-replicate (called .number-of .result .value) byte) (refl, c .before .before .fill .ensures)
 
-pub lay-run-spec : {M : Type 1} → statement M
-lay-run-spec =
+pub put-run-spec : {M : Type 1} → statement M
+put-run-spec =
     tie.close
     (tie.spec
     wrong-requires
