@@ -6,9 +6,12 @@
  * are lent different buffers may run at the same time. docs/CONTRACTS.md has the contracts, docs/REFUSALS.md the questions.
  *
  * What the caller must see to. A lent slice is a pointer and a length: no pointer is NULL, also where its length is 0; that many bytes
- * may be read there, and written where the parameter is not const; a buffer that is written overlaps no other argument. The stack
- * has room for the call: each comment says how many bytes a call was seen to take at most (measured on x86-64 with the largest
- * tables and the longest walks, as docs/PERFORMANCE.md says; nothing is proved of it). */
+ * may be read there, and written where the parameter is not const; a buffer that is written overlaps no other argument.
+ *
+ * What memory a call needs: what it is lent, and the stack. A call works on the stack, and on nothing of its own besides. Each comment
+ * says how many bytes of stack the call was seen to take at most (measured on x86-64 with the largest tables and the longest walks, as
+ * docs/PERFORMANCE.md says; nothing is proved of it). A board that lends 256 scratch bytes must have the stack of the plain judge, too.
+ * Two calls of the library are there from Rattle only: `judge_both` takes 9,032 bytes of stack, `judge_job` 9,640. */
 #ifndef SUTHRELDO_H
 #define SUTHRELDO_H
 
@@ -20,7 +23,7 @@ extern "C" {
 #endif
 
 /* The version of this interface. The first number changes when a call or a struct does, the second when a call is added. */
-#define SUTHRELDO_VERSION_MAJOR 1
+#define SUTHRELDO_VERSION_MAJOR 2
 #define SUTHRELDO_VERSION_MINOR 0
 
 /* The numbers of refusals, in the order in which they are asked. */
@@ -50,7 +53,7 @@ extern "C" {
 #define SUTHRELDO_RECORD 17      /* bytes for a tree's record */
 #define SUTHRELDO_NAME 7         /* bytes for a node's name */
 #define SUTHRELDO_NO_NAME 255    /* name length where the tree judge says no */
-#define SUTHRELDO_SCRATCH 32768  /* scratch bytes of the plain judge */
+#define SUTHRELDO_SCRATCH 256    /* scratch bytes of the plain judge */
 
 typedef struct { uint8_t number; size_t states, letters, sets; uint16_t start; } SuthreldoRead;
 typedef struct { uint8_t number; size_t written; } SuthreldoWrite;
@@ -87,7 +90,7 @@ SuthreldoTree suthreldo_tree_judge(const uint8_t *table, size_t table_length, co
                                    const uint8_t *v, size_t v_length, uint8_t *names, size_t names_length);
 
 /* The plain judge, which builds no tree. Questions 1 to 8, then 10. Accepted: verdict 1 exactly when there is such a run,
- * 0 exactly when there is none; the first 32,768 bytes of `scratch` are left zero, those past them unchanged.
+ * 0 exactly when there is none; the first 256 bytes of `scratch` are left zero, those past them unchanged.
  * Stack: 6,600 bytes. Time: linear in the walk's letters. */
 SuthreldoPlain suthreldo_plain_judge(const uint8_t *table, size_t table_length, const uint8_t *u, size_t u_length,
                                      const uint8_t *v, size_t v_length, uint8_t *scratch, size_t scratch_length);

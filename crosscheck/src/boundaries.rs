@@ -17,7 +17,7 @@ use crate::vectors;
 use std::fs;
 
 const NOTE: &str = "\
-# Made by `crosscheck boundaries calls.txt` from the reference, written from document 01 alone: boundaries that calls.txt has are left out.
+# Made by `crosscheck boundaries calls.txt` from the reference, written from the documents alone: boundaries that calls.txt has are left out.
 # The format is that of calls.txt, and: plain TABLE U V BUFFER, number verdict. 00*4096 is one byte so many times.
 ";
 

@@ -1,7 +1,7 @@
-//! The reference: document 01 set down as plainly as it can be, with no care
-//! for speed. Each call puts its questions in the document's order; `Err`
-//! carries the number of the one that was answered no, before any lent byte
-//! is touched.
+//! The reference: document 01, with the requests of document 02 that have
+//! landed, set down as plainly as it can be, with no care for speed. Each
+//! call puts its questions in the document's order; `Err` carries the number
+//! of the one that was answered no, before any lent byte is touched.
 
 #[cfg(test)]
 mod examples;
@@ -15,13 +15,21 @@ use crate::answers::{
 };
 pub use table::{Rule, NO_TRANSITION};
 
-/// Lengths of lent buffers.
-pub const RECORD_LENGTH: usize = 17;
-pub const NAME_LENGTH: usize = 7;
-pub const SCRATCH_LENGTH: usize = 32_768;
+/// Lengths of lent buffers, as the C header has them.
+pub const RECORD_LENGTH: usize = number(env!("SUTHRELDO_RECORD"));
+pub const NAME_LENGTH: usize = number(env!("SUTHRELDO_NAME"));
+pub const SCRATCH_LENGTH: usize = number(env!("SUTHRELDO_SCRATCH"));
 
 /// The longest lead-in or tail.
 pub const LONGEST: usize = 4_096;
+
+/// A number in decimal.
+const fn number(text: &str) -> usize {
+    match usize::from_str_radix(text, 10) {
+        Ok(number) => number,
+        Err(_) => panic!("no number"),
+    }
+}
 
 /// Puts an output at the front of a lent buffer that needs a certain length
 /// (question 10); what stands behind it stays.

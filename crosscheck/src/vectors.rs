@@ -94,7 +94,7 @@ fn check_hard(text: &str, judges: &dyn Judges, slow: bool) -> Count {
     count
 }
 
-/// A line of calls.txt: the call, the lent buffer, the answer's numbers and
+/// A line of stored calls: the call, the lent buffer, the answer's numbers and
 /// the buffer after the call.
 type Call = (Case, Vec<u8>, Vec<u64>, Vec<u8>);
 
@@ -117,22 +117,27 @@ fn call(line: &str) -> Option<Call> {
         ("step", [table, letter, record]) => {
             Case::Step(hex::parse(table)?, letter.parse().ok()?, hex::parse(record)?)
         }
-        ("tree", [table, u, v]) => {
-            Case::Tree(Walk { table: hex::parse(table)?, u: hex::parse(u)?, v: hex::parse(v)? })
+        ("tree" | "plain", [table, u, v]) => {
+            let walk = Walk { table: hex::parse(table)?, u: hex::parse(u)?, v: hex::parse(v)? };
+            if *name == "tree" {
+                Case::Tree(walk)
+            } else {
+                Case::Plain(walk)
+            }
         }
         _ => return None,
     };
     Some((case, hex::parse(buffer)?, numbers(answer)?, hex::parse(after)?))
 }
 
-/// The calls of calls.txt, each with its lent buffer's length and its number.
+/// The stored calls of a text, each with its lent buffer's length and its number.
 pub fn calls(text: &str) -> Vec<(Case, usize, u8)> {
     let call = |line| call(line).expect("a call");
     let calls = content(text).map(|(_, line)| call(line));
     calls.map(|(case, buffer, answer, _)| (case, buffer.len(), answer[0] as u8)).collect()
 }
 
-/// calls.txt: the answer and the lent buffer.
+/// Stored calls: the answer and the lent buffer.
 fn check_calls(text: &str, calls: &dyn Calls) -> Count {
     let mut count = Count::default();
     for (place, line) in content(text) {
@@ -150,7 +155,7 @@ fn report(file: &str, name: &str, differences: &mut usize, check: impl FnOnce() 
     let count = check();
     let seconds = begun.elapsed().as_secs_f64();
     println!(
-        "{file:13} {name:10} {:5} cases {:3} differences  {seconds:6.2} s",
+        "{file:14} {name:10} {:5} cases {:3} differences  {seconds:6.2} s",
         count.cases, count.differences
     );
     *differences += count.differences;
@@ -173,10 +178,12 @@ pub fn vectors(folder: &str, slow: bool) -> bool {
             report(file, "library", sum, || check_jobs(&text, library, true));
         }
     }
-    let text = read("calls.txt");
-    report("calls.txt", "reference", sum, || check_calls(&text, &Reference));
-    if let Some(library) = library {
-        report("calls.txt", "library", sum, || check_calls(&text, library));
+    for file in ["calls.txt", "boundaries.txt", "u7-calls.txt"] {
+        let text = read(file);
+        report(file, "reference", sum, || check_calls(&text, &Reference));
+        if let Some(library) = library {
+            report(file, "library", sum, || check_calls(&text, library));
+        }
     }
     let text = read("hard.txt");
     report("hard.txt", "reference", sum, || check_hard(&text, &Reference, slow));

@@ -4,6 +4,7 @@ use crate::lines::refusal;
 use crate::split::Split;
 use crate::split::split_job;
 use agree::both::judge_both;
+use plain::limits::SCRATCH_LENGTH;
 use tree::rows::Tree;
 ghost use Rattle.job.specs.JobCall.{JobAnswer, PartsAnswers, judgeOutcome};
 
@@ -16,15 +17,12 @@ pub struct Text {
     pub length: usize,
 }
 
-// The program's own scratch bytes: "It is lent 32,768 scratch bytes".
-const SCRATCH: usize = 32768;
-
 // Questions 1 to 6 to the table, 7 and 8 to the walk; then the five lines.
 fn judge_parts<'a>(table: &[u8], u: &'a [u8], v: &'a [u8]) -> Text
     ensures { λ r. ⌜ PartsAnswers (judgeOutcome (now (table .entry)) (now (u .entry)) (now (v .entry))) (now (u .entry)) (now (v .entry)) r ⌝ }
 {
     let mut names = [0u8; Tree::NAME];
-    let mut scratch = [0u8; SCRATCH];
+    let mut scratch = [0u8; SCRATCH_LENGTH];
     let answers = judge_both(table, u, v, &mut names, &mut scratch);
     let tree = answers.tree;
     let plain = answers.plain;

@@ -1,17 +1,21 @@
 -- What the plain judge's contract says: its verdict decides whether an endless run goes through every set infinitely
--- often, its number tells whether the call is accepted, and the contract leaves no choice of the answer.
+-- often, its number tells whether the call is accepted, and the contract leaves no choice of the answer. How many scratch
+-- bytes are wanted does not matter to the answer.
 use mathlib.Core.Path.{_≡_, sym, _∙_, ap}
 use mathlib.Core.Logic.{inl, inr}
 use mathlib.Core.List.{List, []}
-use Prim.Native.Nat.{ℕ}
+use Prim.Native.Nat.{ℕ, _≤_}
+use borrow.Author.Tests.{le-leb}
+use lib.ListN.{length}
 use Rattle.table.specs.Outcome.{Outcome, refused, accepted, numberOf}
 use Rattle.table.specs.Rule.{Rule}
 use Rattle.table.specs.Table.{WellFormed}
+use Rattle.word.specs.Judging.{judgeQuestions}
 use Rattle.word.specs.Run.{AcceptingRun}
 use Rattle.word.specs.Verdict.{Decides}
 use Rattle.word.proofs.LoopTheorem.{loop-theorem}
 use Rattle.word.proofs.RefusalNumbers.{judge-tells}
-use Rattle.plain.specs.PlainCall.{scratchLength, plainOutcome, PlainAnswers, PlainNumber}
+use Rattle.plain.specs.PlainCall.{scratchLength, plainOutcome, PlainAnswers, PlainNumber, SameAsBefore}
 use Rattle.plain.specs.declared.judge.PlainAnswer.{PlainAnswer}
 use Rattle.plain.proofs.Searching.{decides-same}
 
@@ -46,3 +50,15 @@ plain-determined (accepted R) u v a b (x, d) (y, e) =
     let same : a .number ≡ b .number = x ∙ sym y in
     let verdicts : a .verdict ≡ b .verdict = decides-one d e in
     λ i. record { number = same i; verdict = verdicts i }
+
+-- with bytes enough for question 10 the outcome is that of a call that wants none and is lent none
+enough : (needed : ℕ) (table u v scratch : List ℕ) → needed ≤ length scratch
+    → judgeQuestions needed table u v scratch ≡ judgeQuestions 0 table u v []
+unfolding judgeQuestions
+enough needed table u v scratch h = rw (le-leb needed (length scratch) h)
+
+pub same-as-before : SameAsBefore
+same-as-before needed needed′ table u v scratch scratch′ answer answer′ h h′ P Q =
+    plain-determined (judgeQuestions 0 table u v []) u v answer answer′
+    (rw (enough needed table u v scratch h) at P)
+    (rw (enough needed′ table u v scratch′ h′) at Q)

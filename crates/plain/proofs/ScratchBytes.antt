@@ -7,7 +7,7 @@ use lib.ListN.{length, drop, replicate, length-replicate}
 use Rattle.table.specs.Storing.{stored}
 use Rattle.plain.specs.PlainCall.{scratchLength}
 
-pub scratch-length : scratchLength ≡ 32768
+pub scratch-length : scratchLength ≡ 256
 unfolding scratchLength
 scratch-length = refl
 

@@ -2,8 +2,8 @@
 -- bytes, for all inputs. It knows the table and nothing of trees.
 use mathlib.Core.Path.{_≡_}
 use mathlib.Core.List.{List}
-use Prim.Native.Nat.{ℕ}
-use lib.ListN.{replicate}
+use Prim.Native.Nat.{ℕ, _≤_}
+use lib.ListN.{length, replicate}
 use Rattle.table.specs.Outcome.{Outcome, refused, accepted, Tells}
 use Rattle.table.specs.Rule.{Rule}
 use Rattle.table.specs.Storing.{stored}
@@ -12,9 +12,9 @@ use Rattle.word.specs.Loop.{Loop}
 use Rattle.word.specs.Verdict.{Decides}
 use Rattle.plain.specs.declared.judge.PlainAnswer.{PlainAnswer}
 
--- "It is lent 32,768 scratch bytes"
+-- document 02, U7: "Question 10 then wants 256 in place of 32,768"
 unfoldable pub scratchLength : ℕ
-scratchLength = 32768
+scratchLength = 256
 
 -- questions 1 to 6, 7, 8 and 10
 unfoldable pub plainOutcome : List ℕ → List ℕ → List ℕ → List ℕ → Outcome Rule
@@ -25,7 +25,7 @@ abbrev pub PlainAnswers : Outcome Rule → List ℕ → List ℕ → PlainAnswer
 PlainAnswers (refused number) u v answer = answer ≡ record { number = number; verdict = 0 }
 PlainAnswers (accepted R) u v answer = (answer .number ≡ 0) × Decides (answer .verdict) (Loop R u v)
 
--- the scratch bytes afterwards: "unless it refuses, leaves them zero"; those past them, and all on a refusal, unchanged
+-- the scratch bytes afterwards: "the bytes it wants are still left zero, those past them unchanged"; on a refusal all unchanged
 unfoldable pub scratchAfter : Outcome Rule → List ℕ → List ℕ
 scratchAfter (refused number) scratch = scratch
 scratchAfter (accepted R) scratch = stored 0 (replicate scratchLength 0) scratch
@@ -35,3 +35,13 @@ abbrev pub PlainNumber : Type 0
 PlainNumber =
     (table u v scratch : List ℕ) (answer : PlainAnswer) → PlainAnswers (plainOutcome table u v scratch) u v answer
     → Tells (plainOutcome table u v scratch) (answer .number)
+
+-- "Same verdict as before on every table": whichever two numbers of scratch bytes question 10 wants, as 32,768 before and 256 now, two
+-- calls on one table and one walk, each lent as many bytes as it wants or more, give the same answer, a refusal too
+abbrev pub SameAsBefore : Type 0
+SameAsBefore =
+    (needed needed′ : ℕ) (table u v scratch scratch′ : List ℕ) (answer answer′ : PlainAnswer)
+    → needed ≤ length scratch → needed′ ≤ length scratch′
+    → PlainAnswers (judgeQuestions needed table u v scratch) u v answer
+    → PlainAnswers (judgeQuestions needed′ table u v scratch′) u v answer′
+    → answer ≡ answer′

@@ -1,7 +1,7 @@
 // The plain judge. It knows the table and nothing of trees.
 use crate::lead::states_after;
+use crate::limits::SCRATCH_LENGTH;
 use crate::rounds::widen_rows;
-use crate::scratch::SCRATCH_LENGTH;
 use crate::scratch::clear;
 use crate::search::some_loop;
 use crate::tail::tail_rows;

@@ -1,14 +1,12 @@
 // The lent scratch bytes. The judge works on the stack, and leaves them zero.
+use crate::limits::SCRATCH_LENGTH;
 ghost use mathlib.Core.Path.{_≡_};
 ghost use Prim.Native.Nat.{_≤_};
 ghost use lib.ListN.{length, replicate};
 ghost use Rattle.table.specs.Storing.{stored};
 ghost use Rattle.plain.specs.PlainCall.{scratchLength};
 
-// "It is lent 32,768 scratch bytes".
-pub const SCRATCH_LENGTH: usize = 32768;
-
-// "leaves them zero".
+// "the bytes it wants are still left zero, those past them unchanged".
 pub fn clear(scratch: &mut [u8])
     requires { ⌜ scratchLength ≤ length (now scratch) ⌝ }
     ensures { λ _. ⌜ now (scratch .exit) ≡ stored 0 (replicate scratchLength 0) (now (scratch .entry)) ⌝ }

@@ -35,7 +35,7 @@ unfolding scratchLength
 returns-2 c =
     let called = c .before .before .before .before .before .before .before in
     let both = called .judge-both .ensures in
-    parts-judged _ _ _ _ _ _ (both .tree) (length-replicate {A = ℕ} 7 0) _ (length-replicate {A = ℕ} 32768 0) _ (both .plain) _ (c .before .if1 .left)
+    parts-judged _ _ _ _ _ _ (both .tree) (length-replicate {A = ℕ} 7 0) _ (length-replicate {A = ℕ} scratchLength 0) _ (both .plain) _ (c .before .if1 .left)
     (c .five-lines .ensures)
 
 pub judge-parts-spec : {M : Type 1} → statement M
