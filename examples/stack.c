@@ -46,6 +46,11 @@ static void do_plain(void)
     number = suthreldo_plain_judge(table, table_length, u, u_length, v, v_length, scratch, sizeof scratch).number;
 }
 
+static void do_same(void)
+{
+    number = suthreldo_same_walk(u, u_length, v, v_length, u, u_length, v, v_length).number;
+}
+
 /* The bytes of a stack of its own that a call uses. */
 static size_t used(void (*call)(void))
 {
@@ -78,6 +83,7 @@ int main(int argc, char **argv)
     size_t none = used(nothing);
     const struct { const char *name; void (*call)(void); } calls[] = {
         {"read", do_read}, {"write", do_write}, {"start", do_start}, {"step", do_step}, {"tree judge", do_tree}, {"plain judge", do_plain},
+        {"same walk", do_same},
     };
     for (size_t i = 0; i < sizeof calls / sizeof calls[0]; i++) {
         used(calls[i].call); /* the first time the system binds what the call uses, on the same stack */

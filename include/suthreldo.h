@@ -24,7 +24,7 @@ extern "C" {
 
 /* The version of this interface. The first number changes when a call or a struct does, the second when a call is added. */
 #define SUTHRELDO_VERSION_MAJOR 2
-#define SUTHRELDO_VERSION_MINOR 0
+#define SUTHRELDO_VERSION_MINOR 1
 
 /* The numbers of refusals, in the order in which they are asked. */
 #define SUTHRELDO_ACCEPTED 0
@@ -61,6 +61,7 @@ typedef struct { uint8_t number; size_t written; } SuthreldoStart;
 typedef struct { uint8_t number; size_t written; uint16_t accepting, stable; } SuthreldoStep;
 typedef struct { uint8_t number, verdict; uint64_t entry, period; uint8_t length; } SuthreldoTree;
 typedef struct { uint8_t number, verdict; } SuthreldoPlain;
+typedef struct { uint8_t number, same; } SuthreldoSame;
 
 /* Reads a rule table into grid bytes. Questions 1 to 6, then 10. Accepted: n, m, k and the map of starting states; the first
  * m·n·n bytes of `grid` are the rule's grid, the rest is unchanged. Stack: 2,440 bytes. */
@@ -94,6 +95,14 @@ SuthreldoTree suthreldo_tree_judge(const uint8_t *table, size_t table_length, co
  * Stack: 6,600 bytes. Time: linear in the walk's letters. */
 SuthreldoPlain suthreldo_plain_judge(const uint8_t *table, size_t table_length, const uint8_t *u, size_t u_length,
                                      const uint8_t *v, size_t v_length, uint8_t *scratch, size_t scratch_length);
+
+/* Are two walks one, spelled in two ways? Question 7 to the walk u, v, then to the walk u2, v2; no table is given, so every byte is a
+ * letter. Accepted: same 1 exactly when the two have the same letter at every position of the endless sequence, else 0. Where it is 1,
+ * accepted calls of the judges give the same verdict on both walks, and the tree judge the same node, whatever the table; entry and
+ * period may differ.
+ * Stack: 64 bytes. Time: linear in the walks' letters. */
+SuthreldoSame suthreldo_same_walk(const uint8_t *u, size_t u_length, const uint8_t *v, size_t v_length,
+                                  const uint8_t *u2, size_t u2_length, const uint8_t *v2, size_t v2_length);
 
 #ifdef __cplusplus
 }

@@ -1,4 +1,4 @@
-//! The answers of the six calls, and the calls as traits, so that the
+//! The answers of the seven calls, and the calls as traits, so that the
 //! reference, the tuned code and the library can stand for each other.
 
 macro_rules! answer {
@@ -45,6 +45,10 @@ answer!(
     /// Of the plain judge.
     PlainAnswer { verdict: u8 }
 );
+answer!(
+    /// Of the comparison of two walks: 1 if they are the same.
+    SameAnswer { same: u8 }
+);
 
 /// The two judges.
 pub trait Judges {
@@ -61,10 +65,11 @@ pub struct Numbers {
     pub start: u16,
 }
 
-/// All six calls.
+/// All seven calls.
 pub trait Calls: Judges {
     fn read(&self, table: &[u8], grid: &mut [u8]) -> ReadAnswer;
     fn write(&self, numbers: Numbers, grid: &[u8], table: &mut [u8]) -> WriteAnswer;
     fn start(&self, table: &[u8], buffer: &mut [u8]) -> StartAnswer;
     fn step(&self, table: &[u8], letter: u8, record: &[u8], buffer: &mut [u8]) -> StepAnswer;
+    fn same_walk(&self, u: &[u8], v: &[u8], other_u: &[u8], other_v: &[u8]) -> SameAnswer;
 }

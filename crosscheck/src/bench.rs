@@ -1,6 +1,8 @@
 //! Times: the library against the tuned judges, on the same inputs, in one
 //! run, by turns; the best of several repetitions counts.
 
+mod pairs;
+
 use crate::answers::{Calls, Judges, Numbers};
 use crate::cases::Walk;
 use crate::ffi;
@@ -244,5 +246,5 @@ pub fn bench(folder: Option<&str>, slow: bool) -> bool {
     for inputs in &lists {
         well &= measure(inputs, library);
     }
-    well
+    well & pairs::measure(&lists[1], library)
 }

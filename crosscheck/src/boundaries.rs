@@ -1,13 +1,14 @@
 //! Boundary cases: for each call and each question that applies to it, the
-//! last accepted and the first refused input. The answers are the
-//! reference's. A case at a boundary that the stored calls already have is
-//! left out.
+//! last accepted and the first refused input; and walks that are just the
+//! same, or just not. The answers are the reference's. A case at a boundary
+//! that the stored calls already have is left out.
 
 mod buffers;
 mod examples;
 mod grids;
 mod line;
 mod records;
+mod spellings;
 mod tables;
 mod walks;
 
@@ -20,6 +21,9 @@ const NOTE: &str = "\
 # Made by `crosscheck boundaries calls.txt` from the reference, written from the documents alone: boundaries that calls.txt has are left out.
 # The format is that of calls.txt, and: plain TABLE U V BUFFER, number verdict. 00*4096 is one byte so many times.
 ";
+
+/// The format of the lines of the comparison of walks, before the first.
+const SAME_NOTE: &str = "# Then: same U V U2 V2 BUFFER, number same.";
 
 /// Tables A and C of document 01.
 const A: [u8; 12] = [2, 2, 1, 1, 1, 0, 0, 3, 0, 0, 2, 1];
@@ -77,6 +81,7 @@ fn all() -> Vec<Boundary> {
     boundaries.extend(records::boundaries());
     boundaries.extend(grids::boundaries());
     boundaries.extend(buffers::boundaries());
+    boundaries.extend(spellings::boundaries());
     boundaries
 }
 
@@ -108,6 +113,9 @@ pub fn boundaries(path: &str) -> bool {
     for (kind, name) in KINDS.iter().enumerate() {
         let of_call: Vec<_> = all.iter().filter(|boundary| boundary.case.kind() == kind).collect();
         let lines = missing(&of_call, &stored);
+        if *name == "same" {
+            println!("{SAME_NOTE}");
+        }
         for (what, line) in &lines {
             println!("# {name}: {what}\n{line}");
         }

@@ -2,8 +2,8 @@
 //! comes of it.
 
 use crate::answers::{
-    Calls, Judges, Numbers, PlainAnswer, ReadAnswer, StartAnswer, StepAnswer, TreeAnswer,
-    WriteAnswer,
+    Calls, Judges, Numbers, PlainAnswer, ReadAnswer, SameAnswer, StartAnswer, StepAnswer,
+    TreeAnswer, WriteAnswer,
 };
 use crate::hex;
 use crate::random::Random;
@@ -18,6 +18,9 @@ pub struct Walk {
     pub v: Vec<u8>,
 }
 
+/// A walk under no table: its lead-in and its tail.
+pub type Spelling = (Vec<u8>, Vec<u8>);
+
 /// A call and its inputs, the lent buffer left out.
 #[derive(Clone)]
 pub enum Case {
@@ -27,10 +30,11 @@ pub enum Case {
     Step(Vec<u8>, u8, Vec<u8>),
     Tree(Walk),
     Plain(Walk),
+    Same(Spelling, Spelling),
 }
 
 /// The calls' names, in the order of `Case::kind`.
-pub const KINDS: [&str; 6] = ["read", "write", "start", "step", "tree", "plain"];
+pub const KINDS: [&str; 7] = ["read", "write", "start", "step", "tree", "plain", "same"];
 
 #[derive(Debug, PartialEq)]
 pub enum Answer {
@@ -40,6 +44,7 @@ pub enum Answer {
     Step(StepAnswer),
     Tree(TreeAnswer),
     Plain(PlainAnswer),
+    Same(SameAnswer),
 }
 
 impl Answer {
@@ -51,6 +56,7 @@ impl Answer {
             Answer::Step(answer) => answer.number,
             Answer::Tree(answer) => answer.number,
             Answer::Plain(answer) => answer.number,
+            Answer::Same(answer) => answer.number,
         }
     }
 
@@ -71,6 +77,7 @@ impl Answer {
                 vec![number.into(), verdict.into(), entry, period, length.into()]
             }
             Answer::Plain(PlainAnswer { number, verdict }) => vec![number.into(), verdict.into()],
+            Answer::Same(SameAnswer { number, same }) => vec![number.into(), same.into()],
         }
     }
 }
@@ -84,6 +91,7 @@ impl Case {
             Case::Step(..) => 3,
             Case::Tree(..) => 4,
             Case::Plain(..) => 5,
+            Case::Same(..) => 6,
         }
     }
 
@@ -100,6 +108,7 @@ impl Case {
             Case::Read(..) | Case::Start(..) | Case::Step(..) => RECORD_LENGTH,
             Case::Tree(..) => NAME_LENGTH,
             Case::Plain(..) => SCRATCH_LENGTH,
+            Case::Same(..) => 0,
         }
     }
 
@@ -114,7 +123,7 @@ impl Case {
         }
     }
 
-    /// The call.
+    /// The call. The comparison of walks is lent nothing.
     pub fn answered_by(&self, calls: &dyn Calls, lent: &mut [u8]) -> Answer {
         match self {
             Case::Read(table) => Answer::Read(calls.read(table, lent)),
@@ -126,6 +135,9 @@ impl Case {
             Case::Tree(Walk { table, u, v }) => Answer::Tree(calls.tree_judge(table, u, v, lent)),
             Case::Plain(Walk { table, u, v }) => {
                 Answer::Plain(calls.plain_judge(table, u, v, lent))
+            }
+            Case::Same((u, v), (other_u, other_v)) => {
+                Answer::Same(calls.same_walk(u, v, other_u, other_v))
             }
         }
     }
@@ -145,6 +157,10 @@ impl Case {
             Case::Tree(Walk { table, u, v }) | Case::Plain(Walk { table, u, v }) => {
                 format!("{name} {} {} {}", hex::show(table), hex::show(u), hex::show(v))
             }
+            Case::Same((u, v), (other_u, other_v)) => {
+                let [u, v, other_u, other_v] = [u, v, other_u, other_v].map(|part| hex::show(part));
+                format!("{name} {u} {v} {other_u} {other_v}")
+            }
         }
     }
 }
@@ -157,8 +173,7 @@ pub struct Lending {
 }
 
 impl Lending {
-    /// A lent part of an interesting length, all bytes filled one way or
-    /// another.
+    /// A lent part of an interesting length.
     pub fn random(random: &mut Random, needed: usize) -> Lending {
         let length = match random.below(12) {
             0 => 0,
@@ -168,6 +183,18 @@ impl Lending {
             5 => needed + 1,
             _ => needed,
         };
+        Lending::filled(random, length)
+    }
+
+    /// A lent part that is long enough, now and then longer.
+    pub fn enough(random: &mut Random, needed: usize) -> Lending {
+        let longer = random.between(1, 40);
+        let length = needed + random.pick(&[0, 0, 1, longer]);
+        Lending::filled(random, length)
+    }
+
+    /// A lent part of this length, all bytes filled one way or another.
+    fn filled(random: &mut Random, length: usize) -> Lending {
         let before = random.between(1, 40);
         let behind = random.between(1, 40);
         let mut whole = vec![0; before + length + behind];

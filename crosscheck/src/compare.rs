@@ -4,17 +4,18 @@
 use crate::answers::{Judges, Numbers};
 use crate::cases::{Answer, Case, Lending, Walk, KINDS};
 use crate::ffi;
-use crate::inputs::{self, Reach};
+use crate::inputs;
+use crate::pairs;
 use crate::random::Random;
 use crate::reference::Reference;
 use crate::tuned::{OtherWays, Tuned};
 use std::time::Instant;
 
 /// How many cases of each call.
-const CASES: [usize; 6] = [40_000, 40_000, 20_000, 62_000, 24_000, 14_000];
+const CASES: [usize; KINDS.len()] = [40_000, 40_000, 20_000, 62_000, 24_000, 14_000, 30_000];
 
 /// How many walks of each judge when the tuned code is compared.
-const TUNED_CASES: [usize; 6] = [0, 0, 0, 0, 40_000, 20_000];
+const TUNED_CASES: [usize; KINDS.len()] = [0, 0, 0, 0, 40_000, 20_000, 0];
 
 /// Of a walk's cases, one in so many is at the limit of length.
 const LIMIT_IN: usize = 250;
@@ -63,11 +64,7 @@ fn step_case(random: &mut Random) -> Case {
 fn random_walk(random: &mut Random) -> Walk {
     let mut table = inputs::table(random);
     let limit = table[1].into();
-    let reach = match random.below(LIMIT_IN) {
-        0 => Reach::Limit,
-        place if place % 5 == 1 => Reach::Middle,
-        _ => Reach::Short,
-    };
+    let reach = inputs::reach(random, LIMIT_IN);
     let mut walk = inputs::walk(random, reach, limit);
     if random.once_in(10) {
         inputs::spoil_walk(random, &mut walk, limit);
@@ -86,7 +83,11 @@ fn random_case(random: &mut Random, kind: usize) -> Case {
         2 => Case::Start(inputs::any_table(random, 3)),
         3 => step_case(random),
         4 => Case::Tree(random_walk(random)),
-        _ => Case::Plain(random_walk(random)),
+        5 => Case::Plain(random_walk(random)),
+        _ => {
+            let (one, other) = pairs::pair(random);
+            Case::Same(one, other)
+        }
     }
 }
 
@@ -124,17 +125,20 @@ fn check(random: &mut Random, case: &Case, subject: Subject, count: &mut Count) 
 
 /// All cases of a list, in a mixed order; says whether there was none that
 /// differs.
-fn run(seed: u64, cases: &[usize; 6], subject: Subject) -> bool {
+fn run(seed: u64, cases: &[usize; KINDS.len()], subject: Subject) -> bool {
     let begun = Instant::now();
-    let mut random = Random::new(seed);
-    let mut counts = [Count::default(); 6];
+    // Pairs came later. They have random numbers of their own, so that a
+    // seed still gives the other calls the inputs it always gave them.
+    let (mut of_tables, mut of_pairs) = (Random::new(seed), Random::new(!seed));
+    let mut counts = [Count::default(); KINDS.len()];
     let rounds = cases.iter().max().copied().unwrap_or(0);
     for round in 0..rounds {
-        for kind in 0..6 {
+        for kind in 0..KINDS.len() {
             // Spreads each kind evenly over the rounds.
             if (round + 1) * cases[kind] / rounds > round * cases[kind] / rounds {
-                let case = random_case(&mut random, kind);
-                check(&mut random, &case, subject, &mut counts[kind]);
+                let random = if KINDS[kind] == "same" { &mut of_pairs } else { &mut of_tables };
+                let case = random_case(random, kind);
+                check(random, &case, subject, &mut counts[kind]);
             }
         }
     }
@@ -143,7 +147,7 @@ fn run(seed: u64, cases: &[usize; 6], subject: Subject) -> bool {
     counts.iter().all(|count| count.differences == 0)
 }
 
-fn report(counts: &[Count; 6]) {
+fn report(counts: &[Count; KINDS.len()]) {
     for (name, count) in KINDS.iter().zip(counts) {
         if count.cases == 0 {
             continue;
@@ -173,11 +177,11 @@ pub fn compare(seed: u64) -> bool {
 
 /// The tuned judges against the reference.
 pub fn compare_tuned(seed: u64) -> bool {
-    let against = |name: &str, judges: &dyn Judges, cases: &[usize; 6]| {
+    let against = |name: &str, judges: &dyn Judges| {
         println!("{name}:");
-        run(seed, cases, &|case, lent| case.judged_by(judges, lent))
+        run(seed, &TUNED_CASES, &|case, lent| case.judged_by(judges, lent))
     };
-    let tuned = against("tuned", &Tuned, &TUNED_CASES);
-    let relations = against("tuned, rows and relations", &OtherWays, &[0, 0, 0, 0, 40_000, 20_000]);
+    let tuned = against("tuned", &Tuned);
+    let relations = against("tuned, rows and relations", &OtherWays);
     tuned && relations
 }

@@ -14,8 +14,8 @@ pub fn library() -> Option<&'static dyn Calls> {
 #[cfg(feature = "linked")]
 mod linked {
     use crate::answers::{
-        Calls, Judges, Numbers, PlainAnswer, ReadAnswer, StartAnswer, StepAnswer, TreeAnswer,
-        WriteAnswer,
+        Calls, Judges, Numbers, PlainAnswer, ReadAnswer, SameAnswer, StartAnswer, StepAnswer,
+        TreeAnswer, WriteAnswer,
     };
 
     extern "C" {
@@ -75,6 +75,17 @@ mod linked {
             scratch: *mut u8,
             scratch_length: usize,
         ) -> PlainAnswer;
+
+        fn suthreldo_same_walk(
+            u: *const u8,
+            u_length: usize,
+            v: *const u8,
+            v_length: usize,
+            other_u: *const u8,
+            other_u_length: usize,
+            other_v: *const u8,
+            other_v_length: usize,
+        ) -> SameAnswer;
     }
 
     /// The library as an implementation of the calls. Each pointer and
@@ -149,6 +160,21 @@ mod linked {
                     record.len(),
                     buffer.as_mut_ptr(),
                     buffer.len(),
+                )
+            }
+        }
+
+        fn same_walk(&self, u: &[u8], v: &[u8], other_u: &[u8], other_v: &[u8]) -> SameAnswer {
+            unsafe {
+                suthreldo_same_walk(
+                    u.as_ptr(),
+                    u.len(),
+                    v.as_ptr(),
+                    v.len(),
+                    other_u.as_ptr(),
+                    other_u.len(),
+                    other_v.as_ptr(),
+                    other_v.len(),
                 )
             }
         }

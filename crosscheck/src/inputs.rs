@@ -61,6 +61,21 @@ pub fn table(random: &mut Random) -> Vec<u8> {
     table_of(&gridded)
 }
 
+/// A good table under which the root never accepts: state 0 starts and can
+/// always stay, outside all sets, and no other state leads to it. So no child
+/// ever has it. Under other tables a yes seldom has a node below the root.
+pub fn waiting_table(random: &mut Random) -> Vec<u8> {
+    let (mut numbers, mut grid) = gridded(random);
+    numbers.start |= 1;
+    for letter in grid.chunks_mut(numbers.states * numbers.states) {
+        for to_zero in letter.iter_mut().step_by(numbers.states) {
+            *to_zero = NO_TRANSITION;
+        }
+        letter[0] = 0;
+    }
+    table_of(&(numbers, grid))
+}
+
 /// Changes, cuts or extends.
 pub fn damage(random: &mut Random, bytes: &mut Vec<u8>) {
     let place = random.below(bytes.len().max(1));
@@ -102,6 +117,15 @@ pub enum Reach {
     Short,
     Middle,
     Limit,
+}
+
+/// Mostly short; one in so many is at the limit.
+pub fn reach(random: &mut Random, limit_in: usize) -> Reach {
+    match random.below(limit_in) {
+        0 => Reach::Limit,
+        place if place % 5 == 1 => Reach::Middle,
+        _ => Reach::Short,
+    }
 }
 
 /// A length of a lead-in or tail.

@@ -10,8 +10,11 @@ mod ffi;
 mod hex;
 mod inputs;
 mod job;
+mod pairs;
 mod random;
 mod reference;
+mod respelling;
+mod spellings;
 mod tuned;
 mod vectors;
 
@@ -20,6 +23,7 @@ use std::process::ExitCode;
 
 const USAGE: &str = "usage: crosscheck compare [SEED]
        crosscheck tuned [SEED]
+       crosscheck spellings [SEED]
        crosscheck vectors DIR [slow]
        crosscheck bench [DIR] [slow]
        crosscheck boundaries CALLS
@@ -51,6 +55,7 @@ fn run(arguments: &[String]) -> Option<bool> {
     match given.first()?.as_str() {
         "compare" => Some(compare::compare(seed(argument)?)),
         "tuned" => Some(compare::compare_tuned(seed(argument)?)),
+        "spellings" => Some(spellings::spellings(seed(argument)?)),
         "vectors" => Some(vectors::vectors(argument?, slow)),
         "bench" => Some(bench::bench(argument.map(String::as_str), slow)),
         "boundaries" => Some(boundaries::boundaries(argument?)),

@@ -6,13 +6,15 @@
 #[cfg(test)]
 mod examples;
 mod judges;
+mod spelling;
 mod table;
 mod tree;
 
 use crate::answers::{
-    Calls, Judges, Numbers, PlainAnswer, ReadAnswer, StartAnswer, StepAnswer, TreeAnswer,
-    WriteAnswer,
+    Calls, Judges, Numbers, PlainAnswer, ReadAnswer, SameAnswer, StartAnswer, StepAnswer,
+    TreeAnswer, WriteAnswer,
 };
+pub use spelling::first_difference;
 pub use table::{Rule, NO_TRANSITION};
 
 /// Lengths of lent buffers, as the C header has them.
@@ -41,11 +43,17 @@ fn put(buffer: &mut [u8], needed: usize, output: &[u8]) -> Result<(), u8> {
     Ok(())
 }
 
-/// Questions 7 and 8 for a walk.
-fn check_walk(rule: &Rule, u: &[u8], v: &[u8]) -> Result<(), u8> {
+/// Question 7 for a walk.
+fn check_lengths(u: &[u8], v: &[u8]) -> Result<(), u8> {
     if u.len() > LONGEST || v.is_empty() || v.len() > LONGEST {
         return Err(7);
     }
+    Ok(())
+}
+
+/// Questions 7 and 8 for a walk.
+fn check_walk(rule: &Rule, u: &[u8], v: &[u8]) -> Result<(), u8> {
+    check_lengths(u, v)?;
     if u.iter().chain(v).any(|letter| usize::from(*letter) >= rule.letters) {
         return Err(8);
     }
@@ -126,6 +134,13 @@ fn plain_judge(table: &[u8], u: &[u8], v: &[u8], scratch: &mut [u8]) -> Result<P
     Ok(PlainAnswer { number: 0, verdict })
 }
 
+fn same_walk(u: &[u8], v: &[u8], other_u: &[u8], other_v: &[u8]) -> Result<SameAnswer, u8> {
+    check_lengths(u, v)?;
+    check_lengths(other_u, other_v)?;
+    let same = first_difference(u, v, other_u, other_v).is_none().into();
+    Ok(SameAnswer { number: 0, same })
+}
+
 /// The reference as an implementation of the calls.
 pub struct Reference;
 
@@ -154,6 +169,10 @@ impl Calls for Reference {
 
     fn step(&self, table: &[u8], letter: u8, record: &[u8], buffer: &mut [u8]) -> StepAnswer {
         step(table, letter, record, buffer).unwrap_or_else(StepAnswer::refused)
+    }
+
+    fn same_walk(&self, u: &[u8], v: &[u8], other_u: &[u8], other_v: &[u8]) -> SameAnswer {
+        same_walk(u, v, other_u, other_v).unwrap_or_else(SameAnswer::refused)
     }
 }
 

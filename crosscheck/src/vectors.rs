@@ -125,6 +125,10 @@ fn call(line: &str) -> Option<Call> {
                 Case::Plain(walk)
             }
         }
+        ("same", [u, v, other_u, other_v]) => Case::Same(
+            (hex::parse(u)?, hex::parse(v)?),
+            (hex::parse(other_u)?, hex::parse(other_v)?),
+        ),
         _ => return None,
     };
     Some((case, hex::parse(buffer)?, numbers(answer)?, hex::parse(after)?))

@@ -1,53 +1,79 @@
 -- Demand 3, from the two contracts: the tree theorem for the one judge, the loop theorem for the other. And what the contract of both
 -- judges says beside it.
-use mathlib.Core.Path.{_≡_, sym, _∙_, subst}
+use mathlib.Core.Path.{_≡_, refl, sym, _∙_, subst}
 use mathlib.Core.List.{List}
 use Prim.Native.Nat.{ℕ}
 use Rattle.table.specs.Outcome.{Outcome, accepted}
 use Rattle.table.specs.Rule.{Rule}
-use Rattle.word.proofs.JudgeQuestions.{accepted-call}
-use Rattle.treejudge.specs.JudgeCall.{nameRoom, treeOutcome, TreeAnswers}
+use Rattle.table.specs.Table.{readRule}
+use Rattle.word.specs.Walk.{SameLetters}
+use Rattle.word.proofs.JudgeQuestions.{Accepted, accepted-call}
+use Rattle.word.proofs.Respelled.{respelled}
+use Rattle.word.proofs.Verdicts.{decides-one, decides-same}
+use Rattle.treejudge.specs.JudgeCall.{nameRoom, treeOutcome, Judged, TreeAnswers}
 use Rattle.treejudge.specs.declared.judge.TreeAnswer.{TreeAnswer}
 use Rattle.treejudge.proofs.TreeVerdict.{tree-decides, tree-determined, tree-number}
 use Rattle.plain.specs.PlainCall.{scratchLength, plainOutcome, PlainAnswers}
 use Rattle.plain.specs.declared.judge.PlainAnswer.{PlainAnswer}
-use Rattle.plain.proofs.PlainVerdict.{plain-decides, plain-determined, plain-number, decides-one}
-use Rattle.agree.specs.Agreement.{Right, Agreement, Demand3}
+use Rattle.plain.proofs.PlainVerdict.{plain-decides, plain-determined, plain-number}
+use Rattle.agree.specs.Agreement.{Right, Demand3}
 use Rattle.agree.specs.BothCall.{BothDetermined, BothNumbers}
+
+-- RIGHT VERDICTS
+
+-- an accepted call of the tree judge: the rule that the table is read as, and what is judged
+pub record TreeAccepted (table u v names : List ℕ) (answer : TreeAnswer) (after : List ℕ) : Type 0 where
+  pub rule : Rule
+  pub about : Accepted table v rule
+  pub judged : Judged rule u v names answer after
+
+pub tree-accepted : (table u v names : List ℕ) (answer : TreeAnswer) (after : List ℕ)
+    → TreeAnswers (treeOutcome table u v names) u v names answer after → answer .number ≡ 0 → TreeAccepted table u v names answer after
+unfolding treeOutcome
+tree-accepted table u v names answer after T zero =
+    let (R, e) = tree-number table u v names answer after T .accepts .0 zero in
+    record {
+      rule = R;
+      about = accepted-call nameRoom table u v names R e;
+      judged = subst (λ (o : Outcome Rule). TreeAnswers o u v names answer after) e T;
+    }
+
+-- its verdict is right
+pub tree-right : (table u v names : List ℕ) (tree : TreeAnswer) (after : List ℕ)
+    → TreeAnswers (treeOutcome table u v names) u v names tree after → tree .number ≡ 0 → Right table u v (tree .verdict)
+tree-right table u v names tree after T zero =
+    let A = tree-accepted table u v names tree after T zero in
+    let about = A .about in
+    (A .rule, about .read, tree-decides (A .rule) u v names tree after (A .judged) (about .well) (about .sets) (about .nonempty))
+
+-- and so is that of an accepted call of the plain judge
+pub plain-right : (table u v scratch : List ℕ) (plain : PlainAnswer)
+    → PlainAnswers (plainOutcome table u v scratch) u v plain → plain .number ≡ 0 → Right table u v (plain .verdict)
+unfolding plainOutcome
+plain-right table u v scratch plain P zero =
+    let (R, e) = plain-number table u v scratch plain P .accepts .0 zero in
+    let a = accepted-call scratchLength table u v scratch R e in
+    (R, a .read, plain-decides R u v plain (subst (λ (o : Outcome Rule). PlainAnswers o u v plain) e P) (a .well) (a .nonempty))
+
+-- a table is read as one rule
+pub rules-one : (table : List ℕ) (R S : Rule) → readRule table ≡ accepted R → readRule table ≡ accepted S → R ≡ S
+rules-one table R S reads other = let both : accepted R ≡ accepted S = sym reads ∙ other in cc
+
+-- and two verdicts that are right of it, on walks with the same letters, are the same
+pub right-one : (table : List ℕ) {u v u′ v′ : List ℕ} {a b : ℕ} → SameLetters u v u′ v′ → Right table u v a → Right table u′ v′ b → a ≡ b
+right-one table {u} {v} {u′} {v′} same (R, reads, d) (S, other, e) =
+    decides-one
+    (decides-same (respelled R u v u′ v′ same) (respelled R u′ v′ u v (λ p. sym (same p))) d)
+    (rw (rules-one table R S reads other) e)
 
 -- DEMAND 3
 
-module _ (table u v names scratch : List ℕ) (tree : TreeAnswer) (after : List ℕ) (plain : PlainAnswer)
-    (T : TreeAnswers (treeOutcome table u v names) u v names tree after)
-    (P : PlainAnswers (plainOutcome table u v scratch) u v plain) where
-  tree-right : tree .number ≡ 0 → Right table u v (tree .verdict)
-  unfolding treeOutcome
-  tree-right zero =
-      let (R, e) = tree-number table u v names tree after T .accepts .0 zero in
-      let a = accepted-call nameRoom table u v names R e in
-      let J = subst (λ (o : Outcome Rule). TreeAnswers o u v names tree after) e T in
-      (R, a .read, tree-decides R u v names tree after J (a .well) (a .sets) (a .nonempty))
-
-  plain-right : plain .number ≡ 0 → Right table u v (plain .verdict)
-  unfolding plainOutcome
-  plain-right zero =
-      let (R, e) = plain-number table u v scratch plain P .accepts .0 zero in
-      let a = accepted-call scratchLength table u v scratch R e in
-      (R, a .read, plain-decides R u v plain (subst (λ (o : Outcome Rule). PlainAnswers o u v plain) e P) (a .well) (a .nonempty))
-
-  agree : Agreement table u v tree plain
-  agree = record { tree-right = tree-right; plain-right = plain-right; same = λ s t. right-one (tree-right s) (plain-right t) }
-    where
-      -- a table is read as one rule, and two verdicts that are right of it are the same
-      right-one : {a b : ℕ} → Right table u v a → Right table u v b → a ≡ b
-      right-one {a} {b} (R, reads, d) (S, other, e) =
-          let both : accepted R ≡ accepted S = sym reads ∙ other in
-          let one : R ≡ S = cc in
-          decides-one d (rw one e)
-
 pub demand-3 : Demand3
 unfolding Demand3
-demand-3 table u v names scratch tree after plain T P = agree table u v names scratch tree after plain T P
+demand-3 table u v names scratch tree after plain T P =
+    let on-tree = tree-right table u v names tree after T in
+    let on-plain = plain-right table u v scratch plain P in
+    record { tree-right = on-tree; plain-right = on-plain; same = λ s t. right-one table (λ p. refl) (on-tree s) (on-plain t) }
 
 -- BOTH JUDGES SIDE BY SIDE
 

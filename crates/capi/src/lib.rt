@@ -2,6 +2,8 @@
 // include/suthreldo.h declares them.
 use plain::judge::PlainAnswer;
 use plain::judge::plain_judge;
+use spelling::same::SameAnswer;
+use spelling::same::same_walk;
 use table::reader::ReadAnswer;
 use table::reader::read;
 use table::writer::WriteAnswer;
@@ -14,6 +16,7 @@ use treejudge::judge::TreeAnswer;
 use treejudge::judge::tree_judge;
 ghost use mathlib.Core.Path.{_≡_};
 ghost use Rattle.plain.specs.PlainCall.{PlainAnswers, plainOutcome, scratchAfter};
+ghost use Rattle.spelling.specs.SameCall.{SameAnswers, sameOutcome};
 ghost use Rattle.table.specs.ReadCall.{gridAfter, readAnswer, readOutcome};
 ghost use Rattle.table.specs.WriteCall.{tableAfter, writeAnswer, writeOutcome};
 ghost use Rattle.tree.specs.TreeCalls.{startAfter, startAnswer, startOutcome, stepAfter, stepAnswer, stepOutcome};
@@ -90,4 +93,12 @@ pub extern "C" fn suthreldo_plain_judge<'a>(
         ≡ scratchAfter (plainOutcome (now (table .entry)) (now (u .entry)) (now (v .entry)) (now (scratch .entry))) (now (scratch .entry))) ⌝ }
 {
     plain_judge(table, u, v, scratch)
+}
+
+#[no_mangle]
+pub extern "C" fn suthreldo_same_walk(u: &[u8], v: &[u8], u2: &[u8], v2: &[u8]) -> SameAnswer
+    ensures { λ r. ⌜ SameAnswers (sameOutcome (now (u .entry)) (now (v .entry)) (now (u2 .entry)) (now (v2 .entry)))
+        (now (u .entry)) (now (v .entry)) (now (u2 .entry)) (now (v2 .entry)) r ⌝ }
+{
+    same_walk(u, v, u2, v2)
 }

@@ -10,6 +10,7 @@ pub mod TreeCode
 pub mod Positional
 -- Trees along a walk: positions, rounds, witnesses.
 pub mod TreesOfWalk
+pub mod Spellings
 pub mod StatesOfTrees
 pub mod WholeTrees
 pub mod AnyRounds

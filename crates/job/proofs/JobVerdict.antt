@@ -6,10 +6,10 @@ use native.Mathlib.Omega.{arith}
 use lib.ListN.{length, replicate, length-append, length-replicate}
 use Rattle.table.specs.Outcome.{Outcome, refused, accepted}
 use Rattle.table.specs.Rule.{Rule}
+use Rattle.word.proofs.Verdicts.{decides-one}
 use Rattle.history.specs.Rounds.{roundTree}
 use Rattle.history.proofs.FirstRepeats.{repeat-unique}
 use Rattle.treejudge.proofs.TreeVerdict.{found-one}
-use Rattle.plain.proofs.PlainVerdict.{decides-one}
 use Rattle.job.specs.JobCall.{Parts, jobParts, judgeOutcome, fiveLines, refusalText, textRoom, textOf, PartsAnswers, SplitAnswers, JobAnswer}
 use Rattle.job.specs.declared.call.Text.{Text}
 

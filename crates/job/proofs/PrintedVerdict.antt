@@ -12,9 +12,10 @@ use Rattle.word.specs.Judging.{judgeQuestions}
 use Rattle.word.specs.Run.{AcceptingRun}
 use Rattle.word.specs.Verdict.{Decides}
 use Rattle.word.proofs.JudgeQuestions.{Accepted, accepted-call}
+use Rattle.word.proofs.Verdicts.{decides-one}
 use Rattle.history.specs.Finding.{Finding, yes-node, no-node, Found}
 use Rattle.history.proofs.TreeTheorem.{tree-theorem}
-use Rattle.plain.proofs.PlainVerdict.{plain-decides, decides-one}
+use Rattle.plain.proofs.PlainVerdict.{plain-decides}
 use Rattle.job.specs.Ascii.{ascii}
 use Rattle.job.specs.JobCall.{Parts, jobParts, judgeOutcome, jobOutcome, digits, line, yesNo, findingVerdict, nodeText}
 use Rattle.job.specs.JobCall.{fiveLines, refusalText, textOf}

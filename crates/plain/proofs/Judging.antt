@@ -14,6 +14,7 @@ use Rattle.word.specs.Loop.{Loop}
 use Rattle.word.specs.Verdict.{Decides}
 use Rattle.word.specs.WalkTables.{Tables, Tabled, tablesAfter}
 use Rattle.word.proofs.WalkTables.{tables-for}
+use Rattle.word.proofs.Verdicts.{decides-same}
 use Rattle.plain.specs.Ways.{ways, AreWays}
 use Rattle.plain.specs.Letters.{statesAfter, rowAfter}
 use Rattle.plain.specs.Rounds.{widened}
@@ -22,7 +23,6 @@ use Rattle.plain.specs.Walks.{Walks}
 use Rattle.plain.proofs.WaysLead.{states-out, states-in, tail-out, tail-in}
 use Rattle.plain.proofs.RoundsLead.{TailWays, RoundsWays, rounds-ways}
 use Rattle.plain.proofs.LoopSearch.{LeadStates, found-loop, loop-found}
-use Rattle.plain.proofs.Searching.{decides-same}
 
 -- THE TABLES
 

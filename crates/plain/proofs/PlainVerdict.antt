@@ -2,22 +2,20 @@
 -- often, its number tells whether the call is accepted, and the contract leaves no choice of the answer. How many scratch
 -- bytes are wanted does not matter to the answer.
 use mathlib.Core.Path.{_≡_, sym, _∙_, ap}
-use mathlib.Core.Logic.{inl, inr}
 use mathlib.Core.List.{List, []}
-use Prim.Native.Nat.{ℕ, _≤_}
-use borrow.Author.Tests.{le-leb}
-use lib.ListN.{length}
+use Prim.Native.Nat.{ℕ}
 use Rattle.table.specs.Outcome.{Outcome, refused, accepted, numberOf}
 use Rattle.table.specs.Rule.{Rule}
 use Rattle.table.specs.Table.{WellFormed}
 use Rattle.word.specs.Judging.{judgeQuestions}
 use Rattle.word.specs.Run.{AcceptingRun}
 use Rattle.word.specs.Verdict.{Decides}
+use Rattle.word.proofs.JudgeQuestions.{with-room}
 use Rattle.word.proofs.LoopTheorem.{loop-theorem}
 use Rattle.word.proofs.RefusalNumbers.{judge-tells}
+use Rattle.word.proofs.Verdicts.{decides-one, decides-same}
 use Rattle.plain.specs.PlainCall.{scratchLength, plainOutcome, PlainAnswers, PlainNumber, SameAsBefore}
 use Rattle.plain.specs.declared.judge.PlainAnswer.{PlainAnswer}
-use Rattle.plain.proofs.Searching.{decides-same}
 
 -- an accepted call says yes just if some endless run goes through every accepting set infinitely often, and no otherwise
 pub plain-decides : (R : Rule) (u v : List ℕ) (answer : PlainAnswer) → PlainAnswers (accepted R) u v answer → WellFormed R → (v ≡ [] → ⊥)
@@ -25,13 +23,6 @@ pub plain-decides : (R : Rule) (u v : List ℕ) (answer : PlainAnswer) → Plain
 plain-decides R u v answer (_, d) well nonempty =
     let (run-to-loop, loop-to-run) = loop-theorem R u v well nonempty in
     decides-same loop-to-run run-to-loop d
-
--- two verdicts on one statement are the same
-pub decides-one : {a b : ℕ} {P : Type 0} → Decides a P → Decides b P → a ≡ b
-decides-one (inl (x, p)) (inl (y, q)) = x ∙ sym y
-decides-one (inl (x, p)) (inr (y, q)) = absurd (q p)
-decides-one (inr (x, p)) (inl (y, q)) = absurd (p q)
-decides-one (inr (x, p)) (inr (y, q)) = x ∙ sym y
 
 -- the number of an answer that the contract allows
 plain-answers : (o : Outcome Rule) (u v : List ℕ) (answer : PlainAnswer) → PlainAnswers o u v answer → answer .number ≡ numberOf o
@@ -51,14 +42,8 @@ plain-determined (accepted R) u v a b (x, d) (y, e) =
     let verdicts : a .verdict ≡ b .verdict = decides-one d e in
     λ i. record { number = same i; verdict = verdicts i }
 
--- with bytes enough for question 10 the outcome is that of a call that wants none and is lent none
-enough : (needed : ℕ) (table u v scratch : List ℕ) → needed ≤ length scratch
-    → judgeQuestions needed table u v scratch ≡ judgeQuestions 0 table u v []
-unfolding judgeQuestions
-enough needed table u v scratch h = rw (le-leb needed (length scratch) h)
-
 pub same-as-before : SameAsBefore
 same-as-before needed needed′ table u v scratch scratch′ answer answer′ h h′ P Q =
     plain-determined (judgeQuestions 0 table u v []) u v answer answer′
-    (rw (enough needed table u v scratch h) at P)
-    (rw (enough needed′ table u v scratch′ h′) at Q)
+    (rw (with-room needed table u v scratch h) at P)
+    (rw (with-room needed′ table u v scratch′ h′) at Q)

@@ -14,17 +14,11 @@ use Rattle.table.specs.Limits.{maxStates}
 use Rattle.table.specs.BitSet.{member}
 use Rattle.table.proofs.BitSet.{member-none, member-union}
 use Rattle.table.proofs.Logic.{and-both, and-in, or-l, or-r, or-in}
-use Rattle.word.specs.Verdict.{Decides}
 use Rattle.plain.specs.Ways.{packed, ways}
 use Rattle.plain.specs.Rounds.{marks}
 use Rattle.plain.specs.Search.{reached, Reaches}
 use Rattle.plain.proofs.RowLaws.{map-zero, shift-suc, packed-at, packed-ext, packed-marks, mark, column}
 use Rattle.plain.proofs.RoundRows.{kept}
-
--- what decides one statement decides another that says the same
-pub decides-same : {verdict : ℕ} {P Q : Type 0} → (P → Q) → (Q → P) → Decides verdict P → Decides verdict Q
-decides-same to from (inl (one, p)) = inl (one, to p)
-decides-same to from (inr (none, p)) = inr (none, λ q. p (from q))
 
 -- THE STATES REACHED
 

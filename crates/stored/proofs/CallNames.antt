@@ -8,26 +8,28 @@ use lib.Dec.{eqb}
 use lib.ListN.{getD}
 use Rattle.stored.specs.Calls.{nameOf}
 use Rattle.stored.specs.declared.calls.Call.{Call}
-use Rattle.stored.specs.declared.calls.Call.the-variants.{Read, Write, Start, Step, Tree, Plain}
+use Rattle.stored.specs.declared.calls.Call.the-variants.{Read, Write, Start, Step, Tree, Plain, Same}
 
 -- a name that is none of them
 pub no-name : (name : List ℕ) → (name ≡ nameOf Read → ⊥) → (name ≡ nameOf Write → ⊥) → (name ≡ nameOf Start → ⊥) → (name ≡ nameOf Step → ⊥)
-    → (name ≡ nameOf Tree → ⊥) → (name ≡ nameOf Plain → ⊥) → (call : Call) → name ≡ nameOf call → ⊥
-no-name name read write start step tree plain Read = read
-no-name name read write start step tree plain Write = write
-no-name name read write start step tree plain Start = start
-no-name name read write start step tree plain Step = step
-no-name name read write start step tree plain Tree = tree
-no-name name read write start step tree plain Plain = plain
+    → (name ≡ nameOf Tree → ⊥) → (name ≡ nameOf Plain → ⊥) → (name ≡ nameOf Same → ⊥) → (call : Call) → name ≡ nameOf call → ⊥
+no-name name read write start step tree plain same Read = read
+no-name name read write start step tree plain same Write = write
+no-name name read write start step tree plain same Start = start
+no-name name read write start step tree plain same Step = step
+no-name name read write start step tree plain same Tree = tree
+no-name name read write start step tree plain same Plain = plain
+no-name name read write start step tree plain same Same = same
 
--- the names tell the calls apart: by the first letter, and `start` and `step` by the third
+-- the names tell the calls apart: by the first letter, and `start`, `step` and `same` by the third
 callOf : List ℕ → Call
 callOf name =
     cond (eqb (getD name 0 0) (code "r")) Read
     (cond (eqb (getD name 0 0) (code "w")) Write
     (cond (eqb (getD name 0 0) (code "t")) Tree
     (cond (eqb (getD name 0 0) (code "p")) Plain
-    (cond (eqb (getD name 2 0) (code "a")) Start Step))))
+    (cond (eqb (getD name 2 0) (code "a")) Start
+    (cond (eqb (getD name 2 0) (code "e")) Step Same)))))
 
 call-of : (call : Call) → callOf (nameOf call) ≡ call
 unfolding callOf nameOf
@@ -37,6 +39,7 @@ call-of Start = refl
 call-of Step = refl
 call-of Tree = refl
 call-of Plain = refl
+call-of Same = refl
 
 pub names-one : (a b : Call) → nameOf a ≡ nameOf b → a ≡ b
 names-one a b e = sym (call-of a) ∙ ap callOf e ∙ call-of b

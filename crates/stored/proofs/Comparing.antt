@@ -41,6 +41,13 @@ compared call line lent text after read same numbers gives reads tells = record 
   only = λ e. (numbers, gives (both-true read same e .0));
 }
 
+-- four answers, all yes
+pub four-true : (a b c d : Bool) → (a && b && c && d) ≡ true → (a ≡ true) × (b ≡ true) × (c ≡ true) × (d ≡ true)
+four-true a b c d e =
+    let (three, fourth) = both-true (a && b && c) d e in
+    let (first, second, third) = three-true a b c three in
+    (first, second, third, fourth)
+
 -- the numbers of a field
 pub field-rule : (line : List ℕ) (number : ℕ) (text : List ℕ) (rule : Rule) → text ≡ fieldAt line number → RuleIs text rule
     → RuleIs (fieldAt line number) rule
@@ -76,8 +83,7 @@ module _ (text a b c d : List ℕ) (n m k start : Number) (separators : ℕ) whe
       only : all-right ≡ true → RuleText text (n .value) (m .value) (k .value) (start .value)
       only e =
           let (four, fifth) = both-true (n .right && m .right && k .right && start .right) (eqb separators 3) e in
-          let (three, fourth) = both-true (n .right && m .right && k .right) (start .right) four in
-          let (first, second, third) = three-true (n .right) (m .right) (k .right) three in
+          let (first, second, third, fourth) = four-true (n .right) (m .right) (k .right) (start .right) four in
           record {
             four = omega (arith, eqb-true separators 3 fifth);
             states = number-only (decimalWithin largestSize (partAt space text 0)) n N first;

@@ -9,10 +9,12 @@ use Rattle.treejudge.specs.JudgeCall.{treeOutcome, TreeAnswers}
 use Rattle.treejudge.proofs.TreeVerdict.{tree-determined}
 use Rattle.plain.specs.PlainCall.{plainOutcome, PlainAnswers}
 use Rattle.plain.proofs.PlainVerdict.{plain-determined}
-use Rattle.stored.specs.Calls.{readNumbers, startNumbers, treeNumbers, plainNumbers}
-use Rattle.stored.specs.Calls.{ReadGives, WriteGives, StartGives, StepGives, TreeGives, PlainGives, Gives}
+use Rattle.spelling.specs.SameCall.{sameOutcome, SameAnswers}
+use Rattle.spelling.proofs.SameAnswers.{same-determined}
+use Rattle.stored.specs.Calls.{readNumbers, startNumbers, treeNumbers, plainNumbers, sameNumbers}
+use Rattle.stored.specs.Calls.{ReadGives, WriteGives, StartGives, StepGives, TreeGives, PlainGives, SameGives, Gives}
 use Rattle.stored.specs.declared.calls.Call.{Call}
-use Rattle.stored.specs.declared.calls.Call.the-variants.{Read, Write, Start, Step, Tree, Plain}
+use Rattle.stored.specs.declared.calls.Call.the-variants.{Read, Write, Start, Step, Tree, Plain, Same}
 
 -- two readings of one text are the same
 one : {A : Type 0} {o : Option A} {a b : A} → o ≡ some a → o ≡ some b → a ≡ b
@@ -71,6 +73,17 @@ module _ {line lent ns after ms left : List ℕ} where
       let answer = plain-determined outcome (G .u) (G .v) (G .answer) (H .answer) (G .judged) judged in
       (G .answers ∙ ap plainNumbers answer ∙ sym (H .answers), G .leaves ∙ rw (table, u, v) (sym (H .leaves)))
 
+  same-one : SameGives line lent ns after → SameGives line lent ms left → (ns ≡ ms) × (after ≡ left)
+  same-one G H =
+      let u : G .u ≡ H .u = one (G .has-lead) (H .has-lead) in
+      let v : G .v ≡ H .v = one (G .has-tail) (H .has-tail) in
+      let u′ : G .u′ ≡ H .u′ = one (G .has-lead′) (H .has-lead′) in
+      let v′ : G .v′ ≡ H .v′ = one (G .has-tail′) (H .has-tail′) in
+      let outcome = sameOutcome (G .u) (G .v) (G .u′) (G .v′) in
+      let compared : SameAnswers outcome (G .u) (G .v) (G .u′) (G .v′) (H .answer) = rw (u, v, u′, v′) (H .compared) in
+      let answer = same-determined outcome (G .u) (G .v) (G .u′) (G .v′) (G .answer) (H .answer) (G .compared) compared in
+      (G .answers ∙ ap sameNumbers answer ∙ sym (H .answers), G .leaves ∙ sym (H .leaves))
+
 -- every call
 pub gives-one : (call : Call) (line lent ns after ms left : List ℕ) → Gives call line lent ns after → Gives call line lent ms left
     → (ns ≡ ms) × (after ≡ left)
@@ -80,3 +93,4 @@ gives-one Start line lent ns after ms left G H = start-one G H
 gives-one Step line lent ns after ms left G H = step-one G H
 gives-one Tree line lent ns after ms left G H = tree-one G H
 gives-one Plain line lent ns after ms left G H = plain-one G H
+gives-one Same line lent ns after ms left G H = same-one G H

@@ -20,9 +20,11 @@ use Rattle.treejudge.specs.JudgeCall.{treeOutcome, TreeAnswers}
 use Rattle.treejudge.specs.declared.judge.TreeAnswer.{TreeAnswer}
 use Rattle.plain.specs.PlainCall.{plainOutcome, PlainAnswers, scratchAfter}
 use Rattle.plain.specs.declared.judge.PlainAnswer.{PlainAnswer}
+use Rattle.spelling.specs.SameCall.{sameOutcome, SameAnswers}
+use Rattle.spelling.specs.declared.same.SameAnswer.{SameAnswer}
 use Rattle.job.specs.Ascii.{ascii}
 use Rattle.stored.specs.declared.calls.Call.{Call}
-use Rattle.stored.specs.declared.calls.Call.the-variants.{Read, Write, Start, Step, Tree, Plain}
+use Rattle.stored.specs.declared.calls.Call.the-variants.{Read, Write, Start, Step, Tree, Plain, Same}
 
 -- THE CALLS
 
@@ -34,6 +36,7 @@ nameOf Start = ascii "start"
 nameOf Step = ascii "step"
 nameOf Tree = ascii "tree"
 nameOf Plain = ascii "plain"
+nameOf Same = ascii "same"
 
 -- how many arguments it has there
 unfoldable pub arguments : Call → ℕ
@@ -43,6 +46,7 @@ arguments Start = 1
 arguments Step = 3
 arguments Tree = 3
 arguments Plain = 3
+arguments Same = 4
 
 -- THE ARGUMENTS OF A LINE
 
@@ -87,6 +91,9 @@ treeNumbers a = a .number ∷ a .verdict ∷ a .entry ∷ a .period ∷ a .lengt
 
 abbrev pub plainNumbers : PlainAnswer → List ℕ
 plainNumbers a = a .number ∷ a .verdict ∷ []
+
+abbrev pub sameNumbers : SameAnswer → List ℕ
+sameNumbers a = a .number ∷ a .same ∷ []
 
 -- WHAT A CALL GIVES: with a line's arguments and this buffer lent, these numbers, and these bytes in the buffer afterwards, as the
 -- call's own contract says
@@ -153,6 +160,21 @@ pub record PlainGives (line lent numbers after : List ℕ) : Type 0 where
   pub answers : numbers ≡ plainNumbers answer
   pub leaves : after ≡ scratchAfter (plainOutcome table u v lent) lent
 
+-- same U V U′ V′: number same. Nothing is lent to it: a buffer on the line is unchanged.
+pub record SameGives (line lent numbers after : List ℕ) : Type 0 where
+  pub u : List ℕ
+  pub v : List ℕ
+  pub u′ : List ℕ
+  pub v′ : List ℕ
+  pub has-lead : BytesAt line 1 u
+  pub has-tail : BytesAt line 2 v
+  pub has-lead′ : BytesAt line 3 u′
+  pub has-tail′ : BytesAt line 4 v′
+  pub answer : SameAnswer
+  pub compared : SameAnswers (sameOutcome u v u′ v′) u v u′ v′ answer
+  pub answers : numbers ≡ sameNumbers answer
+  pub leaves : after ≡ lent
+
 -- the call of each name
 abbrev pub Gives : Call → List ℕ → List ℕ → List ℕ → List ℕ → Type 0
 Gives Read line lent numbers after = ReadGives line lent numbers after
@@ -161,6 +183,7 @@ Gives Start line lent numbers after = StartGives line lent numbers after
 Gives Step line lent numbers after = StepGives line lent numbers after
 Gives Tree line lent numbers after = TreeGives line lent numbers after
 Gives Plain line lent numbers after = PlainGives line lent numbers after
+Gives Same line lent numbers after = SameGives line lent numbers after
 
 -- A LINE
 

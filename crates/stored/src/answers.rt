@@ -6,13 +6,14 @@ use notation::decimal::numbers_are;
 use notation::hexadecimal::bytes_of;
 use notation::lines::field;
 use plain::judge::plain_judge;
+use spelling::same::same_walk;
 use table::reader::read;
 use table::writer::write;
 use tree::calls::start;
 use tree::calls::step;
 use treejudge::judge::tree_judge;
 ghost use Rattle.stored.specs.Comparing.{Compared};
-ghost use Rattle.stored.specs.declared.calls.Call.the-variants.{Plain, Read, Start, Step, Tree, Write};
+ghost use Rattle.stored.specs.declared.calls.Call.the-variants.{Plain, Read, Same, Start, Step, Tree, Write};
 
 // The reader: number n m k start.
 pub fn read_right(line: &[u8], numbers: &[u8], buffer: &mut [u8]) -> bool
@@ -118,4 +119,30 @@ pub fn plain_right(line: &[u8], numbers: &[u8], buffer: &mut [u8]) -> bool
     let given = plain_judge(&table[..t_end], &lead[..u_end], &tail[..v_end], buffer);
     let answer = [given.number as u64, given.verdict as u64];
     t.right & u.right & v.right & numbers_are(numbers, &answer)
+}
+
+// Two walks compared: number same. Nothing is lent to it: the buffer is left as it is.
+pub fn same_right(line: &[u8], numbers: &[u8], buffer: &mut [u8]) -> bool
+    ensures { λ r. ⌜ Compared Same (now (line .entry)) (now (buffer .entry)) (now (numbers .entry)) (now (buffer .exit)) r ⌝ }
+{
+    let u = bytes_of(field(line, 1));
+    let v = bytes_of(field(line, 2));
+    let u2 = bytes_of(field(line, 3));
+    let v2 = bytes_of(field(line, 4));
+    let lead = u.room;
+    let u_end = u.end;
+    let tail = v.room;
+    let v_end = v.end;
+    let lead2 = u2.room;
+    let u2_end = u2.end;
+    let tail2 = v2.room;
+    let v2_end = v2.end;
+    let given = same_walk(
+        &lead[..u_end],
+        &tail[..v_end],
+        &lead2[..u2_end],
+        &tail2[..v2_end],
+    );
+    let answer = [given.number as u64, given.same as u64];
+    u.right & v.right & u2.right & v2.right & numbers_are(numbers, &answer)
 }

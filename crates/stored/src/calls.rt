@@ -8,6 +8,7 @@
 // - proofs: its case of the laws of CallNames.antt and Determined.antt, and in the proofs of the functions named here.
 use crate::answers::plain_right;
 use crate::answers::read_right;
+use crate::answers::same_right;
 use crate::answers::start_right;
 use crate::answers::step_right;
 use crate::answers::tree_right;
@@ -32,6 +33,7 @@ pub enum Call {
     Step,
     Tree,
     Plain,
+    Same,
 }
 
 // A call, or none of this name.
@@ -62,12 +64,15 @@ fn call_named(name: &[u8]) -> Named
     if same(name, b"plain") {
         return Named::Known(Call::Plain);
     }
+    if same(name, b"same") {
+        return Named::Known(Call::Same);
+    }
     Named::Unknown
 }
 
 // How many arguments a call has.
 fn arguments_of(call: Call) -> usize
-    ensures { λ r. ⌜ (r ≡ arguments call) × (r ≤ 3) ⌝ }
+    ensures { λ r. ⌜ (r ≡ arguments call) × (r ≤ 4) ⌝ }
 {
     match call {
         Call::Read => 1,
@@ -76,6 +81,7 @@ fn arguments_of(call: Call) -> usize
         Call::Step => 3,
         Call::Tree => 3,
         Call::Plain => 3,
+        Call::Same => 4,
     }
 }
 
@@ -90,6 +96,7 @@ fn numbers_right(call: Call, line: &[u8], numbers: &[u8], buffer: &mut [u8]) -> 
         Call::Step => step_right(line, numbers, buffer),
         Call::Tree => tree_right(line, numbers, buffer),
         Call::Plain => plain_right(line, numbers, buffer),
+        Call::Same => same_right(line, numbers, buffer),
     }
 }
 

@@ -4,10 +4,8 @@ use mathlib.Core.Path.{_≡_, refl}
 use mathlib.Core.Bool.{Bool, true, _&&_}
 use mathlib.Core.List.{List}
 use Prim.Native.Nat.{ℕ}
-use borrow.Author.Tests.{leb-true}
 use lib.Count.{ones, onesIn}
-use lib.Dec.{leb}
-use lib.ListN.{length, replicate}
+use lib.ListN.{replicate}
 use Rattle.table.specs.BitSet.{member, minus, collect, some}
 use Rattle.table.specs.Outcome.{refused, accepted}
 use Rattle.table.specs.Rule.{Rule, cellAt, edge, edgeIn, image, successors, successorsIn}
@@ -16,6 +14,7 @@ use Rattle.table.proofs.Every.{every-weaker}
 use Rattle.table.proofs.Logic.{and-in}
 use Rattle.word.specs.Judging.{judgeQuestions}
 use Rattle.word.specs.Walk.{lengthsFit, lettersBelow, askWalk}
+use Rattle.word.proofs.WalkQuestions.{lengths-in}
 use Rattle.history.specs.Forest.{size, change, listing, namedFrom, named, names, sameNumbers}
 use Rattle.history.specs.Tree.{labels, disjoint, strictlyInside, nodesFit, isTree, startTree}
 use Rattle.history.specs.Letter.{begun, succeeded, youngest, child, sprouting, separated, grownLabels, nextSet, kept, pruned, survivors, nextTree}
@@ -28,7 +27,7 @@ use Rattle.treejudge.specs.JudgeCall.{nameRoom, treeOutcome}
 use Rattle.treejudge.specs.Examples.{Example, starts, steps, judges, refuses, Holds, tableA, tableB, tableC, examples}
 
 -- is the walk accepted, and are these its entry, its period and the finding?
-rowTest : List ℕ → List ℕ → List ℕ → ℕ → ℕ → Finding → Bool
+unfoldable pub rowTest : List ℕ → List ℕ → List ℕ → ℕ → ℕ → Finding → Bool
 unfolding ruleTest verdictTest lengthsFit lettersBelow
 rowTest table u v entry period finding =
     lengthsFit u v && ruleTest (λ R. (lettersBelow (R .letters) u && lettersBelow (R .letters) v) && verdictTest R u v entry period finding) table
@@ -39,16 +38,15 @@ call-accepted : (table u v : List ℕ) (R : Rule) → readRule table ≡ accepte
 unfolding treeOutcome judgeQuestions askWalk
 call-accepted table u v R reads fit below = rw (reads, fit, below)
 
-row-holds : (table u v : List ℕ) (entry period : ℕ) (finding : Finding) → rowTest table u v entry period finding ≡ true
+pub row-holds : (table u v : List ℕ) (entry period : ℕ) (finding : Finding) → rowTest table u v entry period finding ≡ true
     → Holds (judges table u v entry period finding)
-unfolding rowTest lengthsFit
+unfolding rowTest
 row-holds table u v entry period finding h =
     let (fit, h′) = and-in (lengthsFit u v) _ h in
-    let (_, tail) = and-in (leb (length u) _) _ fit in
-    let (filled, _) = and-in (leb 1 (length v)) _ tail in
+    let (_, filled, _) = lengths-in u v fit in
     let (R, reads, passes) = rule-by-test _ table h′ in
     let (below, judged) = and-in (lettersBelow (R .letters) u && lettersBelow (R .letters) v) _ passes in
-    let (repeats, found) = verdict-by-test R u v entry period finding (leb-true 1 (length v) filled) judged in
+    let (repeats, found) = verdict-by-test R u v entry period finding filled judged in
     (R, call-accepted table u v R reads fit below, repeats, found)
 
 -- what is computed of a row, and that the row then holds

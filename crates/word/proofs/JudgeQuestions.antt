@@ -4,7 +4,7 @@ use mathlib.Core.Bool.{_&&_}
 use mathlib.Core.List.{List, []}
 use Prim.Native.Nat.{ℕ, _≤_, _<_}
 use native.Mathlib.Omega.{arith}
-use borrow.Author.Tests.{le-leb, lt-leb, leb-true}
+use borrow.Author.Tests.{le-leb, lt-leb}
 use lib.Dec.{leb}
 use lib.ListN.{length}
 use Rattle.table.specs.Outcome.{Outcome, refused, accepted, ask, _then_, numberOf}
@@ -14,12 +14,11 @@ use Rattle.table.specs.Table.{WellFormed, readRule}
 use Rattle.table.specs.declared.header.Header.{Header}
 use Rattle.table.proofs.Accepted.{IfAccepted, of-accepted, asked}
 use Rattle.table.proofs.GridReading.{RuleRead, read-holds}
-use Rattle.table.proofs.Logic.{and-in}
 use Rattle.table.proofs.Ranges.{in-range}
 use Rattle.table.proofs.RoundTrip.{read-well-formed}
-use Rattle.word.specs.Walk.{maxLength, lengthsFit, lettersBelow, askWalk, walkOutcome}
+use Rattle.word.specs.Walk.{lengthsFit, lettersBelow, askWalk, walkOutcome}
 use Rattle.word.specs.Judging.{judgeQuestions, Judgeable}
-use Rattle.word.proofs.WalkQuestions.{walk-accepted, walk-next, walk-refused}
+use Rattle.word.proofs.WalkQuestions.{lengths-in, walk-accepted, walk-next, walk-refused}
 
 -- what the questions to the table and to the walk say on yes
 pub record Accepted (table v : List ℕ) (R : Rule) : Type 0 where
@@ -67,23 +66,29 @@ module _ (needed : ℕ) (table u v buffer : List ℕ) where
           let (_, _, _, below, below′) = walk-accepted (header .letters) u v (sym e ∙ none) in
           record { rule = r .rule; holds = read-holds r are; lead = below; tail = below′; room = room }
 
+  -- ENOUGH ROOM
+
+  -- with bytes enough for question 10 the outcome is that of a call that wants none and is lent none
+  pub with-room : needed ≤ length buffer → judgeQuestions needed table u v buffer ≡ judgeQuestions 0 table u v []
+  unfolding judgeQuestions
+  with-room h = rw (le-leb needed (length buffer) h)
+
   -- AN ACCEPTED CALL
 
   accepted-in : (R : Rule) → readRule table ≡ accepted R
       → IfAccepted (Accepted table v) (askWalk (R .letters) u v (ask (leb needed (length buffer)) 10 (accepted R)))
-  unfolding askWalk lengthsFit
+  unfolding askWalk
   accepted-in R is =
       asked (Accepted table v) (lengthsFit u v) 7 _ (λ fit.
       asked (Accepted table v) (lettersBelow (R .letters) u && lettersBelow (R .letters) v) 8 _ (λ _.
       asked (Accepted table v) (leb needed (length buffer)) 10 (accepted R) (λ _.
-      let (_, tail) = and-in (leb (length u) maxLength) _ fit in
-      let (filled, _) = and-in (leb 1 (length v)) _ tail in
+      let (_, filled, _) = lengths-in u v fit in
       let (well, range) = read-well-formed table R is in
       record {
         read = is;
         well = well;
         sets = in-range range .some-set;
-        nonempty = λ e. let l : length v ≡ 0 = ap length e in omega (arith, leb-true 1 (length v) filled);
+        nonempty = λ e. let l : length v ≡ 0 = ap length e in omega arith;
       })))
 
   pub accepted-call : (R : Rule) → judgeQuestions needed table u v buffer ≡ accepted R → Accepted table v R

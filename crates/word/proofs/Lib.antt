@@ -6,6 +6,8 @@ pub mod LoopToRun
 pub mod RunToLoop
 pub mod LoopTheorem
 pub mod Variants
+pub mod Respelled
+pub mod Verdicts
 pub mod WalkQuestions
 pub mod JudgeQuestions
 pub mod RefusalNumbers

@@ -26,6 +26,14 @@ unfolding lettersBelow
 below-every m [] h = tt
 below-every m (a ∷ w) h = let (first, rest) = and-in (ltb a m) (lettersBelow m w) h in (ltb-true a m first, below-every m w rest)
 
+-- question 7 answered yes
+pub lengths-in : (u v : List ℕ) → lengthsFit u v ≡ true → (length u ≤ maxLength) × (1 ≤ length v) × (length v ≤ maxLength)
+unfolding lengthsFit
+lengths-in u v fit =
+    let (short, tail) = and-in (leb (length u) maxLength) _ fit in
+    let (filled, short′) = and-in (leb 1 (length v)) _ tail in
+    (leb-true (length u) maxLength short, leb-true 1 (length v) filled, leb-true (length v) maxLength short′)
+
 -- the number 0 means that both questions were answered yes
 both-yes : (fit below : Bool) → numberOf (ask fit 7 (ask below 8 (accepted (tt {0})))) ≡ 0 → (fit ≡ true) × (below ≡ true)
 both-yes true true h = (refl, refl)
@@ -48,18 +56,11 @@ module _ (m : ℕ) (u v : List ℕ) where
   -- an accepted walk has a lead-in and a tail of allowed length, and letters below m
   pub walk-accepted : numberOf (walkOutcome m u v) ≡ 0
       → (length u ≤ maxLength) × (1 ≤ length v) × (length v ≤ maxLength) × Every (λ a. a < m) u × Every (λ a. a < m) v
-  unfolding lengthsFit
   walk-accepted h =
       let (fit, below) = answers-yes h in
-      let (short, tail) = and-in (leb (length u) maxLength) _ fit in
-      let (filled, short′) = and-in (leb 1 (length v)) _ tail in
-      let (in-lead, in-tail) = and-in (lettersBelow m u) _ below in (
-        leb-true (length u) maxLength short,
-        leb-true 1 (length v) filled,
-        leb-true (length v) maxLength short′,
-        below-every m u in-lead,
-        below-every m v in-tail,
-      )
+      let (short, filled, short′) = lengths-in u v fit in
+      let (in-lead, in-tail) = and-in (lettersBelow m u) _ below in
+      (short, filled, short′, below-every m u in-lead, below-every m v in-tail)
 
 module _ {A : Type 0} (m : ℕ) (u v : List ℕ) (next : Outcome A) where
   -- after an accepted walk the call goes on with what follows

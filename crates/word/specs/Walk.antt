@@ -1,5 +1,6 @@
 -- Walks (document 01, "Walks and verdicts"): ultimately periodic words u v v v …, a prefix u (the lead-in) and a
 -- cycle v (the tail) that repeats for ever.
+use mathlib.Core.Path.{_≡_}
 use mathlib.Core.Bool.{Bool, true, _&&_, cond}
 use mathlib.Core.List.{List, [], _∷_, _++_}
 use Prim.Native.Nat.{ℕ, zero, suc, _-_, _%_}
@@ -39,6 +40,10 @@ lettersLeft inCycle u v at = drop at (cond inCycle v u)
 -- "The positions of a walk are numbered from 0 without end: u's letters first, then v's, over and over from v's first."
 unfoldable pub letterAt : List ℕ → List ℕ → ℕ → ℕ
 letterAt u v p = cond (ltb p (length u)) (getD u p 0) (getD v ((p - length u) % length v) 0)
+
+-- document 02, U6: two walks "have the same letter at every position of the endless sequence"
+abbrev pub SameLetters : List ℕ → List ℕ → List ℕ → List ℕ → Type 0
+SameLetters u v u′ v′ = (p : ℕ) → letterAt u v p ≡ letterAt u′ v′ p
 
 -- r rounds: the cycle v, r times
 unfoldable pub rounds : ℕ → List ℕ → List ℕ

@@ -9,7 +9,7 @@ ghost use Rattle.word.specs.Walk.{lengthsFit, lettersBelow, walkOutcome,
 pub const MAX_LENGTH: usize = 4096;
 
 // "Are u and v of allowed length?"
-fn lengths_fit(u: &[u8], v: &[u8]) -> bool
+pub fn lengths_fit(u: &[u8], v: &[u8]) -> bool
     ensures { λ r. ⌜ r ≡ lengthsFit (now (u .entry)) (now (v .entry)) ⌝ }
 {
     if u.len() > MAX_LENGTH {

@@ -1,5 +1,5 @@
-//! Question 10, for every call: no lent byte, one too few, as many as needed,
-//! one more; and that it comes last.
+//! Question 10, for every call that is lent a buffer: no lent byte, one too
+//! few, as many as needed, one more; and that it comes last.
 
 use super::{with, Boundary, A};
 use crate::answers::Numbers;
@@ -8,7 +8,7 @@ use crate::cases::{Case, Walk};
 /// The writer's numbers in both lists.
 const NUMBERS: Numbers = Numbers { states: 2, letters: 1, sets: 1, start: 1 };
 
-/// One call for each kind, all of it as it should be.
+/// One call for each kind that is lent a buffer, all of it as it should be.
 fn accepted() -> [Case; 6] {
     let walk = Walk { table: A.to_vec(), u: vec![1], v: vec![1] };
     [

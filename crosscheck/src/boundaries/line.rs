@@ -28,6 +28,9 @@ fn arguments(case: &Case) -> String {
         Case::Tree(Walk { table, u, v }) | Case::Plain(Walk { table, u, v }) => {
             format!("{}\t{}\t{}", shown(table), shown(u), shown(v))
         }
+        Case::Same((u, v), (other_u, other_v)) => {
+            [u, v, other_u, other_v].map(|part| shown(part)).join("\t")
+        }
     }
 }
 

@@ -122,7 +122,7 @@ fn table_of(case: &Case) -> Option<&[u8]> {
     match case {
         Case::Read(table) | Case::Start(table) | Case::Step(table, ..) => Some(table),
         Case::Tree(walk) | Case::Plain(walk) => Some(&walk.table),
-        Case::Write(..) => None,
+        Case::Write(..) | Case::Same(..) => None,
     }
 }
 

@@ -1,6 +1,7 @@
-//! The checked examples of document 01, put to the reference.
+//! The checked examples of document 01, and two spellings of a walk (U6 of
+//! document 02), put to the reference.
 
-use super::{job, Reference, NAME_LENGTH, RECORD_LENGTH};
+use super::{first_difference, job, Reference, NAME_LENGTH, RECORD_LENGTH};
 use crate::answers::{Calls, Judges, Numbers};
 
 const A: [u8; 12] = [2, 2, 1, 1, 1, 0, 0, 3, 0, 0, 2, 1];
@@ -27,6 +28,21 @@ fn judge(table: &[u8], v: &[u8]) -> (u8, u64, u64, Option<Vec<u8>>) {
 
 fn refusal(table: &[u8], u: &[u8], v: &[u8]) -> u8 {
     Reference.tree_judge(table, u, v, &mut [0; NAME_LENGTH]).number
+}
+
+/// Whether two walks are the same, in both orders.
+fn same(one: [&[u8]; 2], other: [&[u8]; 2]) -> bool {
+    let answers = [[one, other], [other, one]]
+        .map(|[[u, v], [other_u, other_v]]| Reference.same_walk(u, v, other_u, other_v));
+    assert_eq!(answers[0], answers[1]);
+    assert_eq!(answers[0].number, 0);
+    answers[0].same == 1
+}
+
+/// The number and the answer for two walks that are refused.
+fn refused_pair(one: [&[u8]; 2], other: [&[u8]; 2]) -> (u8, u8) {
+    let answer = Reference.same_walk(one[0], one[1], other[0], other[1]);
+    (answer.number, answer.same)
 }
 
 /// The writer's number and length, and the whole buffer after the call.
@@ -144,4 +160,45 @@ fn grids_refused() {
     assert_eq!(write([8, 1, 1, 0x101], &[0; 64], 99), unwritten(3, 99));
     assert_eq!(write([1, 1, 1, 1], &[2], 0), unwritten(11, 0));
     assert_eq!(write([1, 1, 1, 1], &[1], 5), unwritten(10, 5));
+}
+
+#[test]
+fn one_walk_spelled_anew() {
+    let pair: [&[u8]; 2] = [&[], &[0, 1]];
+    assert!(same(pair, pair));
+    assert!(same(pair, [&[], &[0, 1, 0, 1]]));
+    assert!(same(pair, [&[0], &[1, 0]]));
+    assert!(same(pair, [&[0, 1], &[0, 1]]));
+    assert!(same(pair, [&[0], &[1, 0, 1, 0, 1, 0]]));
+    assert!(same([&[7, 0], &[1, 0]], [&[7], &[0, 1, 0, 1]]));
+    assert!(same([&[], &[255; 2]], [&[255], &[255; 3]]));
+    assert!(same([&[5; 4_096], &[5; 4_096]], [&[], &[5]]));
+}
+
+#[test]
+fn different_walks() {
+    // The first three letters agree, as many as can.
+    assert!(!same([&[], &[0, 1]], [&[], &[0, 1, 0]]));
+    assert_eq!(first_difference(&[], &[0, 1], &[], &[0, 1, 0]), Some(3));
+    // Equal tails, other lead-ins.
+    assert!(!same([&[], &[0, 1]], [&[0], &[0, 1]]));
+    assert!(!same([&[0], &[0, 1]], [&[1], &[0, 1]]));
+    assert!(!same([&[2], &[0]], [&[2, 2], &[0]]));
+    // A tail turned with no letter moved.
+    assert!(!same([&[], &[0, 1]], [&[], &[1, 0]]));
+    // The same letters, parted elsewhere.
+    assert!(!same([&[0], &[1, 0]], [&[0, 1], &[0]]));
+}
+
+#[test]
+fn pairs_refused() {
+    let letters = [0; 4_097];
+    let [none, one, long] = [0, 1, 4_097].map(|length| &letters[..length]);
+    let good = [none, one];
+    for bad in [[none, none], [one, none], [long, one], [none, long], [long, none], [long, long]] {
+        assert_eq!(refused_pair(bad, good), (7, 0));
+        assert_eq!(refused_pair(good, bad), (7, 0));
+        assert_eq!(refused_pair(bad, bad), (7, 0));
+    }
+    assert!(same([&long[1..], &long[1..]], [none, &long[1..]]));
 }

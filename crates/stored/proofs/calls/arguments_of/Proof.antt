@@ -23,6 +23,9 @@ enum-told-5 c = search needs
 enum-told-6 : tie.Need-enum-told-6
 enum-told-6 c = search needs
 
+enum-told-7 : tie.Need-enum-told-7
+enum-told-7 c = search needs
+
 returns : tie.Need-returns
 unfolding arguments
 returns c = (rw (c .enum-told .given .1), omega arith)
@@ -47,6 +50,10 @@ returns-6 : tie.Need-returns-6
 unfolding arguments
 returns-6 c = (rw (c .enum-told6 .given .1), omega arith)
 
+returns-7 : tie.Need-returns-7
+unfolding arguments
+returns-7 c = (rw (c .enum-told7 .given .1), omega arith)
+
 pub arguments-of-spec : {M : Type 1} → statement M
 arguments-of-spec =
     tie.close
@@ -57,9 +64,11 @@ arguments-of-spec =
     enum-told-4
     enum-told-5
     enum-told-6
+    enum-told-7
     returns
     returns-2
     returns-3
     returns-4
     returns-5
-    returns-6)
+    returns-6
+    returns-7)

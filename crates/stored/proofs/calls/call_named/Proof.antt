@@ -67,17 +67,29 @@ returns-6 : tie.Need-returns-6
 unfolding nameOf
 returns-6 c = c .before .same6 .ensures .0 (c .if6 .taken)
 
+slice-aggregate-same-7 : tie.Need-slice-aggregate-same-7
+slice-aggregate-same-7 c = refl
+
+same-requires-7 : tie.Need-same-requires-7
+same-requires-7 c κs = search needs
+
 returns-7 : tie.Need-returns-7
 unfolding nameOf
-returns-7 c =
-    let fifth = c .before .before .before in
+returns-7 c = c .before .same7 .ensures .0 (c .if7 .taken)
+
+returns-8 : tie.Need-returns-8
+unfolding nameOf
+returns-8 c =
+    let sixth = c .before .before .before in
+    let fifth = sixth .before .before .before in
     let fourth = fifth .before .before .before in
     let third = fourth .before .before .before in
     let second = third .before .before .before in
     let first = second .before .before .before in
     no-name _ (tests-not (first .before .same .ensures) (first .if1 .left)) (tests-not (second .before .same2 .ensures) (second .if2 .left))
     (tests-not (third .before .same3 .ensures) (third .if3 .left)) (tests-not (fourth .before .same4 .ensures) (fourth .if4 .left))
-    (tests-not (fifth .before .same5 .ensures) (fifth .if5 .left)) (tests-not (c .before .same6 .ensures) (c .if6 .left))
+    (tests-not (fifth .before .same5 .ensures) (fifth .if5 .left)) (tests-not (sixth .before .same6 .ensures) (sixth .if6 .left))
+    (tests-not (c .before .same7 .ensures) (c .if7 .left))
 
 pub call-named-spec : {M : Type 1} → statement M
 call-named-spec =
@@ -101,4 +113,7 @@ call-named-spec =
     slice-aggregate-same-6
     same-requires-6
     returns-6
-    returns-7)
+    slice-aggregate-same-7
+    same-requires-7
+    returns-7
+    returns-8)

@@ -39,6 +39,12 @@ enum-told-6 c = search needs
 plain-right-requires : tie.Need-plain-right-requires
 plain-right-requires c κs = search needs
 
+enum-told-7 : tie.Need-enum-told-7
+enum-told-7 c = search needs
+
+same-right-requires : tie.Need-same-right-requires
+same-right-requires c κs = search needs
+
 same-length : tie.Need-same-length
 same-length c = search needs
 
@@ -87,6 +93,14 @@ returns-6 c =
     let called = c .before .before in
     rw (called .before .before .enum-told6 .given .1) (called .plain-right .ensures)
 
+same-length-7 : tie.Need-same-length-7
+same-length-7 c = search needs
+
+returns-7 : tie.Need-returns-7
+returns-7 c =
+    let called = c .before .before in
+    rw (called .before .before .enum-told7 .given .1) (called .same-right .ensures)
+
 pub numbers-right-spec : {M : Type 1} → statement M
 numbers-right-spec =
     tie.close
@@ -103,6 +117,8 @@ numbers-right-spec =
     tree-right-requires
     enum-told-6
     plain-right-requires
+    enum-told-7
+    same-right-requires
     same-length
     returns
     same-length-2
@@ -114,4 +130,6 @@ numbers-right-spec =
     same-length-5
     returns-5
     same-length-6
-    returns-6)
+    returns-6
+    same-length-7
+    returns-7)

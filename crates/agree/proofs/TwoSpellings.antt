@@ -1,0 +1,110 @@
+-- Two spellings of one walk (document 02, U6): the same verdicts and the same node; entry and period may differ.
+use mathlib.Core.Path.{_≡_, refl, sym, _∙_, ap, ap₂, subst}
+use mathlib.Core.Logic.{inl, inr}
+use mathlib.Core.List.{List, [], _∷_}
+use Prim.Native.Nat.{ℕ}
+use native.Mathlib.Omega.{arith}
+use lib.ListN.{replicate, length-replicate}
+use Rattle.table.specs.Outcome.{Outcome, refused, accepted}
+use Rattle.table.specs.Rule.{Rule}
+use Rattle.word.specs.Judging.{judgeQuestions}
+use Rattle.word.specs.Walk.{rounds, SameLetters}
+use Rattle.word.proofs.JudgeQuestions.{with-room}
+use Rattle.word.proofs.Positions.{filled, letter-unrolled}
+use Rattle.spelling.specs.SameCall.{sameOutcome, SameAnswers}
+use Rattle.spelling.specs.declared.same.SameAnswer.{SameAnswer}
+use Rattle.history.specs.Finding.{Finding, yes-node, no-node}
+use Rattle.history.proofs.Spellings.{found-over}
+use Rattle.treejudge.specs.JudgeCall.{nameRoom, treeOutcome, treeAnswer, namesAfter, Judged, TreeAnswers}
+use Rattle.treejudge.specs.Examples.{judges, Holds}
+use Rattle.treejudge.specs.declared.judge.TreeAnswer.{TreeAnswer}
+use Rattle.treejudge.proofs.Examples.{rowTest, row-holds}
+use Rattle.treejudge.proofs.TreeVerdict.{found-one, tree-determined}
+use Rattle.agree.specs.Agreement.{Right}
+use Rattle.agree.specs.Spellings.{JudgeSays, tree-says, plain-says, TwoSpellings, SameWalkVerdicts, SameNode}
+use Rattle.agree.specs.Spellings.{AlwaysAnswers, tableD, EntryPeriodDiffer}
+use Rattle.agree.proofs.Agreeing.{tree-accepted, tree-right, plain-right, rules-one, right-one}
+
+-- VERDICTS
+
+-- what a judge says is right
+says-right : {table u v : List ℕ} {verdict : ℕ} → JudgeSays table u v verdict → Right table u v verdict
+says-right {table} {u} {v} (tree-says names answer after T zero is) =
+    subst (λ x. Right table u v x) is (tree-right table u v names answer after T zero)
+says-right {table} {u} {v} (plain-says scratch answer P zero is) =
+    subst (λ x. Right table u v x) is (plain-right table u v scratch answer P zero)
+
+pub two-spellings : TwoSpellings
+two-spellings table u v u′ v′ verdict verdict′ same says says′ = right-one table same (says-right says) (says-right says′)
+
+-- the answer 1 of `same_walk`
+one-means-same : (o : Outcome (Unit {0})) (u v u′ v′ : List ℕ) (answer : SameAnswer) → SameAnswers o u v u′ v′ answer → answer .same ≡ 1
+    → SameLetters u v u′ v′
+one-means-same (refused number) u v u′ v′ answer is one =
+    let zero : answer .same ≡ 0 = ap (λ (x : SameAnswer). x .same) is in absurd (omega arith)
+one-means-same (accepted _) u v u′ v′ answer (_, inl (_, same)) one = same
+one-means-same (accepted _) u v u′ v′ answer (_, inr (zero, _)) one = absurd (omega arith)
+
+pub same-walk-verdicts : SameWalkVerdicts
+same-walk-verdicts table u v u′ v′ answer verdict verdict′ allowed one =
+    two-spellings table u v u′ v′ verdict verdict′ (one-means-same (sameOutcome u v u′ v′) u v u′ v′ answer allowed one)
+
+-- THE NODE
+
+-- entry and period stand in the answer
+own-numbers : {R : Rule} {u v names : List ℕ} {answer : TreeAnswer} {after : List ℕ} (J : Judged R u v names answer after)
+    → answer ≡ treeAnswer (answer .entry) (answer .period) (J .finding)
+unfolding treeAnswer
+own-numbers {R} {u} {v} {names} {answer} {after} J = go (J .finding) (J .answers)
+  where
+    with : (f : Finding) → answer .entry ≡ J .entry → answer .period ≡ J .period → answer ≡ treeAnswer (J .entry) (J .period) f
+        → answer ≡ treeAnswer (answer .entry) (answer .period) f
+    with f entry period is = is ∙ sym (ap₂ (λ e p. treeAnswer e p f) entry period)
+
+    go : (f : Finding) → answer ≡ treeAnswer (J .entry) (J .period) f → answer ≡ treeAnswer (answer .entry) (answer .period) f
+    go (yes-node w) is = with (yes-node w) (ap (λ (x : TreeAnswer). x .entry) is) (ap (λ (x : TreeAnswer). x .period) is) is
+    go no-node is = with no-node (ap (λ (x : TreeAnswer). x .entry) is) (ap (λ (x : TreeAnswer). x .period) is) is
+
+pub same-node : SameNode
+same-node table u v u′ v′ names names′ answer answer′ after after′ same T zero T′ zero′ =
+    let A = tree-accepted table u v names answer after T zero in
+    let B = tree-accepted table u′ v′ names′ answer′ after′ T′ zero′ in
+    let J = A .judged in
+    let rules : B .rule ≡ A .rule = rules-one table (B .rule) (A .rule) (B .about .read) (A .about .read) in
+    let K : Judged (A .rule) u′ v′ names′ answer′ after′ = subst (λ R. Judged R u′ v′ names′ answer′ after′) rules (B .judged) in
+    let one : K .finding ≡ J .finding =
+    found-one (A .rule) u′ v′ (K .entry) (K .period) (K .finding) (J .finding) (K .found)
+    (found-over (A .rule) u v u′ v′ same (filled v (A .about .nonempty)) (filled v′ (B .about .nonempty)) (J .entry) (J .period) (K .entry) (K .period)
+    (J .repeat) (K .repeat) (J .finding) (J .found)) in
+    record {
+      finding = J .finding;
+      answers = own-numbers J;
+      answers′ = own-numbers K ∙ ap (λ (f : Finding). treeAnswer (answer′ .entry) (answer′ .period) f) one;
+      leaves = J .leaves;
+      leaves′ = K .leaves ∙ ap (λ (f : Finding). namesAfter f names′) one;
+    }
+
+-- ENTRY AND PERIOD
+
+-- a row of computed examples is what the tree judge answers
+row-answers : (table u v : List ℕ) (entry period : ℕ) (finding : Finding) → Holds (judges table u v entry period finding)
+    → AlwaysAnswers table u v (treeAnswer entry period finding)
+unfolding treeOutcome
+row-answers table u v entry period finding (R, accepts, repeats, found) names answer after room T =
+    tree-determined (accepted R) u v names answer (treeAnswer entry period finding) after (namesAfter finding names)
+    (subst (λ (o : Outcome Rule). TreeAnswers o u v names answer after) here T)
+    (record { entry = entry; period = period; repeat = repeats; finding = finding; found = found; answers = refl; leaves = refl }) .0
+  where
+    blank : List ℕ
+    blank = replicate nameRoom 0
+
+    here : judgeQuestions nameRoom table u v names ≡ accepted R
+    here = with-room nameRoom table u v names room ∙ sym (with-room nameRoom table u v blank (omega (arith, length-replicate {A = ℕ} nameRoom 0))) ∙ accepts
+
+pub entry-period-differ : EntryPeriodDiffer
+unfolding rounds rowTest tableD treeAnswer
+entry-period-differ = record {
+  same = λ p. sym (letter-unrolled [] (0 ∷ []) 1 2 (omega arith) (omega arith) p);
+  first = row-answers tableD [] (0 ∷ []) 1 2 (yes-node []) (row-holds tableD [] (0 ∷ []) 1 2 (yes-node []) refl);
+  second = row-answers tableD (0 ∷ []) (0 ∷ 0 ∷ []) 0 1 (yes-node []) (row-holds tableD (0 ∷ []) (0 ∷ 0 ∷ []) 0 1 (yes-node []) refl);
+}

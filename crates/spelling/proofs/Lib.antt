@@ -1,0 +1,4 @@
+pub mod Periods
+pub mod Positions
+pub mod Spellings
+pub mod SameAnswers

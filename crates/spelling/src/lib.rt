@@ -1,0 +1,2 @@
+// Walks written in two ways: are they one?
+pub mod same;
