@@ -3,18 +3,19 @@
 -- it somewhere, and from there on it is in a child, hence always, for all returns. The child's place among its siblings
 -- never rises and returns, so it is always the same: a child that stays, with fewer nodes below it. So the descent ends,
 -- and it ends with a node that keeps its name and accepts.
-use mathlib.Core.Path.{_≡_, refl, sym, _∙_, ap}
+use mathlib.Core.Path.{_≡_, refl, sym, _∙_}
 use mathlib.Core.Logic.{_⊎_, inl, inr, ⊎-elim}
 use mathlib.Core.Bool.{Bool, true, false, not}
 use mathlib.Core.List.{List, [], _∷_}
-use Prim.Native.Nat.{ℕ, zero, suc, _+_, _*_, _-_, _/_, _%_, _≤_, _<_, pred}
+use Prim.Native.Nat.{ℕ, zero, suc, _+_, _*_, _-_, _%_, _≤_, _<_, pred}
 use native.Mathlib.Omega.{arith}
-use native.Mathlib.Nat.{add-suc, add-zero, zero-add, mul-le-mul-left, div-add-mod', mod-lt}
+use native.Mathlib.Nat.{add-suc, add-zero, zero-add, mul-le-mul-left, mod-lt}
 use Rattle.table.specs.BitSet.{member, some}
 use Rattle.table.specs.Rule.{Rule, edge, edgeIn}
 use Rattle.table.specs.Table.{WellFormed}
 use Rattle.table.proofs.Logic.{look, clash, never, and-both, not-out}
 use Rattle.table.proofs.BitSet.{member-none, some-in, some-out}
+use Rattle.word.proofs.Periods.{Periodic, again, reduced}
 use Rattle.history.specs.Forest.{nil, node, size}
 use Rattle.history.specs.Tree.{Tree, labels}
 use Rattle.history.proofs.BranchFits.{BranchFits, branch-fits}
@@ -48,38 +49,26 @@ use Rattle.history.proofs.OneNode.{
 -- WHAT RETURNS
 
 module _ (period : ℕ) (positive : 0 < period) where
-  -- what returns after a period returns after several
-  returns-again : {A : Type 0} (f : ℕ → A) → ((d : ℕ) → f (d + period) ≡ f d) → (j d : ℕ) → f (d + j * period) ≡ f d
-  returns-again f back zero d = let z : d + 0 * period ≡ d = omega arith in rw z
-  returns-again f back (suc j) d =
-      let z : d + suc j * period ≡ d + j * period + period = omega arith in rw z (back (d + j * period) ∙ returns-again f back j d)
-
-  -- so it has all its values in the first
-  first-period : {A : Type 0} (f : ℕ → A) → ((d : ℕ) → f (d + period) ≡ f d) → (d : ℕ) → f d ≡ f (d % period)
-  first-period f back d =
-      let z : d ≡ d % period + d / period * period = omega (arith, div-add-mod' d period) in
-      ap f z ∙ returns-again f back (d / period) (d % period)
-
   -- what stays true once it is, is always true
-  always : (f : ℕ → Bool) → ((d : ℕ) → f (d + period) ≡ f d) → ((d : ℕ) → f d ≡ true → f (suc d) ≡ true)
+  always : (f : ℕ → Bool) → Periodic period f → ((d : ℕ) → f d ≡ true → f (suc d) ≡ true)
       → (m : ℕ) → f m ≡ true → (d : ℕ) → f d ≡ true
   always f back stays m h d =
       let l : m ≤ d + m * period = omega (arith, mul-le-mul-left m positive) in
       let z : m + (d + m * period - m) ≡ d + m * period = omega arith in
-      sym (returns-again f back m d) ∙ (rw z at (on (d + m * period - m)))
+      sym (again period f back m d) ∙ (rw z at (on (d + m * period - m)))
     where
       on : (e : ℕ) → f (m + e) ≡ true
       on zero = rw add-zero h
       on (suc e) = rw add-suc (stays (m + e) (on e))
 
   -- what never rises is always the same
-  level : (f : ℕ → ℕ) → ((d : ℕ) → f (d + period) ≡ f d) → ((d : ℕ) → f (suc d) ≤ f d) → (d : ℕ) → f d ≡ f 0
+  level : (f : ℕ → ℕ) → Periodic period f → ((d : ℕ) → f (suc d) ≤ f d) → (d : ℕ) → f d ≡ f 0
   level f back falls d =
       let z : d + (d * period - d) ≡ 0 + d * period = omega (arith, mul-le-mul-left d positive) in
       let l : f (0 + d * period) ≤ f d = rw z at (on d (d * period - d)) in
       let h : f (0 + d) ≤ f 0 = on 0 d in
       let h′ : f d ≤ f 0 = rw zero-add at h in
-      omega (arith, returns-again f back d 0)
+      omega (arith, again period f back d 0)
     where
       on : (d e : ℕ) → f (d + e) ≤ f d
       on d zero = rw add-zero (omega arith)
@@ -100,15 +89,15 @@ some-nodes nil q h = clash (member-none q) h
 some-nodes (node x below younger) q h = omega arith
 
 module _ (R : Rule) (well : WellFormed R) (letter : ℕ → ℕ) (period : ℕ) (positive : 0 < period)
-    (letter-back : (d : ℕ) → letter (d + period) ≡ letter d)
+    (letter-back : Periodic period letter)
     (state : ℕ → ℕ) (moves : (d : ℕ) → edge (R .grid) (letter d) (state d) (state (suc d)) ≡ true)
-    (state-back : (d : ℕ) → state (d + period) ≡ state d)
+    (state-back : Periodic period state)
     (takes : (i : ℕ) → 1 ≤ i → i ≤ R .sets → (d : ℕ) × (edgeIn (R .grid) i (letter d) (state d) (state (suc d)) ≡ true)) where
   -- a node that stays, holds the run, and returns with it
   pub record Home (at : ℕ → Branch) (older : ℕ → ℕ) : Type 0 where
     pub stays : (d : ℕ) → at (suc d) ≡ stepBranch R (letter d) (older d) (at d)
-    pub back : (d : ℕ) → at (d + period) ≡ at d
-    pub older-back : (d : ℕ) → older (d + period) ≡ older d
+    pub back : Periodic period at
+    pub older-back : Periodic period older
     pub holds : (d : ℕ) → member (at d .top .label) (state d) ≡ true
     pub fits : BranchFits (R .sets) (at 0)
 
@@ -131,14 +120,14 @@ module _ (R : Rule) (well : WellFormed R) (letter : ℕ → ℕ) (period : ℕ) 
     accepting : ℕ → Bool
     accepting d = accepts R (letter d) (older d) (at d)
 
-    accepting-back : (d : ℕ) → accepting (d + period) ≡ accepting d
+    accepting-back : Periodic period accepting
     unfolding accepting
     accepting-back d = rw (letter-back d, older-back d, back d)
 
     -- it accepts within a period, or never
     accepts-or-not : ((d : ℕ) × (accepting d ≡ true)) ⊎ ((d : ℕ) → accepting d ≡ false)
     accepts-or-not = ⊎-elim (λ h. let (d, _, e) = some-out period accepting h in inl (d, e))
-        (λ h. inr (λ d. first-period period positive accepting accepting-back d
+        (λ h. inr (λ d. reduced period accepting accepting-back d
         ∙ never _ (λ e. clash h (some-in period accepting (d % period) (mod-lt d positive) e))))
         (look (some period accepting))
 

@@ -13,6 +13,7 @@ use Rattle.table.specs.Rule.{Rule, edge, edgeIn}
 use Rattle.table.specs.Table.{WellFormed}
 use Rattle.table.proofs.Logic.{clash, and-both, and-in, not-in}
 use Rattle.table.proofs.BitSet.{member-none, member-lt, some-member}
+use Rattle.word.proofs.Periods.{Periodic}
 use Rattle.history.specs.Forest.{nil, node}
 use Rattle.history.specs.Tree.{Tree, labels}
 use Rattle.history.proofs.Conditions.{OneRoot, IsTree}
@@ -132,9 +133,9 @@ module _ (R : Rule) (letter : ℕ → ℕ) (tree : ℕ → Tree) (next : (d : �
   -- FROM A RUN TO A NAME
 
   module _ (well : WellFormed R) (trees : (d : ℕ) → IsTree (R .states) (R .sets) (tree d)) (period : ℕ) (positive : 0 < period)
-      (letter-back : (d : ℕ) → letter (d + period) ≡ letter d) (tree-back : (d : ℕ) → tree (d + period) ≡ tree d)
+      (letter-back : Periodic period letter) (tree-back : Periodic period tree)
       (state : ℕ → ℕ) (moves : (d : ℕ) → edge (R .grid) (letter d) (state d) (state (suc d)) ≡ true)
-      (state-back : (d : ℕ) → state (d + period) ≡ state d)
+      (state-back : Periodic period state)
       (takes : (i : ℕ) → 1 ≤ i → i ≤ R .sets → (d : ℕ) × (edgeIn (R .grid) i (letter d) (state d) (state (suc d)) ≡ true))
       (begins : member (labels (tree 0)) (state 0) ≡ true) where
     -- the run is in the root always

@@ -1,4 +1,4 @@
-pub mod Periods
-pub mod Positions
+pub mod FineWilf
+pub mod Comparing
 pub mod Spellings
 pub mod SameAnswers

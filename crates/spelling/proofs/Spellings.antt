@@ -8,10 +8,9 @@ use native.Mathlib.Decide.{decLt}
 use lib.ListN.{length, getD, length-append, List·getD-append}
 use lib.Seq.{getD-append-add}
 use Rattle.word.specs.Walk.{letterAt, rounds, SameLetters}
-use Rattle.word.proofs.Positions.{letter-prefix, letter-unrolled}
+use Rattle.word.proofs.Periods.{reduced}
+use Rattle.word.proofs.Positions.{letter-prefix, letter-again, in-tail, letter-unrolled}
 use Rattle.spelling.specs.Spellings.{TailRepeated, LettersMoved}
-use Rattle.spelling.proofs.Periods.{reduced}
-use Rattle.spelling.proofs.Positions.{letter-again, in-tail}
 
 -- THE TAIL SEVERAL TIMES
 

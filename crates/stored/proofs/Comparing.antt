@@ -13,7 +13,7 @@ use Rattle.notation.specs.Decimal.{decimalWithin, numberAnswer}
 use Rattle.notation.specs.Hexadecimal.{byteString, bytesAnswer}
 use Rattle.notation.specs.declared.decimal.Number.{Number}
 use Rattle.notation.specs.declared.hexadecimal.Bytes.{Bytes}
-use Rattle.notation.proofs.Testing.{both-true, three-true, and-yes}
+use Rattle.notation.proofs.Testing.{both-true, four-true, and-yes}
 use Rattle.notation.proofs.DecimalDigits.{number-found, number-only}
 use Rattle.notation.proofs.ByteAnswers.{Holds, bytes-hold}
 use Rattle.stored.specs.Calls.{largestSize, largestMap, RuleText, Gives}
@@ -40,13 +40,6 @@ compared call line lent text after read same numbers gives reads tells = record 
       (bytes, (λ e. rw equal (tells .0 (both-true read same e .1)), λ has. and-yes right (tells .1 (rw (← equal) has))));
   only = λ e. (numbers, gives (both-true read same e .0));
 }
-
--- four answers, all yes
-pub four-true : (a b c d : Bool) → (a && b && c && d) ≡ true → (a ≡ true) × (b ≡ true) × (c ≡ true) × (d ≡ true)
-four-true a b c d e =
-    let (three, fourth) = both-true (a && b && c) d e in
-    let (first, second, third) = three-true a b c three in
-    (first, second, third, fourth)
 
 -- the numbers of a field
 pub field-rule : (line : List ℕ) (number : ℕ) (text : List ℕ) (rule : Rule) → text ≡ fieldAt line number → RuleIs text rule

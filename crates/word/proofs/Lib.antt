@@ -1,4 +1,5 @@
 pub mod Paths
+pub mod Periods
 pub mod Positions
 pub mod Pigeonhole
 pub mod Traces

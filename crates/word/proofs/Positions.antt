@@ -4,7 +4,7 @@ use mathlib.Core.Path.{_≡_, refl, sym, ap, _∙_}
 use mathlib.Core.List.{List, [], _∷_, _++_}
 use Prim.Native.Nat.{ℕ, zero, suc, _+_, _-_, _*_, _%_, _≤_, _<_}
 use native.Mathlib.Omega.{arith}
-use native.Mathlib.Nat.{zero-add, zero-mul, mod-lt, mod-eq-of-lt, add-mod-left, add-mul-mod-self-right}
+use native.Mathlib.Nat.{zero-add, zero-mul, mod-lt, mod-eq-of-lt, add-mod-left, add-mod-right, add-mul-mod-self-right}
 use native.Mathlib.Nat.{mul-pos, mod-mod-of-dvd, dvd-mul-left}
 use native.Mathlib.Decide.{decLt}
 use lib.ListN.{length, getD, length-append, List·getD-append}
@@ -31,6 +31,24 @@ pub letter-round : (u v : List ℕ) (r p : ℕ) → p < length v → letterAt u 
 letter-round u v r p h =
     let q : length u + r * length v + p ≡ length u + (p + r * length v) = omega arith in
     rw (q, letter-cycle, add-mul-mod-self-right, mod-eq-of-lt h)
+
+-- behind the lead-in a letter comes again a tail further on
+pub letter-again : (u v : List ℕ) (p : ℕ) → length u ≤ p → letterAt u v (p + length v) ≡ letterAt u v p
+letter-again u v p h =
+    let q : ℕ = p - length u in
+    let e : p ≡ length u + q = omega arith in
+    let e′ : p + length v ≡ length u + (q + length v) = omega arith in
+    ap (letterAt u v) e′ ∙ letter-cycle u v (q + length v) ∙ ap (λ (x : ℕ). getD v x 0) (add-mod-right q (length v))
+    ∙ sym (letter-cycle u v q) ∙ ap (letterAt u v) (sym e)
+
+-- the first tail's letters, by their places in the tail and by their positions
+pub in-tail : (u v : List ℕ) (q : ℕ) → q < length v → letterAt u v (length u + q) ≡ getD v q 0
+in-tail u v q h = letter-cycle u v q ∙ ap (λ (x : ℕ). getD v x 0) (mod-eq-of-lt h)
+
+pub letter-tail : (u v : List ℕ) (p : ℕ) → length u ≤ p → p < length u + length v → letterAt u v p ≡ getD v (p - length u) 0
+letter-tail u v p h l =
+    let e : p ≡ length u + (p - length u) = omega arith in
+    ap (letterAt u v) e ∙ in-tail u v (p - length u) (omega arith)
 
 -- ROUNDS
 

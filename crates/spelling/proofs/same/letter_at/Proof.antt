@@ -1,8 +1,7 @@
 -- A letter of the lead-in, or of the tail behind it.
 use borrow.Author.Needs.{needs}
 use mathlib.Core.Path.{sym}
-use Rattle.word.proofs.Positions.{letter-prefix}
-use Rattle.spelling.proofs.Positions.{letter-tail}
+use Rattle.word.proofs.Positions.{letter-prefix, letter-tail}
 use Rattle.spelling.proofs.same.letter_at.Statement.{statement}
 use Rattle.spelling.proofs.same.letter_at.Tie as tie
 

@@ -5,7 +5,7 @@ use mathlib.Core.List.{List}
 use Prim.Native.Nat.{ℕ, _≤_, _-_}
 use native.Mathlib.Omega.{arith}
 use Rattle.word.proofs.WalkQuestions.{lengths-in}
-use Rattle.spelling.proofs.Positions.{SameUpTo, GoesOn, goes-from, goes-next, goes-here, same-further, differ-at, agree-up-to}
+use Rattle.spelling.proofs.Comparing.{SameUpTo, GoesOn, goes-from, goes-next, goes-here, same-further, differ-at, agree-up-to}
 use Rattle.spelling.proofs.same.same_letters.Statement.{statement}
 use Rattle.spelling.proofs.same.same_letters.Tie as tie
 

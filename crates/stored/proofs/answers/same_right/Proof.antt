@@ -2,9 +2,9 @@
 use borrow.Author.Needs.{needs}
 use mathlib.Core.Path.{refl}
 use lib.ListN.{take}
-use Rattle.notation.proofs.Testing.{and-yes}
+use Rattle.notation.proofs.Testing.{four-true, and-yes}
 use Rattle.stored.specs.declared.calls.Call.the-variants.{Same}
-use Rattle.stored.proofs.Comparing.{field-holds, four-true, compared}
+use Rattle.stored.proofs.Comparing.{field-holds, compared}
 use Rattle.stored.proofs.answers.same_right.Statement.{statement}
 use Rattle.stored.proofs.answers.same_right.Tie as tie
 

@@ -1,4 +1,4 @@
--- Periodic sequences that agree on one place less than both periods together agree everywhere (Fine and Wilf). No fewer places will do
+-- Two periodic sequences that agree on one place less than both periods together agree everywhere (Fine and Wilf). No fewer places will do
 -- where the periods have no common divisor but 1: 0 1 and 0 1 0, each for ever, agree on three places and not on the fourth.
 use mathlib.Core.Path.{_≡_, sym, _∙_, ap}
 use mathlib.Core.Logic.{_⊎_, inl, inr}
@@ -6,20 +6,7 @@ use Prim.Native.Nat.{ℕ, zero, suc, _+_, _-_, _*_, _/_, _%_, _<_}
 use native.Mathlib.Omega.{arith}
 use native.Mathlib.Nat.{mod-lt, mod-add-div', mul-comm}
 use native.Mathlib.Decide.{decLt}
-
--- the sequence has the period a
-abbrev pub Periodic : ℕ → (ℕ → ℕ) → Type 0
-Periodic a f = (p : ℕ) → f (p + a) ≡ f p
-
-module _ (a : ℕ) (f : ℕ → ℕ) (periodic : Periodic a f) where
-  -- several periods on
-  again : (r k : ℕ) → f (r + k * a) ≡ f r
-  again r zero = let e : r + 0 * a ≡ r = omega arith in ap f e
-  again r (suc k) = let e : r + suc k * a ≡ r + k * a + a = omega arith in ap f e ∙ periodic (r + k * a) ∙ again r k
-
-  -- within the first period
-  pub reduced : (p : ℕ) → f p ≡ f (p % a)
-  reduced p = ap f (sym (mod-add-div' p a)) ∙ again (p % a) (p / a)
+use Rattle.word.proofs.Periods.{Periodic, again, reduced}
 
 -- two sequences, with the periods a and b, that agree on a + b − 1 places
 module _ (a b : ℕ) (f g : ℕ → ℕ) (some : 0 < a) (some′ : 0 < b) (periodic : Periodic a f) (periodic′ : Periodic b g)
@@ -29,7 +16,7 @@ module _ (a b : ℕ) (f g : ℕ → ℕ) (some : 0 < a) (some′ : 0 < b) (perio
   inner p h =
       let r : ℕ = p % a in
       let e : p + b ≡ r + b + p / a * a = omega (arith, mod-add-div' p a) in
-      ap f e ∙ again a f periodic (r + b) (p / a) ∙ same (r + b) (omega arith) ∙ periodic′ r
+      ap f e ∙ again a f periodic (p / a) (r + b) ∙ same (r + b) (omega arith) ∙ periodic′ r
       ∙ sym (same r (omega arith)) ∙ sym (reduced a f periodic p)
 
   -- the last place of the first period a: b places on, and b more, and so on, until the last place of a period comes round
@@ -61,7 +48,7 @@ module _ (a b : ℕ) (f g : ℕ → ℕ) (some : 0 < a) (some′ : 0 < b) (perio
       go (inr e) =
           let z : suc last ≡ a = omega arith in
           let t : suc last * b ≡ b * a = ap (_* b) z ∙ mul-comm a b in
-          e ∙ ap (λ x. f (last + x)) t ∙ again a f periodic last b
+          e ∙ ap (λ x. f (last + x)) t ∙ again a f periodic b last
 
   -- so the first sequence has the period b too
   also : Periodic b f
@@ -72,7 +59,7 @@ module _ (a b : ℕ) (f g : ℕ → ℕ) (some : 0 < a) (some′ : 0 < b) (perio
       go (no l) =
           let z : p % a ≡ last = omega (arith, mod-lt p some) in
           let e : p + b ≡ last + b + p / a * a = omega (arith, mod-add-div' p a, z) in
-          ap f e ∙ again a f periodic (last + b) (p / a) ∙ outer ∙ ap f (sym z) ∙ sym (reduced a f periodic p)
+          ap f e ∙ again a f periodic (p / a) (last + b) ∙ outer ∙ ap f (sym z) ∙ sym (reduced a f periodic p)
 
   -- and the sequences agree everywhere
   pub periods-agree : (p : ℕ) → f p ≡ g p

@@ -1,43 +1,26 @@
--- The letters of a walk by position: how the positions before the end of the first tail go round, and how many letters tell two walks
--- apart.
+-- Letters compared one after the other: how the positions before the end of the first tail go round, and how many letters tell two
+-- walks apart.
 use mathlib.Core.Path.{_≡_, refl, sym, _∙_, ap}
 use mathlib.Core.Logic.{inl, inr}
 use mathlib.Core.Bool.{true}
 use mathlib.Core.List.{List}
 use Prim.Native.Nat.{ℕ, suc, _+_, _-_, _≤_, _<_, max}
 use native.Mathlib.Omega.{arith}
-use native.Mathlib.Nat.{add-mod-right, add-zero, mod-eq-of-lt}
+use native.Mathlib.Nat.{add-zero}
 use native.Mathlib.Decide.{decLt}
-use lib.ListN.{length, getD}
+use lib.ListN.{length}
 use borrow.Author.Tests.{lt-ltb, le-ltb}
 use Rattle.word.specs.Verdict.{Decides}
 use Rattle.word.specs.Walk.{lengthsFit, letterAt, SameLetters}
-use Rattle.word.proofs.Positions.{letter-cycle}
+use Rattle.word.proofs.Periods.{Periodic}
+use Rattle.word.proofs.Positions.{letter-again}
 use Rattle.word.proofs.WalkQuestions.{lengths-in}
 use Rattle.spelling.specs.Comparing.{wrapped}
-use Rattle.spelling.proofs.Periods.{Periodic, periods-agree}
+use Rattle.spelling.proofs.FineWilf.{periods-agree}
 
 -- THE LETTERS OF ONE WALK
 
 module _ (u v : List ℕ) where
-  -- behind the lead-in a letter comes again a tail further on
-  pub letter-again : (p : ℕ) → length u ≤ p → letterAt u v (p + length v) ≡ letterAt u v p
-  letter-again p h =
-      let q : ℕ = p - length u in
-      let e : p ≡ length u + q = omega arith in
-      let e′ : p + length v ≡ length u + (q + length v) = omega arith in
-      ap (letterAt u v) e′ ∙ letter-cycle u v (q + length v) ∙ ap (λ (x : ℕ). getD v x 0) (add-mod-right q (length v))
-      ∙ sym (letter-cycle u v q) ∙ ap (letterAt u v) (sym e)
-
-  -- the first tail's letters, by their places in the tail and by their positions
-  pub in-tail : (q : ℕ) → q < length v → letterAt u v (length u + q) ≡ getD v q 0
-  in-tail q h = letter-cycle u v q ∙ ap (λ (x : ℕ). getD v x 0) (mod-eq-of-lt h)
-
-  pub letter-tail : (p : ℕ) → length u ≤ p → p < length u + length v → letterAt u v p ≡ getD v (p - length u) 0
-  letter-tail p h l =
-      let e : p ≡ length u + (p - length u) = omega arith in
-      ap (letterAt u v) e ∙ in-tail (p - length u) (omega arith)
-
   -- the walk goes on from the position p as from a position before the end of the first tail
   pub record GoesOn (p position : ℕ) : Type 0 where
     pub before : position < length u + length v
@@ -68,7 +51,7 @@ module _ (u v : List ℕ) where
         before = omega arith;
         letters = λ q.
             let z : position + 1 + q ≡ length u + q + length v = omega (arith, g .before) in
-            shifted q ∙ ap (letterAt u v) z ∙ letter-again (length u + q) (omega arith);
+            shifted q ∙ ap (letterAt u v) z ∙ letter-again u v (length u + q) (omega arith);
       })
 
 -- TWO WALKS
