@@ -82,6 +82,10 @@ SuthreldoStart suthreldo_start(const uint8_t *table, size_t table_length, uint8_
 SuthreldoStep suthreldo_step(const uint8_t *table, size_t table_length, uint8_t letter, const uint8_t *record, size_t record_length,
                              uint8_t *buffer, size_t buffer_length);
 
+/* What a judge's answer depends on: n, m, k, the starting map, and the cells of the letters that occur in u or v. Under two accepted tables
+ * that differ in other cells alone each of the two judges gives the same answer to a walk, a refusal too, if the lent buffers have the same
+ * length; and the tree judge writes the same name. */
+
 /* The tree judge. Questions 1 to 8, then 10. Accepted: entry and period of the first repeated tree at a round end.
  * verdict 1 (yes): some endless run of the rule over u and then v for ever goes through every accepting set infinitely often;
  * `length` numbers of the first witnessing node's name stand at the front of `names`, the rest is unchanged.

@@ -50,6 +50,15 @@ answer!(
     SameAnswer { same: u8 }
 );
 
+impl TreeAnswer {
+    /// The node's name, in front of the lent bytes; none unless yes.
+    pub fn name<'a>(&self, names: &'a [u8]) -> &'a [u8] {
+        let yes = (self.number, self.verdict) == (0, 1);
+        let length = if yes { self.length.into() } else { 0 };
+        names.get(..length).unwrap_or(&[])
+    }
+}
+
 /// The two judges.
 pub trait Judges {
     fn tree_judge(&self, table: &[u8], u: &[u8], v: &[u8], names: &mut [u8]) -> TreeAnswer;

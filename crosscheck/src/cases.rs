@@ -1,14 +1,11 @@
-//! One call with its inputs, the lent buffer inside a larger one, and what
-//! comes of it.
+//! One call with its inputs, and what comes of it.
 
 use crate::answers::{
     Calls, Judges, Numbers, PlainAnswer, ReadAnswer, SameAnswer, StartAnswer, StepAnswer,
     TreeAnswer, WriteAnswer,
 };
 use crate::hex;
-use crate::random::Random;
 use crate::reference::{NAME_LENGTH, RECORD_LENGTH, SCRATCH_LENGTH};
-use std::ops::Range;
 
 /// A walk under a table.
 #[derive(Clone)]
@@ -20,6 +17,11 @@ pub struct Walk {
 
 /// A walk under no table: its lead-in and its tail.
 pub type Spelling = (Vec<u8>, Vec<u8>);
+
+/// The lead-in and the tail, as text.
+pub fn shown_spelling((u, v): &Spelling) -> String {
+    format!("{} {}", hex::show(u), hex::show(v))
+}
 
 /// A call and its inputs, the lent buffer left out.
 #[derive(Clone)]
@@ -157,67 +159,9 @@ impl Case {
             Case::Tree(Walk { table, u, v }) | Case::Plain(Walk { table, u, v }) => {
                 format!("{name} {} {} {}", hex::show(table), hex::show(u), hex::show(v))
             }
-            Case::Same((u, v), (other_u, other_v)) => {
-                let [u, v, other_u, other_v] = [u, v, other_u, other_v].map(|part| hex::show(part));
-                format!("{name} {u} {v} {other_u} {other_v}")
+            Case::Same(one, other) => {
+                format!("{name} {} {}", shown_spelling(one), shown_spelling(other))
             }
         }
-    }
-}
-
-/// A large buffer, and the part of it that is lent.
-#[derive(Clone, PartialEq)]
-pub struct Lending {
-    pub whole: Vec<u8>,
-    pub part: Range<usize>,
-}
-
-impl Lending {
-    /// A lent part of an interesting length.
-    pub fn random(random: &mut Random, needed: usize) -> Lending {
-        let length = match random.below(12) {
-            0 => 0,
-            1 => needed.saturating_sub(1),
-            2 => random.below(needed.max(1)),
-            3 | 4 => needed + random.between(1, 40),
-            5 => needed + 1,
-            _ => needed,
-        };
-        Lending::filled(random, length)
-    }
-
-    /// A lent part that is long enough, now and then longer.
-    pub fn enough(random: &mut Random, needed: usize) -> Lending {
-        let longer = random.between(1, 40);
-        let length = needed + random.pick(&[0, 0, 1, longer]);
-        Lending::filled(random, length)
-    }
-
-    /// A lent part of this length, all bytes filled one way or another.
-    fn filled(random: &mut Random, length: usize) -> Lending {
-        let before = random.between(1, 40);
-        let behind = random.between(1, 40);
-        let mut whole = vec![0; before + length + behind];
-        match random.below(8) {
-            0 => {}
-            1 => whole.fill(255),
-            2 => whole.fill(1),
-            _ => random.fill(&mut whole),
-        }
-        Lending { whole, part: before..before + length }
-    }
-
-    pub fn lent(&mut self) -> &mut [u8] {
-        &mut self.whole[self.part.clone()]
-    }
-
-    /// The places where two of them differ, with the part each lies in.
-    pub fn differences(&self, other: &Lending) -> String {
-        let places = (0..self.whole.len()).filter(|at| self.whole[*at] != other.whole[*at]);
-        let shown = places.take(20).map(|at| {
-            let place = at as isize - self.part.start as isize;
-            format!("[{place}] {:02x}/{:02x}", self.whole[at], other.whole[at])
-        });
-        shown.collect::<Vec<_>>().join(" ")
     }
 }

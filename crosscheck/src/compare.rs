@@ -2,9 +2,11 @@
 //! random inputs.
 
 use crate::answers::{Judges, Numbers};
-use crate::cases::{Answer, Case, Lending, Walk, KINDS};
+use crate::cases::{Answer, Case, Walk, KINDS};
+use crate::checks::{self, NUMBERS};
 use crate::ffi;
 use crate::inputs;
+use crate::lending::Lending;
 use crate::pairs;
 use crate::random::Random;
 use crate::reference::Reference;
@@ -97,7 +99,7 @@ struct Count {
     cases: usize,
     differences: usize,
     /// By refusal number; 0 for accepted.
-    numbers: [usize; 13],
+    numbers: [usize; NUMBERS],
 }
 
 /// Whose answers are held against the reference's.
@@ -153,13 +155,7 @@ fn report(counts: &[Count; KINDS.len()]) {
             continue;
         }
         print!("{name:6} {:6} cases {:3} differences", count.cases, count.differences);
-        print!("   accepted {}", count.numbers[0]);
-        for (number, times) in count.numbers.iter().enumerate().skip(1) {
-            if *times != 0 {
-                print!(", {number}: {times}");
-            }
-        }
-        println!();
+        println!("   {}", checks::by_number(&count.numbers));
     }
     let cases: usize = counts.iter().map(|count| count.cases).sum();
     let differences: usize = counts.iter().map(|count| count.differences).sum();

@@ -76,6 +76,15 @@ pub fn waiting_table(random: &mut Random) -> Vec<u8> {
     table_of(&(numbers, grid))
 }
 
+/// A good table; one in three such that the root never accepts.
+pub fn mixed_table(random: &mut Random) -> Vec<u8> {
+    if random.once_in(3) {
+        waiting_table(random)
+    } else {
+        table(random)
+    }
+}
+
 /// Changes, cuts or extends.
 pub fn damage(random: &mut Random, bytes: &mut Vec<u8>) {
     let place = random.below(bytes.len().max(1));
@@ -183,9 +192,7 @@ fn made_record(random: &mut Random, states: usize, sets: usize) -> Vec<u8> {
     // Every node hosts one state, the others go anywhere.
     let mut hosts: Vec<u8> = (0..nodes).map(|node| node as u8).collect();
     hosts.resize_with(count, || random.below(nodes) as u8);
-    for place in (1..count).rev() {
-        hosts.swap(place, random.below(place + 1));
-    }
+    random.shuffle(&mut hosts);
     let mut record = vec![map];
     record.extend(hosts);
     let mut depth = 0;

@@ -5,11 +5,15 @@ mod answers;
 mod bench;
 mod boundaries;
 mod cases;
+mod checks;
 mod compare;
+mod editing;
+mod edits;
 mod ffi;
 mod hex;
 mod inputs;
 mod job;
+mod lending;
 mod pairs;
 mod random;
 mod reference;
@@ -24,6 +28,7 @@ use std::process::ExitCode;
 const USAGE: &str = "usage: crosscheck compare [SEED]
        crosscheck tuned [SEED]
        crosscheck spellings [SEED]
+       crosscheck edits [SEED]
        crosscheck vectors DIR [slow]
        crosscheck bench [DIR] [slow]
        crosscheck boundaries CALLS
@@ -56,6 +61,7 @@ fn run(arguments: &[String]) -> Option<bool> {
         "compare" => Some(compare::compare(seed(argument)?)),
         "tuned" => Some(compare::compare_tuned(seed(argument)?)),
         "spellings" => Some(spellings::spellings(seed(argument)?)),
+        "edits" => Some(edits::edits(seed(argument)?)),
         "vectors" => Some(vectors::vectors(argument?, slow)),
         "bench" => Some(bench::bench(argument.map(String::as_str), slow)),
         "boundaries" => Some(boundaries::boundaries(argument?)),

@@ -2,10 +2,12 @@
 //! them must hold for all. Entry and period may differ and are counted.
 
 use crate::answers::{Calls, PlainAnswer, SameAnswer, TreeAnswer};
-use crate::cases::{Lending, Spelling};
+use crate::cases::{shown_spelling, Spelling};
+use crate::checks::Checks;
 use crate::ffi;
 use crate::hex;
 use crate::inputs;
+use crate::lending::Lending;
 use crate::pairs;
 use crate::random::Random;
 use crate::reference::{Reference, NAME_LENGTH, SCRATCH_LENGTH};
@@ -37,10 +39,8 @@ enum Check {
 const CHECKS: [&str; 5] = ["accepted", "verdict", "node", "same", "changed"];
 
 /// What was counted.
-#[derive(Default)]
 struct Counts {
-    cases: [usize; CHECKS.len()],
-    differences: [usize; CHECKS.len()],
+    checks: Checks<{ CHECKS.len() }>,
     pairs: usize,
     /// Of the pairs, those with a yes, with a node below the root, with other
     /// entries, and with other periods.
@@ -51,23 +51,13 @@ struct Counts {
 }
 
 impl Counts {
-    /// Counts a case; shows it if it differs.
-    fn add(&mut self, check: Check, right: bool, shown: impl Fn() -> String) {
-        self.cases[check as usize] += 1;
-        if !right {
-            self.differences[check as usize] += 1;
-            println!("difference: {} {}", CHECKS[check as usize], shown());
-        }
+    fn new() -> Counts {
+        let checks = Checks::new(CHECKS);
+        Counts { checks, pairs: 0, yes: 0, below_root: 0, entries: 0, periods: 0 }
     }
 
     fn report(&self) {
-        let line = |name: &str, cases: usize, differences: usize| {
-            println!("{name:8} {cases:7} cases {differences:3} differences");
-        };
-        for (name, counted) in CHECKS.iter().zip(self.cases.iter().zip(&self.differences)) {
-            line(name, *counted.0, *counted.1);
-        }
-        line("all", self.cases.iter().sum(), self.differences.iter().sum());
+        self.checks.report();
         println!("{} pairs, {} yes, {} below the root", self.pairs, self.yes, self.below_root);
         println!("the entry differs in {}, the period in {}", self.entries, self.periods);
     }
@@ -89,14 +79,8 @@ fn judged(random: &mut Random, calls: &dyn Calls, table: &[u8], spelling: Spelli
     let mut scratch = Lending::enough(random, SCRATCH_LENGTH);
     let tree = calls.tree_judge(table, u, v, names.lent());
     let plain = calls.plain_judge(table, u, v, scratch.lent());
-    let length = if tree.verdict == 1 { tree.length.into() } else { 0 };
-    let name = names.lent().get(..length).unwrap_or(&[]).to_vec();
+    let name = tree.name(names.lent()).to_vec();
     Judged { spelling, tree, name, plain }
-}
-
-/// The lead-in and the tail, as text.
-fn shown((u, v): &Spelling) -> String {
-    format!("{} {}", hex::show(u), hex::show(v))
 }
 
 /// What two spellings of one walk must have in common under a table.
@@ -104,18 +88,18 @@ fn check_judged(table: &[u8], one: &Judged, other: &Judged, counts: &mut Counts)
     let told = || {
         let answers = |judged: &Judged| {
             let Judged { spelling, tree, name, plain } = judged;
-            format!("\n  {}\n    {tree:?} {name:?} {plain:?}", shown(spelling))
+            format!("\n  {}\n    {tree:?} {name:?} {plain:?}", shown_spelling(spelling))
         };
         format!("{}{}{}", hex::show(table), answers(one), answers(other))
     };
     let verdicts = |judged: &Judged| [judged.tree.verdict, judged.plain.verdict];
     for verdict in verdicts(one) {
         for other_verdict in verdicts(other) {
-            counts.add(Check::Verdict, verdict == other_verdict, told);
+            counts.checks.add(Check::Verdict as usize, verdict == other_verdict, told);
         }
     }
     let same_node = (one.tree.length, &one.name) == (other.tree.length, &other.name);
-    counts.add(Check::Node, same_node, told);
+    counts.checks.add(Check::Node as usize, same_node, told);
     counts.pairs += 1;
     counts.yes += usize::from(one.tree.verdict == 1);
     counts.below_root += usize::from(!one.name.is_empty());
@@ -135,8 +119,8 @@ fn check_same(calls: &dyn Calls, check: Check, walks: [&Spelling; 2], counts: &m
     for (one, other) in [(one, other), (other, one)] {
         let right = same_walk(&Reference, one, other);
         let found = same_walk(calls, one, other);
-        counts.add(check, right == wanted && found == right, || {
-            let walks = format!("{}\n  {}", shown(one), shown(other));
+        counts.checks.add(check as usize, right == wanted && found == right, || {
+            let walks = format!("{}\n  {}", shown_spelling(one), shown_spelling(other));
             format!("{walks}\n  reference {right:?}\n  other     {found:?}")
         });
     }
@@ -144,8 +128,7 @@ fn check_same(calls: &dyn Calls, check: Check, walks: [&Spelling; 2], counts: &m
 
 /// A walk under a table, in three or four spellings.
 fn random_spellings(random: &mut Random) -> (Vec<u8>, Vec<Spelling>) {
-    let table =
-        if random.once_in(3) { inputs::waiting_table(random) } else { inputs::table(random) };
+    let table = inputs::mixed_table(random);
     let reach = inputs::reach(random, LIMIT_IN);
     let (u, v) = inputs::walk(random, reach, table[1].into());
     let mut spellings: Vec<Spelling> = Vec::new();
@@ -163,8 +146,9 @@ fn check_walk(random: &mut Random, calls: &dyn Calls, counts: &mut Counts) {
     for spelling in spellings {
         let judged = judged(random, calls, &table, spelling);
         for number in [judged.tree.number, judged.plain.number] {
-            counts.add(Check::Accepted, number == 0, || {
-                format!("{} {} is refused by {number}", hex::show(&table), shown(&judged.spelling))
+            counts.checks.add(Check::Accepted as usize, number == 0, || {
+                let spelling = shown_spelling(&judged.spelling);
+                format!("{} {spelling} is refused by {number}", hex::show(&table))
             });
         }
         all.push(judged);
@@ -184,13 +168,13 @@ fn check_walk(random: &mut Random, calls: &dyn Calls, counts: &mut Counts) {
 fn run(seed: u64, rounds: usize, calls: &dyn Calls) -> bool {
     let begun = Instant::now();
     let mut random = Random::new(seed);
-    let mut counts = Counts::default();
+    let mut counts = Counts::new();
     for _ in 0..rounds {
         check_walk(&mut random, calls, &mut counts);
     }
     counts.report();
     println!("seed {seed}, {:.1} s", begun.elapsed().as_secs_f64());
-    counts.differences == [0; CHECKS.len()]
+    counts.checks.all_right()
 }
 
 /// The library on walks in several spellings.

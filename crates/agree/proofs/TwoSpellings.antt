@@ -4,25 +4,22 @@ use mathlib.Core.Logic.{inl, inr}
 use mathlib.Core.List.{List, [], _∷_}
 use Prim.Native.Nat.{ℕ}
 use native.Mathlib.Omega.{arith}
-use lib.ListN.{replicate, length-replicate}
 use Rattle.table.specs.Outcome.{Outcome, refused, accepted}
 use Rattle.table.specs.Rule.{Rule}
-use Rattle.word.specs.Judging.{judgeQuestions}
 use Rattle.word.specs.Walk.{rounds, SameLetters}
-use Rattle.word.proofs.JudgeQuestions.{with-room}
 use Rattle.word.proofs.Positions.{filled, letter-unrolled}
+use Rattle.word.proofs.SameAlong.{along-spellings}
 use Rattle.spelling.specs.SameCall.{sameOutcome, SameAnswers}
 use Rattle.spelling.specs.declared.same.SameAnswer.{SameAnswer}
 use Rattle.history.specs.Finding.{Finding, yes-node, no-node}
-use Rattle.history.proofs.Spellings.{found-over}
-use Rattle.treejudge.specs.JudgeCall.{nameRoom, treeOutcome, treeAnswer, namesAfter, Judged, TreeAnswers}
-use Rattle.treejudge.specs.Examples.{judges, Holds}
+use Rattle.history.proofs.SameAlong.{found-along}
+use Rattle.treejudge.specs.JudgeCall.{treeAnswer, namesAfter, Judged}
 use Rattle.treejudge.specs.declared.judge.TreeAnswer.{TreeAnswer}
-use Rattle.treejudge.proofs.Examples.{rowTest, row-holds}
-use Rattle.treejudge.proofs.TreeVerdict.{found-one, tree-determined}
+use Rattle.treejudge.proofs.Examples.{rowTest, row-answers}
+use Rattle.treejudge.proofs.TreeVerdict.{found-one}
 use Rattle.agree.specs.Agreement.{Right}
 use Rattle.agree.specs.Spellings.{JudgeSays, tree-says, plain-says, TwoSpellings, SameWalkVerdicts, SameNode}
-use Rattle.agree.specs.Spellings.{AlwaysAnswers, tableD, EntryPeriodDiffer}
+use Rattle.agree.specs.Spellings.{tableD, EntryPeriodDiffer}
 use Rattle.agree.proofs.Agreeing.{tree-accepted, tree-right, plain-right, rules-one, right-one}
 
 -- VERDICTS
@@ -74,7 +71,7 @@ same-node table u v u′ v′ names names′ answer answer′ after after′ sam
     let K : Judged (A .rule) u′ v′ names′ answer′ after′ = subst (λ R. Judged R u′ v′ names′ answer′ after′) rules (B .judged) in
     let one : K .finding ≡ J .finding =
     found-one (A .rule) u′ v′ (K .entry) (K .period) (K .finding) (J .finding) (K .found)
-    (found-over (A .rule) u v u′ v′ same (filled v (A .about .nonempty)) (filled v′ (B .about .nonempty)) (J .entry) (J .period) (K .entry) (K .period)
+    (found-along (along-spellings (A .rule) u v u′ v′ same) (filled v (A .about .nonempty)) (filled v′ (B .about .nonempty))
     (J .repeat) (K .repeat) (J .finding) (J .found)) in
     record {
       finding = J .finding;
@@ -86,25 +83,10 @@ same-node table u v u′ v′ names names′ answer answer′ after after′ sam
 
 -- ENTRY AND PERIOD
 
--- a row of computed examples is what the tree judge answers
-row-answers : (table u v : List ℕ) (entry period : ℕ) (finding : Finding) → Holds (judges table u v entry period finding)
-    → AlwaysAnswers table u v (treeAnswer entry period finding)
-unfolding treeOutcome
-row-answers table u v entry period finding (R, accepts, repeats, found) names answer after room T =
-    tree-determined (accepted R) u v names answer (treeAnswer entry period finding) after (namesAfter finding names)
-    (subst (λ (o : Outcome Rule). TreeAnswers o u v names answer after) here T)
-    (record { entry = entry; period = period; repeat = repeats; finding = finding; found = found; answers = refl; leaves = refl }) .0
-  where
-    blank : List ℕ
-    blank = replicate nameRoom 0
-
-    here : judgeQuestions nameRoom table u v names ≡ accepted R
-    here = with-room nameRoom table u v names room ∙ sym (with-room nameRoom table u v blank (omega (arith, length-replicate {A = ℕ} nameRoom 0))) ∙ accepts
-
 pub entry-period-differ : EntryPeriodDiffer
 unfolding rounds rowTest tableD treeAnswer
 entry-period-differ = record {
   same = λ p. sym (letter-unrolled [] (0 ∷ []) 1 2 (omega arith) (omega arith) p);
-  first = row-answers tableD [] (0 ∷ []) 1 2 (yes-node []) (row-holds tableD [] (0 ∷ []) 1 2 (yes-node []) refl);
-  second = row-answers tableD (0 ∷ []) (0 ∷ 0 ∷ []) 0 1 (yes-node []) (row-holds tableD (0 ∷ []) (0 ∷ 0 ∷ []) 0 1 (yes-node []) refl);
+  first = row-answers tableD [] (0 ∷ []) 1 2 (yes-node []) refl;
+  second = row-answers tableD (0 ∷ []) (0 ∷ 0 ∷ []) 0 1 (yes-node []) refl;
 }

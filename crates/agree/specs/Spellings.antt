@@ -1,13 +1,13 @@
 -- One walk, two spellings (document 02, U6): what the judges say of two walks that have the same letters.
 use mathlib.Core.Path.{_≡_}
 use mathlib.Core.List.{List, [], _∷_}
-use Prim.Native.Nat.{ℕ, _≤_}
-use lib.ListN.{length}
+use Prim.Native.Nat.{ℕ}
 use Rattle.word.specs.Walk.{SameLetters}
 use Rattle.spelling.specs.SameCall.{sameOutcome, SameAnswers}
 use Rattle.spelling.specs.declared.same.SameAnswer.{SameAnswer}
 use Rattle.history.specs.Finding.{Finding}
-use Rattle.treejudge.specs.JudgeCall.{nameRoom, treeOutcome, treeAnswer, namesAfter, TreeAnswers}
+use Rattle.treejudge.specs.JudgeCall.{treeOutcome, treeAnswer, namesAfter, TreeAnswers}
+use Rattle.treejudge.specs.Examples.{AlwaysAnswers}
 use Rattle.treejudge.specs.declared.judge.TreeAnswer.{TreeAnswer}
 use Rattle.plain.specs.PlainCall.{plainOutcome, PlainAnswers}
 use Rattle.plain.specs.declared.judge.PlainAnswer.{PlainAnswer}
@@ -55,12 +55,6 @@ SameNode =
     → TreeAnswers (treeOutcome table u v names) u v names answer after → answer .number ≡ 0
     → TreeAnswers (treeOutcome table u′ v′ names′) u′ v′ names′ answer′ after′ → answer′ .number ≡ 0
     → SameFinding names names′ answer answer′ after after′
-
--- what the tree judge answers to a table and a walk, whatever buffer with room it is lent
-abbrev pub AlwaysAnswers : List ℕ → List ℕ → List ℕ → TreeAnswer → Type 0
-AlwaysAnswers table u v expected =
-    (names : List ℕ) (answer : TreeAnswer) (after : List ℕ) → nameRoom ≤ length names
-    → TreeAnswers (treeOutcome table u v names) u v names answer after → answer ≡ expected
 
 -- two states, one letter, two sets: both states start, and only state 1 has a transition, to itself, in both sets
 unfoldable pub tableD : List ℕ

@@ -10,7 +10,8 @@ pub mod TreeCode
 pub mod Positional
 -- Trees along a walk: positions, rounds, witnesses.
 pub mod TreesOfWalk
-pub mod Spellings
+pub mod SameSquares
+pub mod SameAlong
 pub mod StatesOfTrees
 pub mod WholeTrees
 pub mod AnyRounds

@@ -4,6 +4,8 @@ pub mod RoundTrip
 pub mod Reading
 pub mod Parts
 pub mod Edges
+pub mod SameSquares
+pub mod LetterCells
 -- Sets and questions.
 pub mod Logic
 pub mod BitSet

@@ -73,7 +73,7 @@ read-many-bytes one bytes c (x ∷ things) rest e h =
     rw (← e, append-assoc (bytes x) (flatMap bytes things) rest, h .0 (flatMap bytes things ++ rest), more)
 
 -- a square, and so a grid, is read back from its bytes
-read-square-bytes : (n k : ℕ) (square : List (List ℕ)) (rest : List ℕ) → SquareFits n k square
+pub read-square-bytes : (n k : ℕ) (square : List (List ℕ)) (rest : List ℕ) → SquareFits n k square
     → readMany (readCell n k n) n (flatMap cellBytes square ++ rest) ≡ accepted (square, rest)
 read-square-bytes n k square rest (long, fits) =
     read-many-bytes (readCell n k n) cellBytes n square rest long

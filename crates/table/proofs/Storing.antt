@@ -10,7 +10,7 @@ use lib.Seq.{length-take-le, set-split, take-at, drop-at, drop-drop}
 use Rattle.table.specs.Storing.{stored}
 
 -- nothing stored
-stored-none : (at : ℕ) (buffer : List ℕ) → stored at [] buffer ≡ buffer
+pub stored-none : (at : ℕ) (buffer : List ℕ) → stored at [] buffer ≡ buffer
 unfolding stored
 stored-none at buffer = rw (add-zero at) (take-append-drop at buffer)
 

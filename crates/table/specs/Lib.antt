@@ -4,6 +4,7 @@ pub mod BitSet
 pub mod Outcome
 pub mod Rule
 pub mod Table
+pub mod Cells
 pub mod Storing
 pub mod ReadCall
 pub mod WriteCall

@@ -25,6 +25,10 @@ pub record Rule : Type 0 where
   -- the transitions
   pub grid : Grid
 
+-- the square of letter a: its cells, a row for each state; none where the rule has no such letter
+abbrev pub squareOf : Rule → ℕ → List (List ℕ)
+squareOf R a = getD (R .grid) a []
+
 -- the byte at letter a, row q, column r; no transition where the grid has no such place
 unfoldable pub cellAt : Grid → ℕ → ℕ → ℕ → ℕ
 cellAt grid a q r = getD (getD (getD grid a []) q []) r noTransition

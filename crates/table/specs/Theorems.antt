@@ -2,12 +2,14 @@
 use mathlib.Core.Path.{_≡_}
 use mathlib.Core.Bool.{true}
 use mathlib.Core.Logic.{_↔_}
-use mathlib.Core.List.{List}
+use mathlib.Core.List.{List, _++_, flatten}
 use Prim.Native.Nat.{ℕ, _≤_}
 use lib.ListN.{length}
 use Rattle.table.specs.Outcome.{accepted, Tells}
-use Rattle.table.specs.Rule.{Rule}
+use Rattle.table.specs.Rule.{Rule, squareOf}
 use Rattle.table.specs.Table.{WellFormed, inRange, tableBytes, gridBytes, readRule}
+use Rattle.table.specs.Cells.{headerBytes, letterCells}
+use Rattle.table.specs.Lookup.{tabulate}
 use Rattle.table.specs.Storing.{stored}
 use Rattle.table.specs.ReadCall.{readOutcome, readAnswer, gridAfter}
 use Rattle.table.specs.WriteCall.{writeOutcome, writeAnswer}
@@ -46,3 +48,16 @@ AcceptedTables =
 -- "A table has 5 to 1,156 bytes."
 abbrev pub AcceptedLengths : Type 0
 AcceptedLengths = (table : List ℕ) (R : Rule) → readRule table ≡ accepted R → (5 ≤ length table) × (length table ≤ 1156)
+
+-- an accepted table is its header, then the cells of letter 0, of letter 1 and so on to letter m−1, and nothing else
+abbrev pub TableByLetters : Type 0
+TableByLetters =
+    (table : List ℕ) (R : Rule) → readRule table ≡ accepted R
+    → headerBytes table ++ flatten (tabulate (R .letters) (letterCells table)) ≡ table
+
+-- two accepted tables with the same header have the same bytes in the cells of a letter just if their rules have the same square of it
+abbrev pub SameCells : Type 0
+SameCells =
+    (table table′ : List ℕ) (R S : Rule) → readRule table ≡ accepted R → readRule table′ ≡ accepted S
+    → headerBytes table ≡ headerBytes table′
+    → (a : ℕ) → (letterCells table a ≡ letterCells table′ a) ↔ (squareOf R a ≡ squareOf S a)

@@ -1,19 +1,21 @@
 -- The examples of document 01 that are marked P: one theorem for the list. Each row is computed: a record or a step by itself, a verdict by
 -- a test that decides it.
-use mathlib.Core.Path.{_≡_, refl}
+use mathlib.Core.Path.{_≡_, refl, sym, _∙_, subst}
 use mathlib.Core.Bool.{Bool, true, _&&_}
 use mathlib.Core.List.{List}
 use Prim.Native.Nat.{ℕ}
+use native.Mathlib.Omega.{arith}
 use lib.Count.{ones, onesIn}
-use lib.ListN.{replicate}
+use lib.ListN.{replicate, length-replicate}
 use Rattle.table.specs.BitSet.{member, minus, collect, some}
-use Rattle.table.specs.Outcome.{refused, accepted}
+use Rattle.table.specs.Outcome.{Outcome, refused, accepted}
 use Rattle.table.specs.Rule.{Rule, cellAt, edge, edgeIn, image, successors, successorsIn}
 use Rattle.table.specs.Table.{Every, inRange, startFits, askHeader, readByte, readTransition, readRow, readCell, readMany, readGrid, ended, readBody, readRule}
 use Rattle.table.proofs.Every.{every-weaker}
 use Rattle.table.proofs.Logic.{and-in}
 use Rattle.word.specs.Judging.{judgeQuestions}
 use Rattle.word.specs.Walk.{lengthsFit, lettersBelow, askWalk}
+use Rattle.word.proofs.JudgeQuestions.{with-room}
 use Rattle.word.proofs.WalkQuestions.{lengths-in}
 use Rattle.history.specs.Forest.{size, change, listing, namedFrom, named, names, sameNumbers}
 use Rattle.history.specs.Tree.{labels, disjoint, strictlyInside, nodesFit, isTree, startTree}
@@ -23,8 +25,9 @@ use Rattle.history.specs.Record.{hostFrom, host, membersFrom, members, marks, r
 use Rattle.history.specs.Finding.{Finding}
 use Rattle.history.proofs.VerdictTest.{verdictTest, verdict-by-test, ruleTest, rule-by-test}
 use Rattle.tree.specs.TreeCalls.{recordRoom, startOutcome, stepOutcome}
-use Rattle.treejudge.specs.JudgeCall.{nameRoom, treeOutcome}
-use Rattle.treejudge.specs.Examples.{Example, starts, steps, judges, refuses, Holds, tableA, tableB, tableC, examples}
+use Rattle.treejudge.specs.JudgeCall.{nameRoom, treeOutcome, treeAnswer, namesAfter, TreeAnswers}
+use Rattle.treejudge.specs.Examples.{Example, starts, steps, judges, refuses, Holds, AlwaysAnswers, tableA, tableB, tableC, examples}
+use Rattle.treejudge.proofs.TreeVerdict.{tree-determined}
 
 -- is the walk accepted, and are these its entry, its period and the finding?
 unfoldable pub rowTest : List ℕ → List ℕ → List ℕ → ℕ → ℕ → Finding → Bool
@@ -38,7 +41,7 @@ call-accepted : (table u v : List ℕ) (R : Rule) → readRule table ≡ accepte
 unfolding treeOutcome judgeQuestions askWalk
 call-accepted table u v R reads fit below = rw (reads, fit, below)
 
-pub row-holds : (table u v : List ℕ) (entry period : ℕ) (finding : Finding) → rowTest table u v entry period finding ≡ true
+row-holds : (table u v : List ℕ) (entry period : ℕ) (finding : Finding) → rowTest table u v entry period finding ≡ true
     → Holds (judges table u v entry period finding)
 unfolding rowTest
 row-holds table u v entry period finding h =
@@ -48,6 +51,24 @@ row-holds table u v entry period finding h =
     let (below, judged) = and-in (lettersBelow (R .letters) u && lettersBelow (R .letters) v) _ passes in
     let (repeats, found) = verdict-by-test R u v entry period finding filled judged in
     (R, call-accepted table u v R reads fit below, repeats, found)
+
+-- a row of computed examples is what the tree judge answers
+pub row-answers : (table u v : List ℕ) (entry period : ℕ) (finding : Finding) → rowTest table u v entry period finding ≡ true
+    → AlwaysAnswers table u v (treeAnswer entry period finding)
+unfolding treeOutcome
+row-answers table u v entry period finding h names answer after room T =
+    let (R, accepts, repeats, found) = row-holds table u v entry period finding h in
+    tree-determined (accepted R) u v names answer (treeAnswer entry period finding) after (namesAfter finding names)
+    (subst (λ (o : Outcome Rule). TreeAnswers o u v names answer after) (as-blank ∙ accepts) T)
+    (record { entry = entry; period = period; repeat = repeats; finding = finding; found = found; answers = refl; leaves = refl }) .0
+  where
+    blank : List ℕ
+    blank = replicate nameRoom 0
+
+    as-blank : judgeQuestions nameRoom table u v names ≡ judgeQuestions nameRoom table u v blank
+    as-blank =
+        with-room nameRoom table u v names room
+        ∙ sym (with-room nameRoom table u v blank (omega (arith, length-replicate {A = ℕ} nameRoom 0)))
 
 -- what is computed of a row, and that the row then holds
 abbrev Computes : Example → Type 0

@@ -1,14 +1,15 @@
 -- The examples of document 01 that are marked P ("Jobs and checked examples"), as rows of one list.
 use mathlib.Core.Path.{_≡_}
 use mathlib.Core.List.{List, [], _∷_}
-use Prim.Native.Nat.{ℕ}
-use lib.ListN.{replicate}
+use Prim.Native.Nat.{ℕ, _≤_}
+use lib.ListN.{length, replicate}
 use Rattle.table.specs.Outcome.{Outcome, refused, accepted}
 use Rattle.table.specs.Rule.{Rule}
 use Rattle.history.specs.Rounds.{roundTree, FirstRepeat}
 use Rattle.history.specs.Finding.{Finding, yes-node, no-node, Found}
 use Rattle.tree.specs.TreeCalls.{startOutcome, Moved, stepOutcome, recordRoom}
-use Rattle.treejudge.specs.JudgeCall.{treeOutcome, nameRoom}
+use Rattle.treejudge.specs.JudgeCall.{treeOutcome, TreeAnswers, nameRoom}
+use Rattle.treejudge.specs.declared.judge.TreeAnswer.{TreeAnswer}
 
 -- a row of the list
 pub data Example : Type 0 where
@@ -30,6 +31,12 @@ Holds (judges table u v entry period finding) =
     (R : Rule) × (treeOutcome table u v (replicate nameRoom 0) ≡ accepted R)
     × FirstRepeat (roundTree R u v) entry period × Found R u v entry period finding
 Holds (refuses table u v number) = treeOutcome table u v (replicate nameRoom 0) ≡ refused number
+
+-- what the tree judge answers to a table and a walk, whatever buffer with room it is lent
+abbrev pub AlwaysAnswers : List ℕ → List ℕ → List ℕ → TreeAnswer → Type 0
+AlwaysAnswers table u v expected =
+    (names : List ℕ) (answer : TreeAnswer) (after : List ℕ) → nameRoom ≤ length names
+    → TreeAnswers (treeOutcome table u v names) u v names answer after → answer ≡ expected
 
 -- Table A, Table B, Table C
 unfoldable pub tableA : List ℕ

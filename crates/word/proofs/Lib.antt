@@ -7,9 +7,10 @@ pub mod LoopToRun
 pub mod RunToLoop
 pub mod LoopTheorem
 pub mod Variants
-pub mod Respelled
+pub mod SameAlong
 pub mod Verdicts
 pub mod WalkQuestions
 pub mod JudgeQuestions
+pub mod TwoTables
 pub mod RefusalNumbers
 pub mod WalkTables

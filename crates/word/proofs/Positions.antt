@@ -10,6 +10,8 @@ use native.Mathlib.Decide.{decLt}
 use lib.ListN.{length, getD, length-append, List·getD-append}
 use lib.Seq.{getD-append-add}
 use borrow.Author.Tests.{lt-ltb, le-ltb}
+use Rattle.table.specs.Table.{Every}
+use Rattle.table.proofs.Every.{every-at}
 use Rattle.word.specs.Walk.{letterAt, rounds}
 
 -- THE LETTER AT A POSITION
@@ -49,6 +51,17 @@ pub letter-tail : (u v : List ℕ) (p : ℕ) → length u ≤ p → p < length u
 letter-tail u v p h l =
     let e : p ≡ length u + (p - length u) = omega arith in
     ap (letterAt u v) e ∙ in-tail u v (p - length u) (omega arith)
+
+-- a property of all letters of a walk
+pub every-letter : (P : ℕ → Type 0) (u v : List ℕ) → 1 ≤ length v → Every P u → Every P v → (p : ℕ) → P (letterAt u v p)
+every-letter P u v filled lead tail p = go (decLt p (length u))
+  where
+    go : Dec (p < length u) → P (letterAt u v p)
+    go (yes h) = rw (letter-prefix u v p h) (every-at P u p 0 lead h)
+    go (no h) =
+        let q : ℕ = p - length u in
+        let e : p ≡ length u + q = omega arith in
+        rw (e, letter-cycle u v q) (every-at P v (q % length v) 0 tail (mod-lt q filled))
 
 -- ROUNDS
 

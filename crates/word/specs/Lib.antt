@@ -4,5 +4,6 @@ pub mod Judging
 pub mod Run
 pub mod Loop
 pub mod Verdict
+pub mod EqualOn
 -- Inside: the look-up tables of a walk.
 pub mod WalkTables
