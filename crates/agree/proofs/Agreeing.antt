@@ -8,8 +8,7 @@ use Rattle.table.specs.Rule.{Rule}
 use Rattle.table.specs.Table.{readRule}
 use Rattle.word.specs.Walk.{SameLetters}
 use Rattle.word.proofs.JudgeQuestions.{Accepted, accepted-call}
-use Rattle.word.proofs.SameAlong.{along-spellings, along-back, run-along}
-use Rattle.word.proofs.Verdicts.{decides-one, decides-same}
+use Rattle.word.proofs.SameAlong.{along-spellings, verdicts-along}
 use Rattle.treejudge.specs.JudgeCall.{nameRoom, treeOutcome, Judged, TreeAnswers}
 use Rattle.treejudge.specs.declared.judge.TreeAnswer.{TreeAnswer}
 use Rattle.treejudge.proofs.TreeVerdict.{tree-decides, tree-determined, tree-number}
@@ -62,8 +61,7 @@ rules-one table R S reads other = let both : accepted R ≡ accepted S = sym rea
 -- and two verdicts that are right of it, on walks with the same letters, are the same
 pub right-one : (table : List ℕ) {u v u′ v′ : List ℕ} {a b : ℕ} → SameLetters u v u′ v′ → Right table u v a → Right table u′ v′ b → a ≡ b
 right-one table {u} {v} {u′} {v′} same (R, reads, d) (S, other, e) =
-    let along = along-spellings R u v u′ v′ same in
-    decides-one (decides-same (run-along along) (run-along (along-back along)) d) (rw (rules-one table R S reads other) e)
+    verdicts-along (along-spellings R u v u′ v′ same) d (rw (rules-one table R S reads other) e)
 
 -- DEMAND 3
 

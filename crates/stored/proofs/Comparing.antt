@@ -10,22 +10,14 @@ use lib.ListN.{length}
 use Rattle.notation.specs.Testing.{Tests, HasNumbers}
 use Rattle.notation.specs.Parts.{space, parts, partAt, fieldAt}
 use Rattle.notation.specs.Decimal.{decimalWithin, numberAnswer}
-use Rattle.notation.specs.Hexadecimal.{byteString, bytesAnswer}
 use Rattle.notation.specs.declared.decimal.Number.{Number}
-use Rattle.notation.specs.declared.hexadecimal.Bytes.{Bytes}
 use Rattle.notation.proofs.Testing.{both-true, four-true, and-yes}
 use Rattle.notation.proofs.DecimalDigits.{number-found, number-only}
-use Rattle.notation.proofs.ByteAnswers.{Holds, bytes-hold}
 use Rattle.stored.specs.Calls.{largestSize, largestMap, RuleText, Gives}
 use Rattle.stored.specs.Comparing.{Compared, RuleIs}
 use Rattle.stored.specs.declared.calls.Call.{Call}
 use Rattle.stored.specs.declared.rules.Rule.{Rule}
 use Rattle.stored.proofs.Determined.{gives-one}
-
--- the bytes of a field
-pub field-holds : (line : List ℕ) (number : ℕ) (text : List ℕ) (b : Bytes) → text ≡ fieldAt line number → b ≡ bytesAnswer (byteString text)
-    → Holds (byteString (fieldAt line number)) b
-field-holds line number text b e is = bytes-hold (byteString (fieldAt line number)) b (is ∙ ap (λ t. bytesAnswer (byteString t)) e)
 
 -- the arguments can be read, and the numbers are compared
 pub compared : (call : Call) (line lent text after : List ℕ) (read same : Bool) (numbers : List ℕ)

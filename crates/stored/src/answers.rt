@@ -1,9 +1,9 @@
 // The library's calls, each with the arguments that a line has. Its answer is held to the numbers that a text has, the
 // refusal number first. Each says whether the line has the call's arguments and the text the answer's numbers.
+use crate::fields::field_bytes;
 use crate::rules::rule_of;
 use notation::decimal::number_of;
 use notation::decimal::numbers_are;
-use notation::hexadecimal::bytes_of;
 use notation::lines::field;
 use plain::judge::plain_judge;
 use spelling::same::same_walk;
@@ -19,7 +19,7 @@ ghost use Rattle.stored.specs.declared.calls.Call.the-variants.{Plain, R
 pub fn read_right(line: &[u8], numbers: &[u8], buffer: &mut [u8]) -> bool
     ensures { λ r. ⌜ Compared Read (now (line .entry)) (now (buffer .entry)) (now (numbers .entry)) (now (buffer .exit)) r ⌝ }
 {
-    let t = bytes_of(field(line, 1));
+    let t = field_bytes(line, 1);
     let table = t.room;
     let end = t.end;
     let given = read(&table[..end], buffer);
@@ -38,7 +38,7 @@ pub fn write_right(line: &[u8], numbers: &[u8], buffer: &mut [u8]) -> bool
     ensures { λ r. ⌜ Compared Write (now (line .entry)) (now (buffer .entry)) (now (numbers .entry)) (now (buffer .exit)) r ⌝ }
 {
     let rule = rule_of(field(line, 1));
-    let g = bytes_of(field(line, 2));
+    let g = field_bytes(line, 2);
     let grid = g.room;
     let end = g.end;
     let given = write(rule.n, rule.m, rule.k, rule.start, &grid[..end], buffer);
@@ -50,7 +50,7 @@ pub fn write_right(line: &[u8], numbers: &[u8], buffer: &mut [u8]) -> bool
 pub fn start_right(line: &[u8], numbers: &[u8], buffer: &mut [u8]) -> bool
     ensures { λ r. ⌜ Compared Start (now (line .entry)) (now (buffer .entry)) (now (numbers .entry)) (now (buffer .exit)) r ⌝ }
 {
-    let t = bytes_of(field(line, 1));
+    let t = field_bytes(line, 1);
     let table = t.room;
     let end = t.end;
     let given = start(&table[..end], buffer);
@@ -62,9 +62,9 @@ pub fn start_right(line: &[u8], numbers: &[u8], buffer: &mut [u8]) -> bool
 pub fn step_right(line: &[u8], numbers: &[u8], buffer: &mut [u8]) -> bool
     ensures { λ r. ⌜ Compared Step (now (line .entry)) (now (buffer .entry)) (now (numbers .entry)) (now (buffer .exit)) r ⌝ }
 {
-    let t = bytes_of(field(line, 1));
+    let t = field_bytes(line, 1);
     let letter = number_of(field(line, 2), 255);
-    let b = bytes_of(field(line, 3));
+    let b = field_bytes(line, 3);
     let table = t.room;
     let t_end = t.end;
     let bytes = b.room;
@@ -83,9 +83,9 @@ pub fn step_right(line: &[u8], numbers: &[u8], buffer: &mut [u8]) -> bool
 pub fn tree_right(line: &[u8], numbers: &[u8], buffer: &mut [u8]) -> bool
     ensures { λ r. ⌜ Compared Tree (now (line .entry)) (now (buffer .entry)) (now (numbers .entry)) (now (buffer .exit)) r ⌝ }
 {
-    let t = bytes_of(field(line, 1));
-    let u = bytes_of(field(line, 2));
-    let v = bytes_of(field(line, 3));
+    let t = field_bytes(line, 1);
+    let u = field_bytes(line, 2);
+    let v = field_bytes(line, 3);
     let table = t.room;
     let t_end = t.end;
     let lead = u.room;
@@ -107,9 +107,9 @@ pub fn tree_right(line: &[u8], numbers: &[u8], buffer: &mut [u8]) -> bool
 pub fn plain_right(line: &[u8], numbers: &[u8], buffer: &mut [u8]) -> bool
     ensures { λ r. ⌜ Compared Plain (now (line .entry)) (now (buffer .entry)) (now (numbers .entry)) (now (buffer .exit)) r ⌝ }
 {
-    let t = bytes_of(field(line, 1));
-    let u = bytes_of(field(line, 2));
-    let v = bytes_of(field(line, 3));
+    let t = field_bytes(line, 1);
+    let u = field_bytes(line, 2);
+    let v = field_bytes(line, 3);
     let table = t.room;
     let t_end = t.end;
     let lead = u.room;
@@ -125,10 +125,10 @@ pub fn plain_right(line: &[u8], numbers: &[u8], buffer: &mut [u8]) -> bool
 pub fn same_right(line: &[u8], numbers: &[u8], buffer: &mut [u8]) -> bool
     ensures { λ r. ⌜ Compared Same (now (line .entry)) (now (buffer .entry)) (now (numbers .entry)) (now (buffer .exit)) r ⌝ }
 {
-    let u = bytes_of(field(line, 1));
-    let v = bytes_of(field(line, 2));
-    let u2 = bytes_of(field(line, 3));
-    let v2 = bytes_of(field(line, 4));
+    let u = field_bytes(line, 1);
+    let v = field_bytes(line, 2);
+    let u2 = field_bytes(line, 3);
+    let v2 = field_bytes(line, 4);
     let lead = u.room;
     let u_end = u.end;
     let tail = v.room;

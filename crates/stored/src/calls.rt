@@ -13,9 +13,9 @@ use crate::answers::start_right;
 use crate::answers::step_right;
 use crate::answers::tree_right;
 use crate::answers::write_right;
+use crate::fields::field_bytes;
 use check::same;
 use notation::hexadecimal::bytes_are;
-use notation::hexadecimal::bytes_of;
 use notation::lines::TAB;
 use notation::lines::field;
 use notation::lines::separators;
@@ -120,7 +120,7 @@ pub fn call_right(line: &[u8]) -> bool
     if separators(line, TAB) != arguments + 3 {
         return false;
     }
-    let lent = bytes_of(field(line, arguments + 1));
+    let lent = field_bytes(line, arguments + 1);
     let mut buffer = lent.room;
     let end = lent.end;
     lent.right & lent_right(call, line, &mut buffer[..end])

@@ -1,7 +1,7 @@
 // Stored jobs. A line: the job, then the program's whole output with each newline written as `\n`. It is right if the
 // library gives this output.
+use crate::fields::field_bytes;
 use job::call::judge_job;
-use notation::hexadecimal::bytes_of;
 use notation::lines::TAB;
 use notation::lines::field;
 use notation::lines::separators;
@@ -26,7 +26,7 @@ pub fn job_right(line: &[u8]) -> bool
     if separators(line, TAB) != 1 {
         return false;
     }
-    let stored = bytes_of(field(line, 0));
+    let stored = field_bytes(line, 0);
     let room = stored.room;
     let end = stored.end;
     stored.right & output_right(&room[..end], field(line, 1))

@@ -2,6 +2,7 @@
 // Prints for each file how many cases it has and how many differ, and names each difference by file and line.
 mod answers;
 mod calls;
+mod fields;
 mod files;
 mod jobs;
 mod rules;

@@ -1,9 +1,11 @@
 -- What the tree judge's contract says: its verdict decides whether an endless run goes through every set infinitely often, its number
--- tells whether the call is accepted, and the contract leaves no choice of the answer or of the buffer.
+-- tells whether the call is accepted, and the contract leaves no choice of the answer or of the buffer. Two rules with the same cells along a
+-- walk are judged alike.
 use mathlib.Core.Path.{_≡_, refl, sym, _∙_, ap}
 use mathlib.Core.Logic.{inl, inr}
 use mathlib.Core.List.{List, []}
 use Prim.Native.Nat.{ℕ, _≤_}
+use lib.ListN.{length}
 use Rattle.table.specs.Outcome.{Outcome, refused, accepted, numberOf}
 use Rattle.table.specs.Rule.{Rule}
 use Rattle.table.specs.Table.{WellFormed}
@@ -13,8 +15,10 @@ use Rattle.history.specs.Rounds.{roundTree}
 use Rattle.history.specs.Finding.{Finding, yes-node, no-node, Found}
 use Rattle.history.proofs.FirstRepeats.{repeat-unique}
 use Rattle.history.proofs.FirstWitness.{first-unique}
+use Rattle.history.proofs.SameAlong.{found-along, repeat-along}
 use Rattle.history.proofs.TreeTheorem.{tree-theorem}
 use Rattle.word.proofs.RefusalNumbers.{judge-tells}
+use Rattle.word.proofs.SameAlong.{SameAlong}
 use Rattle.treejudge.specs.JudgeCall.{nameRoom, treeOutcome, treeAnswer, namesAfter, Judged, TreeAnswers, TreeNumber}
 use Rattle.treejudge.specs.declared.judge.TreeAnswer.{TreeAnswer}
 
@@ -62,12 +66,36 @@ found-one R u v entry period (yes-node w) no-node F none = absurd (none w (F .wi
 found-one R u v entry period no-node (yes-node p) none G = absurd (none p (G .witness))
 found-one R u v entry period no-node no-node F G = refl
 
-pub tree-determined : (o : Outcome Rule) (u v names : List ℕ) (a b : TreeAnswer) (x y : List ℕ)
-    → TreeAnswers o u v names a x → TreeAnswers o u v names b y → (a ≡ b) × (x ≡ y)
-tree-determined (refused number) u v names a b x y (p, kept) (q, kept′) = (p ∙ sym q, kept ∙ sym kept′)
-tree-determined (accepted R) u v names a b x y J K =
+-- two calls that are accepted with one rule and one walk give one answer and have one finding, with whatever buffers
+pub judged-one : {R : Rule} {u v names names′ : List ℕ} {a b : TreeAnswer} {x y : List ℕ} (J : Judged R u v names a x)
+    (K : Judged R u v names′ b y) → (a ≡ b) × (J .finding ≡ K .finding)
+judged-one {R} {u} {v} J K =
     let (e, p) = repeat-unique (roundTree R u v) (J .entry) (J .period) (K .entry) (K .period) (J .repeat) (K .repeat) in
     let f : J .finding ≡ K .finding =
     found-one R u v (K .entry) (K .period) (J .finding) (K .finding) (rw (e, p) at (J .found)) (K .found) in
     let same : treeAnswer (J .entry) (J .period) (J .finding) ≡ treeAnswer (K .entry) (K .period) (K .finding) = rw (e, p, f) in
-    (J .answers ∙ same ∙ sym (K .answers), J .leaves ∙ ap (λ (g : Finding). namesAfter g names) f ∙ sym (K .leaves))
+    (J .answers ∙ same ∙ sym (K .answers), f)
+
+pub tree-determined : (o : Outcome Rule) (u v names : List ℕ) (a b : TreeAnswer) (x y : List ℕ)
+    → TreeAnswers o u v names a x → TreeAnswers o u v names b y → (a ≡ b) × (x ≡ y)
+tree-determined (refused number) u v names a b x y (p, kept) (q, kept′) = (p ∙ sym q, kept ∙ sym kept′)
+tree-determined (accepted R) u v names a b x y J K =
+    let (same, f) = judged-one J K in
+    (same, J .leaves ∙ ap (λ (g : Finding). namesAfter g names) f ∙ sym (K .leaves))
+
+-- TWO RULES ALONG ONE WALK
+
+-- what is judged under one rule is what is judged under the other
+pub judged-along : {R S : Rule} {u v names : List ℕ} {answer : TreeAnswer} {after : List ℕ} → SameAlong R S u v u v → 1 ≤ length v
+    → Judged R u v names answer after → Judged S u v names answer after
+judged-along same filled J =
+    let repeat = repeat-along same filled (J .repeat) in
+    record {
+      entry = J .entry;
+      period = J .period;
+      repeat = repeat;
+      finding = J .finding;
+      found = found-along same filled filled (J .repeat) repeat (J .finding) (J .found);
+      answers = J .answers;
+      leaves = J .leaves;
+    }

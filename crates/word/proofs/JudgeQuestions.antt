@@ -3,7 +3,6 @@ use mathlib.Core.Path.{_≡_, refl, sym, _∙_, ap}
 use mathlib.Core.Bool.{_&&_}
 use mathlib.Core.List.{List, []}
 use Prim.Native.Nat.{ℕ, _≤_, _<_}
-use native.Mathlib.Omega.{arith}
 use borrow.Author.Tests.{le-leb, lt-leb}
 use lib.Dec.{leb}
 use lib.ListN.{length}
@@ -18,7 +17,7 @@ use Rattle.table.proofs.Ranges.{in-range}
 use Rattle.table.proofs.RoundTrip.{read-well-formed}
 use Rattle.word.specs.Walk.{lengthsFit, lettersBelow, askWalk, walkOutcome}
 use Rattle.word.specs.Judging.{judgeQuestions, Judgeable}
-use Rattle.word.proofs.WalkQuestions.{lengths-in, walk-accepted, walk-next, walk-refused}
+use Rattle.word.proofs.WalkQuestions.{fit-nonempty, walk-accepted, walk-next, walk-refused}
 
 -- what the questions to the table and to the walk say on yes
 pub record Accepted (table v : List ℕ) (R : Rule) : Type 0 where
@@ -82,13 +81,12 @@ module _ (needed : ℕ) (table u v buffer : List ℕ) where
       asked (Accepted table v) (lengthsFit u v) 7 _ (λ fit.
       asked (Accepted table v) (lettersBelow (R .letters) u && lettersBelow (R .letters) v) 8 _ (λ _.
       asked (Accepted table v) (leb needed (length buffer)) 10 (accepted R) (λ _.
-      let (_, filled, _) = lengths-in u v fit in
       let (well, range) = read-well-formed table R is in
       record {
         read = is;
         well = well;
         sets = in-range range .some-set;
-        nonempty = λ e. let l : length v ≡ 0 = ap length e in omega arith;
+        nonempty = fit-nonempty u v fit;
       })))
 
   pub accepted-call : (R : Rule) → judgeQuestions needed table u v buffer ≡ accepted R → Accepted table v R

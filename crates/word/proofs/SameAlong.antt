@@ -9,8 +9,10 @@ use Rattle.table.specs.Rule.{Rule, squareOf}
 use Rattle.table.proofs.SameSquares.{same-edge, same-edge-in}
 use Rattle.word.specs.EqualOn.{EqualOn}
 use Rattle.word.specs.Run.{AcceptingRun}
+use Rattle.word.specs.Verdict.{Decides}
 use Rattle.word.specs.Walk.{letterAt, SameLetters}
 use Rattle.word.proofs.Positions.{every-letter}
+use Rattle.word.proofs.Verdicts.{decides-one, decides-same}
 
 -- what a run of R along u, v and one of S along u′, v′ can tell: the states that start, the sets, and the cells at every position
 pub record SameAlong (R S : Rule) (u v u′ v′ : List ℕ) : Type 0 where
@@ -42,6 +44,7 @@ module _ {R S : Rule} {u v u′ v′ : List ℕ} (same : SameAlong R S u v u′ 
 
   -- THE RUNS
 
+  -- an accepting run of one is one of the other
   pub run-along : AcceptingRun R u v → AcceptingRun S u′ v′
   run-along A = record {
     run = record {
@@ -59,3 +62,8 @@ module _ {R S : Rule} {u v u′ v′ : List ℕ} (same : SameAlong R S u v u′ 
     where
       state : ℕ → ℕ
       state = A .run .state
+
+-- so two right verdicts are the same
+pub verdicts-along : {R S : Rule} {u v u′ v′ : List ℕ} {a b : ℕ} → SameAlong R S u v u′ v′
+    → Decides a (AcceptingRun R u v) → Decides b (AcceptingRun S u′ v′) → a ≡ b
+verdicts-along same right right′ = decides-one (decides-same (run-along same) (run-along (along-back same)) right) right′

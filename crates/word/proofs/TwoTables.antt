@@ -2,8 +2,9 @@
 -- go the same way for both.
 use mathlib.Core.Path.{_≡_, refl, ap}
 use mathlib.Core.Bool.{Bool, true, false, _&&_}
-use mathlib.Core.List.{List}
+use mathlib.Core.List.{List, []}
 use Prim.Native.Nat.{ℕ}
+use native.Mathlib.Omega.{arith}
 use lib.Dec.{leb}
 use lib.ListN.{length}
 use Rattle.table.specs.Cells.{letterCells}
@@ -15,6 +16,7 @@ use Rattle.table.proofs.LetterCells.{same-numbers, same-headers, same-cells}
 use Rattle.word.specs.EqualOn.{EqualOn, EqualBytesOn, EqualByBytes}
 use Rattle.word.specs.Judging.{judgeQuestions}
 use Rattle.word.specs.Walk.{lengthsFit, lettersBelow, askWalk}
+use Rattle.word.proofs.WalkQuestions.{fit-nonempty}
 
 -- BYTES AND RULES
 
@@ -44,20 +46,15 @@ equal-by-bytes table table′ u v R S e e′ = (to, from)
 
 -- THE QUESTIONS
 
--- the questions go the same way: both calls are refused by one number, or each is accepted with its own rule
-abbrev pub SameWay : Rule → Rule → Outcome Rule → Outcome Rule → Type 0
-SameWay R S (refused number) (refused number′) = number ≡ number′
-SameWay R S (refused number) (accepted Q) = ⊥
-SameWay R S (accepted P) (refused number′) = ⊥
-SameWay R S (accepted P) (accepted Q) = (P ≡ R) × (Q ≡ S)
-
--- so they do where both have as many letters and the buffers have one length
+-- they go the same way for accepted tables with as many letters and buffers of one length: both calls are refused by one number, or each is
+-- accepted with its own rule, and the tail is not empty. So what holds of two such outcomes holds of the two calls.
 pub same-way : (needed : ℕ) (table table′ u v buffer buffer′ : List ℕ) (R S : Rule) → readRule table ≡ accepted R → readRule table′ ≡ accepted S
-    → R .letters ≡ S .letters → length buffer ≡ length buffer′
-    → SameWay R S (judgeQuestions needed table u v buffer) (judgeQuestions needed table′ u v buffer′)
+    → R .letters ≡ S .letters → length buffer ≡ length buffer′ → (P : Outcome Rule → Outcome Rule → Type 0)
+    → ((number : ℕ) → (number ≡ 0 → ⊥) → P (refused number) (refused number)) → ((v ≡ [] → ⊥) → P (accepted R) (accepted S))
+    → P (judgeQuestions needed table u v buffer) (judgeQuestions needed table′ u v buffer′)
 unfolding judgeQuestions askWalk
-same-way needed table table′ u v buffer buffer′ R S reads reads′ letters long =
-    rw (reads, reads′, ← below, ← room) (go (lengthsFit u v) (both (R .letters)) (leb needed (length buffer)))
+same-way needed table table′ u v buffer buffer′ R S reads reads′ letters long P both-refused both-accepted =
+    rw (reads, reads′, ← below, ← room) (go (lengthsFit u v) refl (both (R .letters)) (leb needed (length buffer)))
   where
     both : ℕ → Bool
     both m = lettersBelow m u && lettersBelow m v
@@ -68,9 +65,9 @@ same-way needed table table′ u v buffer buffer′ R S reads reads′ letters l
     room : leb needed (length buffer) ≡ leb needed (length buffer′)
     room = ap (leb needed) long
 
-    go : (fit below room : Bool)
-        → SameWay R S (ask fit 7 (ask below 8 (ask room 10 (accepted R)))) (ask fit 7 (ask below 8 (ask room 10 (accepted S))))
-    go true true true = (refl, refl)
-    go true true false = refl
-    go true false room = refl
-    go false below room = refl
+    go : (fit : Bool) → lengthsFit u v ≡ fit → (below room : Bool)
+        → P (ask fit 7 (ask below 8 (ask room 10 (accepted R)))) (ask fit 7 (ask below 8 (ask room 10 (accepted S))))
+    go true fits true true = both-accepted (fit-nonempty u v fits)
+    go true fits true false = both-refused 10 (λ e. omega arith)
+    go true fits false room = both-refused 8 (λ e. omega arith)
+    go false fits below room = both-refused 7 (λ e. omega arith)

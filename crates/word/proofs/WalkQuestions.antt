@@ -1,6 +1,6 @@
 -- Questions 7 and 8: how the letters are gone through one by one, and what follows for a walk that is accepted and
 -- for one that is refused.
-use mathlib.Core.Path.{_≡_, refl}
+use mathlib.Core.Path.{_≡_, refl, ap}
 use mathlib.Core.Bool.{Bool, true, false, _&&_}
 use mathlib.Core.List.{List, [], _∷_}
 use Prim.Native.Nat.{ℕ, suc, _≤_, _<_}
@@ -33,6 +33,13 @@ lengths-in u v fit =
     let (short, tail) = and-in (leb (length u) maxLength) _ fit in
     let (filled, short′) = and-in (leb 1 (length v)) _ tail in
     (leb-true (length u) maxLength short, leb-true 1 (length v) filled, leb-true (length v) maxLength short′)
+
+-- so the tail is not empty
+pub fit-nonempty : (u v : List ℕ) → lengthsFit u v ≡ true → v ≡ [] → ⊥
+fit-nonempty u v fit e =
+    let (_, filled, _) = lengths-in u v fit in
+    let none : length v ≡ 0 = ap length e in
+    omega arith
 
 -- the number 0 means that both questions were answered yes
 both-yes : (fit below : Bool) → numberOf (ask fit 7 (ask below 8 (accepted (tt {0})))) ≡ 0 → (fit ≡ true) × (below ≡ true)

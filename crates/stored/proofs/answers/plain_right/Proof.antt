@@ -2,29 +2,21 @@
 use borrow.Author.Needs.{needs}
 use mathlib.Core.Path.{refl}
 use lib.ListN.{take}
+use Rattle.notation.proofs.ByteAnswers.{bytes-hold}
 use Rattle.notation.proofs.Testing.{three-true, and-yes}
 use Rattle.stored.specs.declared.calls.Call.the-variants.{Plain}
-use Rattle.stored.proofs.Comparing.{field-holds, compared}
+use Rattle.stored.proofs.Comparing.{compared}
 use Rattle.stored.proofs.answers.plain_right.Statement.{statement}
 use Rattle.stored.proofs.answers.plain_right.Tie as tie
 
-field-requires : tie.Need-field-requires
-field-requires c κs = search needs
+field-bytes-requires : tie.Need-field-bytes-requires
+field-bytes-requires c κs = search needs
 
-bytes-of-requires : tie.Need-bytes-of-requires
-bytes-of-requires c κs = search needs
+field-bytes-requires-2 : tie.Need-field-bytes-requires-2
+field-bytes-requires-2 c κs = search needs
 
-field-requires-2 : tie.Need-field-requires-2
-field-requires-2 c κs = search needs
-
-bytes-of-requires-2 : tie.Need-bytes-of-requires-2
-bytes-of-requires-2 c κs = search needs
-
-field-requires-3 : tie.Need-field-requires-3
-field-requires-3 c κs = search needs
-
-bytes-of-requires-3 : tie.Need-bytes-of-requires-3
-bytes-of-requires-3 c κs = search needs
+field-bytes-requires-3 : tie.Need-field-bytes-requires-3
+field-bytes-requires-3 c κs = search needs
 
 array-share-prefix-table : tie.Need-array-share-prefix-table
 array-share-prefix-table c = search needs
@@ -47,11 +39,11 @@ slice-aggregate-plain-judge-3 c = search needs
 plain-judge-requires : tie.Need-plain-judge-requires
 plain-judge-requires c κs = search needs
 
-cast-t26 : tie.Need-cast-t26
-cast-t26 c = search needs
+cast-t23 : tie.Need-cast-t23
+cast-t23 c = search needs
 
-cast-t27 : tie.Need-cast-t27
-cast-t27 c = search needs
+cast-t24 : tie.Need-cast-t24
+cast-t24 c = search needs
 
 slice-aggregate-numbers-are : tie.Need-slice-aggregate-numbers-are
 slice-aggregate-numbers-are c = search needs
@@ -66,17 +58,17 @@ returns : tie.Need-returns
 returns c =
     let given = c .before .before .before .before .before .before .before .before .before in
     let tail-read = given .before .before .before .before .before .before .before .before in
-    let tail = field-holds _ _ _ _ (tail-read .before .field3 .ensures) (tail-read .bytes-of3 .ensures .0) in
-    let lead-read = tail-read .before .before in
-    let lead = field-holds _ _ _ _ (lead-read .before .field2 .ensures) (lead-read .bytes-of2 .ensures .0) in
-    let table-read = lead-read .before .before in
-    let table = field-holds _ _ _ _ (table-read .before .field .ensures) (table-read .bytes-of .ensures .0) in
-    let all = three-true (table-read .bytes-of .result .right) (lead-read .bytes-of2 .result .right) (tail-read .bytes-of3 .result .right) in
+    let tail = bytes-hold _ _ (tail-read .field-bytes3 .ensures .0) in
+    let lead-read = tail-read .before in
+    let lead = bytes-hold _ _ (lead-read .field-bytes2 .ensures .0) in
+    let table-read = lead-read .before in
+    let table = bytes-hold _ _ (table-read .field-bytes .ensures .0) in
+    let all = three-true (table-read .field-bytes .result .right) (lead-read .field-bytes2 .result .right) (tail-read .field-bytes3 .result .right) in
     compared Plain _ _ _ _ _ _ _
     (λ right. record {
-      table = take (table-read .bytes-of .result .end) (table-read .bytes-of .result .room);
-      u = take (lead-read .bytes-of2 .result .end) (lead-read .bytes-of2 .result .room);
-      v = take (tail-read .bytes-of3 .result .end) (tail-read .bytes-of3 .result .room);
+      table = take (table-read .field-bytes .result .end) (table-read .field-bytes .result .room);
+      u = take (lead-read .field-bytes2 .result .end) (lead-read .field-bytes2 .result .room);
+      v = take (tail-read .field-bytes3 .result .end) (tail-read .field-bytes3 .result .room);
       has-table = table .only (all right .0);
       has-lead = lead .only (all right .1);
       has-tail = tail .only (all right .2);
@@ -93,12 +85,9 @@ pub plain-right-spec : {M : Type 1} → statement M
 plain-right-spec =
     tie.close
     (tie.spec
-    field-requires
-    bytes-of-requires
-    field-requires-2
-    bytes-of-requires-2
-    field-requires-3
-    bytes-of-requires-3
+    field-bytes-requires
+    field-bytes-requires-2
+    field-bytes-requires-3
     array-share-prefix-table
     slice-aggregate-plain-judge
     array-share-prefix-lead
@@ -106,8 +95,8 @@ plain-right-spec =
     array-share-prefix-tail
     slice-aggregate-plain-judge-3
     plain-judge-requires
-    cast-t26
-    cast-t27
+    cast-t23
+    cast-t24
     slice-aggregate-numbers-are
     numbers-are-requires
     same-length

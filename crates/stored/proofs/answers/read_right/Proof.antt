@@ -2,17 +2,15 @@
 use borrow.Author.Needs.{needs}
 use mathlib.Core.Path.{ap}
 use lib.ListN.{take}
+use Rattle.notation.proofs.ByteAnswers.{bytes-hold}
 use Rattle.stored.specs.Calls.{readNumbers}
 use Rattle.stored.specs.declared.calls.Call.the-variants.{Read}
-use Rattle.stored.proofs.Comparing.{field-holds, compared}
+use Rattle.stored.proofs.Comparing.{compared}
 use Rattle.stored.proofs.answers.read_right.Statement.{statement}
 use Rattle.stored.proofs.answers.read_right.Tie as tie
 
-field-requires : tie.Need-field-requires
-field-requires c κs = search needs
-
-bytes-of-requires : tie.Need-bytes-of-requires
-bytes-of-requires c κs = search needs
+field-bytes-requires : tie.Need-field-bytes-requires
+field-bytes-requires c κs = search needs
 
 array-share-prefix-table : tie.Need-array-share-prefix-table
 array-share-prefix-table c = search needs
@@ -23,11 +21,11 @@ slice-aggregate-read c = search needs
 read-requires : tie.Need-read-requires
 read-requires c κs = search needs
 
-cast-t14 : tie.Need-cast-t14
-cast-t14 c = search needs
+cast-t13 : tie.Need-cast-t13
+cast-t13 c = search needs
 
-cast-t18 : tie.Need-cast-t18
-cast-t18 c = search needs
+cast-t17 : tie.Need-cast-t17
+cast-t17 c = search needs
 
 slice-aggregate-numbers-are : tie.Need-slice-aggregate-numbers-are
 slice-aggregate-numbers-are c = search needs
@@ -42,10 +40,10 @@ returns : tie.Need-returns
 returns c =
     let given = c .before .before .before .before .before .before .before in
     let parsed = given .before .before .before .before in
-    let table = field-holds _ _ _ _ (parsed .before .field .ensures) (parsed .bytes-of .ensures .0) in
+    let table = bytes-hold _ _ (parsed .field-bytes .ensures .0) in
     compared Read _ _ _ _ _ _ _
     (λ right. record {
-      table = take (parsed .bytes-of .result .end) (parsed .bytes-of .result .room);
+      table = take (parsed .field-bytes .result .end) (parsed .field-bytes .result .room);
       has-table = table .only right;
       answers = ap readNumbers (given .read .ensures .0);
       leaves = given .read .ensures .1;
@@ -57,13 +55,12 @@ pub read-right-spec : {M : Type 1} → statement M
 read-right-spec =
     tie.close
     (tie.spec
-    field-requires
-    bytes-of-requires
+    field-bytes-requires
     array-share-prefix-table
     slice-aggregate-read
     read-requires
-    cast-t14
-    cast-t18
+    cast-t13
+    cast-t17
     slice-aggregate-numbers-are
     numbers-are-requires
     same-length

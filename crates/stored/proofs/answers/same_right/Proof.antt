@@ -2,35 +2,24 @@
 use borrow.Author.Needs.{needs}
 use mathlib.Core.Path.{refl}
 use lib.ListN.{take}
+use Rattle.notation.proofs.ByteAnswers.{bytes-hold}
 use Rattle.notation.proofs.Testing.{four-true, and-yes}
 use Rattle.stored.specs.declared.calls.Call.the-variants.{Same}
-use Rattle.stored.proofs.Comparing.{field-holds, compared}
+use Rattle.stored.proofs.Comparing.{compared}
 use Rattle.stored.proofs.answers.same_right.Statement.{statement}
 use Rattle.stored.proofs.answers.same_right.Tie as tie
 
-field-requires : tie.Need-field-requires
-field-requires c κs = search needs
+field-bytes-requires : tie.Need-field-bytes-requires
+field-bytes-requires c κs = search needs
 
-bytes-of-requires : tie.Need-bytes-of-requires
-bytes-of-requires c κs = search needs
+field-bytes-requires-2 : tie.Need-field-bytes-requires-2
+field-bytes-requires-2 c κs = search needs
 
-field-requires-2 : tie.Need-field-requires-2
-field-requires-2 c κs = search needs
+field-bytes-requires-3 : tie.Need-field-bytes-requires-3
+field-bytes-requires-3 c κs = search needs
 
-bytes-of-requires-2 : tie.Need-bytes-of-requires-2
-bytes-of-requires-2 c κs = search needs
-
-field-requires-3 : tie.Need-field-requires-3
-field-requires-3 c κs = search needs
-
-bytes-of-requires-3 : tie.Need-bytes-of-requires-3
-bytes-of-requires-3 c κs = search needs
-
-field-requires-4 : tie.Need-field-requires-4
-field-requires-4 c κs = search needs
-
-bytes-of-requires-4 : tie.Need-bytes-of-requires-4
-bytes-of-requires-4 c κs = search needs
+field-bytes-requires-4 : tie.Need-field-bytes-requires-4
+field-bytes-requires-4 c κs = search needs
 
 array-share-prefix-lead : tie.Need-array-share-prefix-lead
 array-share-prefix-lead c = search needs
@@ -59,11 +48,11 @@ slice-aggregate-same-walk-4 c = search needs
 same-walk-requires : tie.Need-same-walk-requires
 same-walk-requires c κs = search needs
 
-cast-t30 : tie.Need-cast-t30
-cast-t30 c = search needs
+cast-t26 : tie.Need-cast-t26
+cast-t26 c = search needs
 
-cast-t31 : tie.Need-cast-t31
-cast-t31 c = search needs
+cast-t27 : tie.Need-cast-t27
+cast-t27 c = search needs
 
 slice-aggregate-numbers-are : tie.Need-slice-aggregate-numbers-are
 slice-aggregate-numbers-are c = search needs
@@ -75,22 +64,22 @@ returns : tie.Need-returns
 returns c =
     let given = c .before .before .before .before .before .before .before .before in
     let tail2-read = given .before .before .before .before .before .before .before .before .before in
-    let tail2 = field-holds _ _ _ _ (tail2-read .before .field4 .ensures) (tail2-read .bytes-of4 .ensures .0) in
-    let lead2-read = tail2-read .before .before in
-    let lead2 = field-holds _ _ _ _ (lead2-read .before .field3 .ensures) (lead2-read .bytes-of3 .ensures .0) in
-    let tail-read = lead2-read .before .before in
-    let tail = field-holds _ _ _ _ (tail-read .before .field2 .ensures) (tail-read .bytes-of2 .ensures .0) in
-    let lead-read = tail-read .before .before in
-    let lead = field-holds _ _ _ _ (lead-read .before .field .ensures) (lead-read .bytes-of .ensures .0) in
+    let tail2 = bytes-hold _ _ (tail2-read .field-bytes4 .ensures .0) in
+    let lead2-read = tail2-read .before in
+    let lead2 = bytes-hold _ _ (lead2-read .field-bytes3 .ensures .0) in
+    let tail-read = lead2-read .before in
+    let tail = bytes-hold _ _ (tail-read .field-bytes2 .ensures .0) in
+    let lead-read = tail-read .before in
+    let lead = bytes-hold _ _ (lead-read .field-bytes .ensures .0) in
     let all =
-    four-true (lead-read .bytes-of .result .right) (tail-read .bytes-of2 .result .right) (lead2-read .bytes-of3 .result .right)
-    (tail2-read .bytes-of4 .result .right) in
+    four-true (lead-read .field-bytes .result .right) (tail-read .field-bytes2 .result .right) (lead2-read .field-bytes3 .result .right)
+    (tail2-read .field-bytes4 .result .right) in
     compared Same _ _ _ _ _ _ _
     (λ right. record {
-      u = take (lead-read .bytes-of .result .end) (lead-read .bytes-of .result .room);
-      v = take (tail-read .bytes-of2 .result .end) (tail-read .bytes-of2 .result .room);
-      u′ = take (lead2-read .bytes-of3 .result .end) (lead2-read .bytes-of3 .result .room);
-      v′ = take (tail2-read .bytes-of4 .result .end) (tail2-read .bytes-of4 .result .room);
+      u = take (lead-read .field-bytes .result .end) (lead-read .field-bytes .result .room);
+      v = take (tail-read .field-bytes2 .result .end) (tail-read .field-bytes2 .result .room);
+      u′ = take (lead2-read .field-bytes3 .result .end) (lead2-read .field-bytes3 .result .room);
+      v′ = take (tail2-read .field-bytes4 .result .end) (tail2-read .field-bytes4 .result .room);
       has-lead = lead .only (all right .0);
       has-tail = tail .only (all right .1);
       has-lead′ = lead2 .only (all right .2);
@@ -109,14 +98,10 @@ pub same-right-spec : {M : Type 1} → statement M
 same-right-spec =
     tie.close
     (tie.spec
-    field-requires
-    bytes-of-requires
-    field-requires-2
-    bytes-of-requires-2
-    field-requires-3
-    bytes-of-requires-3
-    field-requires-4
-    bytes-of-requires-4
+    field-bytes-requires
+    field-bytes-requires-2
+    field-bytes-requires-3
+    field-bytes-requires-4
     array-share-prefix-lead
     slice-aggregate-same-walk
     array-share-prefix-tail
@@ -126,8 +111,8 @@ same-right-spec =
     array-share-prefix-tail2
     slice-aggregate-same-walk-4
     same-walk-requires
-    cast-t30
-    cast-t31
+    cast-t26
+    cast-t27
     slice-aggregate-numbers-are
     numbers-are-requires
     returns)

@@ -3,31 +3,26 @@ use borrow.Author.Needs.{needs}
 use mathlib.Core.Path.{ap}
 use lib.ListN.{take}
 use native.Mathlib.Omega.{arith}
+use Rattle.notation.proofs.ByteAnswers.{bytes-hold}
 use Rattle.notation.proofs.Testing.{three-true, and-yes}
 use Rattle.notation.proofs.DecimalDigits.{number-found, number-only, number-within}
 use Rattle.stored.specs.Calls.{stepNumbers}
 use Rattle.stored.specs.declared.calls.Call.the-variants.{Step}
-use Rattle.stored.proofs.Comparing.{field-holds, number-there, compared}
+use Rattle.stored.proofs.Comparing.{number-there, compared}
 use Rattle.stored.proofs.answers.step_right.Statement.{statement}
 use Rattle.stored.proofs.answers.step_right.Tie as tie
+
+field-bytes-requires : tie.Need-field-bytes-requires
+field-bytes-requires c κs = search needs
 
 field-requires : tie.Need-field-requires
 field-requires c κs = search needs
 
-bytes-of-requires : tie.Need-bytes-of-requires
-bytes-of-requires c κs = search needs
-
-field-requires-2 : tie.Need-field-requires-2
-field-requires-2 c κs = search needs
-
 number-of-requires : tie.Need-number-of-requires
 number-of-requires c κs = search needs
 
-field-requires-3 : tie.Need-field-requires-3
-field-requires-3 c κs = search needs
-
-bytes-of-requires-2 : tie.Need-bytes-of-requires-2
-bytes-of-requires-2 c κs = search needs
+field-bytes-requires-2 : tie.Need-field-bytes-requires-2
+field-bytes-requires-2 c κs = search needs
 
 array-share-prefix-table : tie.Need-array-share-prefix-table
 array-share-prefix-table c = search needs
@@ -36,7 +31,7 @@ slice-aggregate-step : tie.Need-slice-aggregate-step
 slice-aggregate-step c = search needs
 
 cast-step : tie.Need-cast-step
-cast-step c = omega (arith, number-within 255 _ _ (c .before .before .before .before .before .before .number-of .ensures))
+cast-step c = omega (arith, number-within 255 _ _ (c .before .before .before .before .before .number-of .ensures))
 
 array-share-prefix-bytes : tie.Need-array-share-prefix-bytes
 array-share-prefix-bytes c = search needs
@@ -47,14 +42,14 @@ slice-aggregate-step-2 c = search needs
 step-requires : tie.Need-step-requires
 step-requires c κs = search needs
 
+cast-t21 : tie.Need-cast-t21
+cast-t21 c = search needs
+
 cast-t23 : tie.Need-cast-t23
 cast-t23 c = search needs
 
-cast-t25 : tie.Need-cast-t25
-cast-t25 c = search needs
-
-cast-t26 : tie.Need-cast-t26
-cast-t26 c = search needs
+cast-t24 : tie.Need-cast-t24
+cast-t24 c = search needs
 
 slice-aggregate-numbers-are : tie.Need-slice-aggregate-numbers-are
 slice-aggregate-numbers-are c = search needs
@@ -69,17 +64,17 @@ returns : tie.Need-returns
 returns c =
     let given = c .before .before .before .before .before .before .before .before .before .before in
     let bytes-read = given .before .before .before .before .before .before .before in
-    let bytes = field-holds _ _ _ _ (bytes-read .before .field3 .ensures) (bytes-read .bytes-of2 .ensures .0) in
-    let table-read = bytes-read .before .before .before .before in
-    let table = field-holds _ _ _ _ (table-read .before .field .ensures) (table-read .bytes-of .ensures .0) in
-    let letter-read = bytes-read .before .before in
-    let letter = number-there 255 _ _ _ (letter-read .before .field2 .ensures) (letter-read .number-of .ensures) in
-    let all = three-true (table-read .bytes-of .result .right) (letter-read .number-of .result .right) (bytes-read .bytes-of2 .result .right) in
+    let bytes = bytes-hold _ _ (bytes-read .field-bytes2 .ensures .0) in
+    let table-read = bytes-read .before .before .before in
+    let table = bytes-hold _ _ (table-read .field-bytes .ensures .0) in
+    let letter-read = bytes-read .before in
+    let letter = number-there 255 _ _ _ (letter-read .before .field .ensures) (letter-read .number-of .ensures) in
+    let all = three-true (table-read .field-bytes .result .right) (letter-read .number-of .result .right) (bytes-read .field-bytes2 .result .right) in
     compared Step _ _ _ _ _ _ _
     (λ right. record {
-      table = take (table-read .bytes-of .result .end) (table-read .bytes-of .result .room);
+      table = take (table-read .field-bytes .result .end) (table-read .field-bytes .result .room);
       letter = letter-read .number-of .result .value;
-      bytes = take (bytes-read .bytes-of2 .result .end) (bytes-read .bytes-of2 .result .room);
+      bytes = take (bytes-read .field-bytes2 .result .end) (bytes-read .field-bytes2 .result .room);
       has-table = table .only (all right .0);
       has-letter = number-only _ _ letter (all right .1);
       has-bytes = bytes .only (all right .2);
@@ -95,21 +90,19 @@ pub step-right-spec : {M : Type 1} → statement M
 step-right-spec =
     tie.close
     (tie.spec
+    field-bytes-requires
     field-requires
-    bytes-of-requires
-    field-requires-2
     number-of-requires
-    field-requires-3
-    bytes-of-requires-2
+    field-bytes-requires-2
     array-share-prefix-table
     slice-aggregate-step
     cast-step
     array-share-prefix-bytes
     slice-aggregate-step-2
     step-requires
+    cast-t21
     cast-t23
-    cast-t25
-    cast-t26
+    cast-t24
     slice-aggregate-numbers-are
     numbers-are-requires
     same-length

@@ -1,7 +1,7 @@
 -- A stored call: its line.
 use borrow.Author.Needs.{needs}
+use Rattle.notation.proofs.ByteAnswers.{bytes-hold}
 use Rattle.notation.proofs.Testing.{tests-no}
-use Rattle.stored.proofs.Comparing.{field-holds}
 use Rattle.stored.proofs.RightLines.{not-named, is-named, not-whole, line-tests}
 use Rattle.stored.proofs.calls.call_right.Statement.{statement}
 use Rattle.stored.proofs.calls.call_right.Tie as tie
@@ -41,14 +41,11 @@ returns-2 c =
     tests-no
     (not-whole _ _ _ _ _ (named .before .field .ensures) is (counted .arguments-of .ensures .0) (c .before .separators .ensures) (c .if1 .taken))
 
-add-field : tie.Need-add-field
-add-field c = search needs
+add-field-bytes : tie.Need-add-field-bytes
+add-field-bytes c = search needs
 
-field-requires-2 : tie.Need-field-requires-2
-field-requires-2 c κs = search needs
-
-bytes-of-requires : tie.Need-bytes-of-requires
-bytes-of-requires c κs = search needs
+field-bytes-requires : tie.Need-field-bytes-requires
+field-bytes-requires c κs = search needs
 
 array-borrow-prefix-buffer : tie.Need-array-borrow-prefix-buffer
 array-borrow-prefix-buffer c = search needs
@@ -62,13 +59,13 @@ lent-right-requires c κs = search needs
 returns-3 : tie.Need-returns-3
 returns-3 c =
     let read = c .before .before .before .before .before in
-    let left = read .before .before in
+    let left = read .before in
     let counted = left .before .before in
     let known = counted .before .before in
     let named = known .before .before in
     let is = is-named _ _ _ (named .call-named .ensures) (known .call .given .1) in
     line-tests _ _ _ _ _ _ _ (named .before .field .ensures) is (counted .arguments-of .ensures .0) (left .before .separators .ensures)
-    (left .if1 .left) (field-holds _ _ _ _ (read .before .field2 .ensures) (read .bytes-of .ensures .0)) (c .before .before .lent-right .ensures)
+    (left .if1 .left) (bytes-hold _ _ (read .field-bytes .ensures .0)) (c .before .before .lent-right .ensures)
 
 pub call-right-spec : {M : Type 1} → statement M
 call-right-spec =
@@ -83,9 +80,8 @@ call-right-spec =
     separators-requires
     add-if1
     returns-2
-    add-field
-    field-requires-2
-    bytes-of-requires
+    add-field-bytes
+    field-bytes-requires
     array-borrow-prefix-buffer
     slice-aggregate-lent-right
     lent-right-requires
