@@ -45,7 +45,10 @@ static void do_plain(void)
 {
     number = suthreldo_plain_judge(table, table_length, u, u_length, v, v_length, scratch, sizeof scratch).number;
 }
-
+static void do_successors(void)
+{
+    number = suthreldo_successors(table, table_length, v[0], 0xFFFF).number;
+}
 static void do_same(void)
 {
     number = suthreldo_same_walk(u, u_length, v, v_length, u, u_length, v, v_length).number;
@@ -83,7 +86,7 @@ int main(int argc, char **argv)
     size_t none = used(nothing);
     const struct { const char *name; void (*call)(void); } calls[] = {
         {"read", do_read}, {"write", do_write}, {"start", do_start}, {"step", do_step}, {"tree judge", do_tree}, {"plain judge", do_plain},
-        {"same walk", do_same},
+        {"same walk", do_same}, {"successors", do_successors},
     };
     for (size_t i = 0; i < sizeof calls / sizeof calls[0]; i++) {
         used(calls[i].call); /* the first time the system binds what the call uses, on the same stack */

@@ -24,7 +24,7 @@ extern "C" {
 
 /* The version of this interface. The first number changes when a call or a struct does, the second when a call is added. */
 #define SUTHRELDO_VERSION_MAJOR 2
-#define SUTHRELDO_VERSION_MINOR 1
+#define SUTHRELDO_VERSION_MINOR 2
 
 /* The numbers of refusals, in the order in which they are asked. */
 #define SUTHRELDO_ACCEPTED 0
@@ -62,6 +62,7 @@ typedef struct { uint8_t number; size_t written; uint16_t accepting, stable; } S
 typedef struct { uint8_t number, verdict; uint64_t entry, period; uint8_t length; } SuthreldoTree;
 typedef struct { uint8_t number, verdict; } SuthreldoPlain;
 typedef struct { uint8_t number, same; } SuthreldoSame;
+typedef struct { uint8_t number; uint16_t next, reached[SUTHRELDO_SETS]; } SuthreldoSuccessors;
 
 /* Reads a rule table into grid bytes. Questions 1 to 6, then 10. Accepted: n, m, k and the map of starting states; the first
  * m·n·n bytes of `grid` are the rule's grid, the rest is unchanged. Stack: 2,440 bytes. */
@@ -71,6 +72,13 @@ SuthreldoRead suthreldo_read(const uint8_t *table, size_t table_length, uint8_t 
  * the front of `table`, the rest is unchanged. Stack: 80 bytes. */
 SuthreldoWrite suthreldo_write(size_t n, size_t m, size_t k, uint16_t start, const uint8_t *grid, size_t grid_length,
                                uint8_t *table, size_t table_length);
+
+/* Where a set of states leads under a letter, and by which accepting sets. Questions 1 to 6, then 8. `set` is a map, bit q for state q;
+ * every number is allowed, and bits from n up add nothing. Accepted: `next` is the map of the states r to which some state of the set has
+ * a transition under the letter; reached[i - 1], for i from 1 to k, is the map of those r to which one of these transitions belongs to set
+ * i; reached has 0 for the sets from k + 1 up. So a letter can serve set i just where, with 0xFFFF for the set, reached[i - 1] is not 0.
+ * Stack: 2,616 bytes. */
+SuthreldoSuccessors suthreldo_successors(const uint8_t *table, size_t table_length, uint8_t letter, uint16_t set);
 
 /* The record of a table's starting tree. Questions 1 to 6, then 10. Accepted: the record's length; exactly the record is
  * written to the front of `buffer`, the rest unchanged. Stack: 2,280 bytes. */

@@ -1,4 +1,4 @@
-//! The answers of the seven calls, and the calls as traits, so that the
+//! The answers of the eight calls, and the calls as traits, so that the
 //! reference, the tuned code and the library can stand for each other.
 
 macro_rules! answer {
@@ -49,6 +49,11 @@ answer!(
     /// Of the comparison of two walks: 1 if they are the same.
     SameAnswer { same: u8 }
 );
+answer!(
+    /// Of the look-up of successors: the map of the next states, and for each
+    /// accepting set the map of those reached by a transition of that set.
+    SuccessorsAnswer { next: u16, reached: [u16; 4] }
+);
 
 impl TreeAnswer {
     /// The node's name, in front of the lent bytes; none unless yes.
@@ -74,11 +79,12 @@ pub struct Numbers {
     pub start: u16,
 }
 
-/// All seven calls.
+/// All eight calls.
 pub trait Calls: Judges {
     fn read(&self, table: &[u8], grid: &mut [u8]) -> ReadAnswer;
     fn write(&self, numbers: Numbers, grid: &[u8], table: &mut [u8]) -> WriteAnswer;
     fn start(&self, table: &[u8], buffer: &mut [u8]) -> StartAnswer;
     fn step(&self, table: &[u8], letter: u8, record: &[u8], buffer: &mut [u8]) -> StepAnswer;
     fn same_walk(&self, u: &[u8], v: &[u8], other_u: &[u8], other_v: &[u8]) -> SameAnswer;
+    fn successors(&self, table: &[u8], letter: u8, set: u16) -> SuccessorsAnswer;
 }

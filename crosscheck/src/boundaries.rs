@@ -1,7 +1,8 @@
 //! Boundary cases: for each call and each question that applies to it, the
-//! last accepted and the first refused input; and walks that are just the
-//! same, or just not. The answers are the reference's. A case at a boundary
-//! that the stored calls already have is left out.
+//! last accepted and the first refused input; walks that are just the same, or
+//! just not; and sets of states, up to all and beyond. The answers are the
+//! reference's. A case at a boundary that the stored calls already have is left
+//! out.
 
 mod buffers;
 mod examples;
@@ -9,6 +10,7 @@ mod grids;
 mod line;
 mod records;
 mod spellings;
+mod successors;
 mod tables;
 mod walks;
 
@@ -24,6 +26,10 @@ const NOTE: &str = "\
 
 /// The format of the lines of the comparison of walks, before the first.
 const SAME_NOTE: &str = "# Then: same U V U2 V2 BUFFER, number same.";
+
+/// The same, of the look-up of successors.
+const SUCCESSORS_NOTE: &str =
+    "# Then: successors TABLE LETTER SET BUFFER, number next set1 set2 set3 set4.";
 
 /// Tables A and C of document 01.
 const A: [u8; 12] = [2, 2, 1, 1, 1, 0, 0, 3, 0, 0, 2, 1];
@@ -82,6 +88,7 @@ fn all() -> Vec<Boundary> {
     boundaries.extend(grids::boundaries());
     boundaries.extend(buffers::boundaries());
     boundaries.extend(spellings::boundaries());
+    boundaries.extend(successors::boundaries());
     boundaries
 }
 
@@ -113,13 +120,15 @@ pub fn boundaries(path: &str) -> bool {
     for (kind, name) in KINDS.iter().enumerate() {
         let of_call: Vec<_> = all.iter().filter(|boundary| boundary.case.kind() == kind).collect();
         let lines = missing(&of_call, &stored);
-        if *name == "same" {
-            println!("{SAME_NOTE}");
+        match *name {
+            "same" => println!("{SAME_NOTE}"),
+            "successors" => println!("{SUCCESSORS_NOTE}"),
+            _ => {}
         }
         for (what, line) in &lines {
             println!("# {name}: {what}\n{line}");
         }
-        eprintln!("{name:6}{:3} boundaries looked at, {:3} lines", of_call.len(), lines.len());
+        eprintln!("{name:10}{:3} boundaries looked at, {:3} lines", of_call.len(), lines.len());
     }
     true
 }

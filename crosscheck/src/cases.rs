@@ -2,7 +2,7 @@
 
 use crate::answers::{
     Calls, Judges, Numbers, PlainAnswer, ReadAnswer, SameAnswer, StartAnswer, StepAnswer,
-    TreeAnswer, WriteAnswer,
+    SuccessorsAnswer, TreeAnswer, WriteAnswer,
 };
 use crate::hex;
 use crate::reference::{NAME_LENGTH, RECORD_LENGTH, SCRATCH_LENGTH};
@@ -33,10 +33,13 @@ pub enum Case {
     Tree(Walk),
     Plain(Walk),
     Same(Spelling, Spelling),
+    /// A table, a letter and a set of states.
+    Successors(Vec<u8>, u8, u16),
 }
 
 /// The calls' names, in the order of `Case::kind`.
-pub const KINDS: [&str; 7] = ["read", "write", "start", "step", "tree", "plain", "same"];
+pub const KINDS: [&str; 8] =
+    ["read", "write", "start", "step", "tree", "plain", "same", "successors"];
 
 #[derive(Debug, PartialEq)]
 pub enum Answer {
@@ -47,6 +50,7 @@ pub enum Answer {
     Tree(TreeAnswer),
     Plain(PlainAnswer),
     Same(SameAnswer),
+    Successors(SuccessorsAnswer),
 }
 
 impl Answer {
@@ -59,6 +63,7 @@ impl Answer {
             Answer::Tree(answer) => answer.number,
             Answer::Plain(answer) => answer.number,
             Answer::Same(answer) => answer.number,
+            Answer::Successors(answer) => answer.number,
         }
     }
 
@@ -80,6 +85,10 @@ impl Answer {
             }
             Answer::Plain(PlainAnswer { number, verdict }) => vec![number.into(), verdict.into()],
             Answer::Same(SameAnswer { number, same }) => vec![number.into(), same.into()],
+            Answer::Successors(SuccessorsAnswer { number, next, reached }) => {
+                let first = [number.into(), next.into()];
+                first.into_iter().chain(reached.map(u64::from)).collect()
+            }
         }
     }
 }
@@ -94,6 +103,7 @@ impl Case {
             Case::Tree(..) => 4,
             Case::Plain(..) => 5,
             Case::Same(..) => 6,
+            Case::Successors(..) => 7,
         }
     }
 
@@ -110,7 +120,7 @@ impl Case {
             Case::Read(..) | Case::Start(..) | Case::Step(..) => RECORD_LENGTH,
             Case::Tree(..) => NAME_LENGTH,
             Case::Plain(..) => SCRATCH_LENGTH,
-            Case::Same(..) => 0,
+            Case::Same(..) | Case::Successors(..) => 0,
         }
     }
 
@@ -125,7 +135,8 @@ impl Case {
         }
     }
 
-    /// The call. The comparison of walks is lent nothing.
+    /// The call. The comparison of walks and the look-up of successors are
+    /// lent nothing.
     pub fn answered_by(&self, calls: &dyn Calls, lent: &mut [u8]) -> Answer {
         match self {
             Case::Read(table) => Answer::Read(calls.read(table, lent)),
@@ -140,6 +151,9 @@ impl Case {
             }
             Case::Same((u, v), (other_u, other_v)) => {
                 Answer::Same(calls.same_walk(u, v, other_u, other_v))
+            }
+            Case::Successors(table, letter, set) => {
+                Answer::Successors(calls.successors(table, *letter, *set))
             }
         }
     }
@@ -161,6 +175,9 @@ impl Case {
             }
             Case::Same(one, other) => {
                 format!("{name} {} {}", shown_spelling(one), shown_spelling(other))
+            }
+            Case::Successors(table, letter, set) => {
+                format!("{name} {} {letter} {set}", hex::show(table))
             }
         }
     }

@@ -14,10 +14,11 @@ use crate::tuned::{OtherWays, Tuned};
 use std::time::Instant;
 
 /// How many cases of each call.
-const CASES: [usize; KINDS.len()] = [40_000, 40_000, 20_000, 62_000, 24_000, 14_000, 30_000];
+const CASES: [usize; KINDS.len()] =
+    [40_000, 40_000, 20_000, 62_000, 24_000, 14_000, 30_000, 20_000];
 
 /// How many walks of each judge when the tuned code is compared.
-const TUNED_CASES: [usize; KINDS.len()] = [0, 0, 0, 0, 40_000, 20_000, 0];
+const TUNED_CASES: [usize; KINDS.len()] = [0, 0, 0, 0, 40_000, 20_000, 0, 0];
 
 /// Of a walk's cases, one in so many is at the limit of length.
 const LIMIT_IN: usize = 250;
@@ -77,6 +78,31 @@ fn random_walk(random: &mut Random) -> Walk {
     Walk { table, u: walk.0, v: walk.1 }
 }
 
+/// A set of states for tables with so many: any 16-bit number, states of the
+/// table, one of them, states from n up only, none, or all 16 bits.
+fn state_set(random: &mut Random, states: usize) -> u16 {
+    let any = random.next() as u16;
+    let beyond = any >> states << states;
+    let within = any ^ beyond;
+    let single = 1 << random.below(states);
+    random.pick(&[any, any, any, within, within, single, beyond, 0, 65_535])
+}
+
+fn successors_case(random: &mut Random) -> Case {
+    let mut table = inputs::table(random);
+    let [states, limit] = [table[0], table[1]];
+    let set = state_set(random, states.into());
+    let letter = match random.below(16) {
+        0 => random.between(limit.into(), 255) as u8,
+        1 => random.pick(&[limit, 16, 255]),
+        _ => random.below(limit.into()) as u8,
+    };
+    if random.once_in(8) {
+        inputs::damage(random, &mut table);
+    }
+    Case::Successors(table, letter, set)
+}
+
 /// A random case of one kind of call.
 fn random_case(random: &mut Random, kind: usize) -> Case {
     match kind {
@@ -86,10 +112,11 @@ fn random_case(random: &mut Random, kind: usize) -> Case {
         3 => step_case(random),
         4 => Case::Tree(random_walk(random)),
         5 => Case::Plain(random_walk(random)),
-        _ => {
+        6 => {
             let (one, other) = pairs::pair(random);
             Case::Same(one, other)
         }
+        _ => successors_case(random),
     }
 }
 
@@ -125,20 +152,29 @@ fn check(random: &mut Random, case: &Case, subject: Subject, count: &mut Count) 
     }
 }
 
+/// Which random numbers a call has. The comparison of walks and the look-up of
+/// successors came later. They have numbers of their own, so that a seed still
+/// gives the other calls the inputs it always gave them.
+fn stream(kind: usize) -> usize {
+    match KINDS[kind] {
+        "same" => 1,
+        "successors" => 2,
+        _ => 0,
+    }
+}
+
 /// All cases of a list, in a mixed order; says whether there was none that
 /// differs.
 fn run(seed: u64, cases: &[usize; KINDS.len()], subject: Subject) -> bool {
     let begun = Instant::now();
-    // Pairs came later. They have random numbers of their own, so that a
-    // seed still gives the other calls the inputs it always gave them.
-    let (mut of_tables, mut of_pairs) = (Random::new(seed), Random::new(!seed));
+    let mut streams = [seed, !seed, seed ^ 1 << 63].map(Random::new);
     let mut counts = [Count::default(); KINDS.len()];
     let rounds = cases.iter().max().copied().unwrap_or(0);
     for round in 0..rounds {
         for kind in 0..KINDS.len() {
             // Spreads each kind evenly over the rounds.
             if (round + 1) * cases[kind] / rounds > round * cases[kind] / rounds {
-                let random = if KINDS[kind] == "same" { &mut of_pairs } else { &mut of_tables };
+                let random = &mut streams[stream(kind)];
                 let case = random_case(random, kind);
                 check(random, &case, subject, &mut counts[kind]);
             }
@@ -154,12 +190,12 @@ fn report(counts: &[Count; KINDS.len()]) {
         if count.cases == 0 {
             continue;
         }
-        print!("{name:6} {:6} cases {:3} differences", count.cases, count.differences);
+        print!("{name:10} {:6} cases {:3} differences", count.cases, count.differences);
         println!("   {}", checks::by_number(&count.numbers));
     }
     let cases: usize = counts.iter().map(|count| count.cases).sum();
     let differences: usize = counts.iter().map(|count| count.differences).sum();
-    println!("all    {cases:6} cases {differences:3} differences");
+    println!("all        {cases:6} cases {differences:3} differences");
 }
 
 /// The library against the reference.

@@ -15,7 +15,7 @@ pub fn library() -> Option<&'static dyn Calls> {
 mod linked {
     use crate::answers::{
         Calls, Judges, Numbers, PlainAnswer, ReadAnswer, SameAnswer, StartAnswer, StepAnswer,
-        TreeAnswer, WriteAnswer,
+        SuccessorsAnswer, TreeAnswer, WriteAnswer,
     };
 
     extern "C" {
@@ -86,6 +86,13 @@ mod linked {
             other_v: *const u8,
             other_v_length: usize,
         ) -> SameAnswer;
+
+        fn suthreldo_successors(
+            table: *const u8,
+            table_length: usize,
+            letter: u8,
+            set: u16,
+        ) -> SuccessorsAnswer;
     }
 
     /// The library as an implementation of the calls. Each pointer and
@@ -177,6 +184,10 @@ mod linked {
                     other_v.len(),
                 )
             }
+        }
+
+        fn successors(&self, table: &[u8], letter: u8, set: u16) -> SuccessorsAnswer {
+            unsafe { suthreldo_successors(table.as_ptr(), table.len(), letter, set) }
         }
     }
 }

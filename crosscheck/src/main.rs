@@ -1,5 +1,5 @@
 //! Checks the proved library call by call against an implementation written
-//! from document 01 alone. See README.md for the modes.
+//! from the documents alone. See README.md for the modes.
 
 mod answers;
 mod bench;

@@ -7,12 +7,13 @@
 mod examples;
 mod judges;
 mod spelling;
+mod successors;
 mod table;
 mod tree;
 
 use crate::answers::{
     Calls, Judges, Numbers, PlainAnswer, ReadAnswer, SameAnswer, StartAnswer, StepAnswer,
-    TreeAnswer, WriteAnswer,
+    SuccessorsAnswer, TreeAnswer, WriteAnswer,
 };
 pub use spelling::first_difference;
 pub use table::{Rule, NO_TRANSITION};
@@ -51,13 +52,18 @@ fn check_lengths(u: &[u8], v: &[u8]) -> Result<(), u8> {
     Ok(())
 }
 
-/// Questions 7 and 8 for a walk.
-fn check_walk(rule: &Rule, u: &[u8], v: &[u8]) -> Result<(), u8> {
-    check_lengths(u, v)?;
-    if u.iter().chain(v).any(|letter| usize::from(*letter) >= rule.letters) {
+/// Question 8 for a letter.
+fn check_letter(rule: &Rule, letter: u8) -> Result<(), u8> {
+    if usize::from(letter) >= rule.letters {
         return Err(8);
     }
     Ok(())
+}
+
+/// Questions 7 and 8 for a walk.
+fn check_walk(rule: &Rule, u: &[u8], v: &[u8]) -> Result<(), u8> {
+    check_lengths(u, v)?;
+    u.iter().chain(v).try_for_each(|letter| check_letter(rule, *letter))
 }
 
 fn read(table: &[u8], grid: &mut [u8]) -> Result<ReadAnswer, u8> {
@@ -90,9 +96,7 @@ fn map_of(old: &[tree::Name], these: &[tree::Name]) -> u16 {
 
 fn step(table: &[u8], letter: u8, bytes: &[u8], buffer: &mut [u8]) -> Result<StepAnswer, u8> {
     let rule = Rule::read(table)?;
-    if usize::from(letter) >= rule.letters {
-        return Err(8);
-    }
+    check_letter(&rule, letter)?;
     let old = tree::from_record(bytes, &rule).ok_or(9)?;
     let stepped = tree::step(&old, &rule, letter);
     let record = tree::record(&stepped.tree);
@@ -141,6 +145,13 @@ fn same_walk(u: &[u8], v: &[u8], other_u: &[u8], other_v: &[u8]) -> Result<SameA
     Ok(SameAnswer { number: 0, same })
 }
 
+fn successors(table: &[u8], letter: u8, set: u16) -> Result<SuccessorsAnswer, u8> {
+    let rule = Rule::read(table)?;
+    check_letter(&rule, letter)?;
+    let (next, reached) = successors::look_up(&rule, letter, set);
+    Ok(SuccessorsAnswer { number: 0, next, reached })
+}
+
 /// The reference as an implementation of the calls.
 pub struct Reference;
 
@@ -173,6 +184,10 @@ impl Calls for Reference {
 
     fn same_walk(&self, u: &[u8], v: &[u8], other_u: &[u8], other_v: &[u8]) -> SameAnswer {
         same_walk(u, v, other_u, other_v).unwrap_or_else(SameAnswer::refused)
+    }
+
+    fn successors(&self, table: &[u8], letter: u8, set: u16) -> SuccessorsAnswer {
+        successors(table, letter, set).unwrap_or_else(SuccessorsAnswer::refused)
     }
 }
 

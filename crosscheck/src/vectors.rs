@@ -129,6 +129,9 @@ fn call(line: &str) -> Option<Call> {
             (hex::parse(u)?, hex::parse(v)?),
             (hex::parse(other_u)?, hex::parse(other_v)?),
         ),
+        ("successors", [table, letter, set]) => {
+            Case::Successors(hex::parse(table)?, letter.parse().ok()?, set.parse().ok()?)
+        }
         _ => return None,
     };
     Some((case, hex::parse(buffer)?, numbers(answer)?, hex::parse(after)?))
@@ -182,7 +185,7 @@ pub fn vectors(folder: &str, slow: bool) -> bool {
             report(file, "library", sum, || check_jobs(&text, library, true));
         }
     }
-    for file in ["calls.txt", "boundaries.txt", "u7-calls.txt"] {
+    for file in ["calls.txt", "boundaries.txt", "u2-calls.txt", "u7-calls.txt"] {
         let text = read(file);
         report(file, "reference", sum, || check_calls(&text, &Reference));
         if let Some(library) = library {

@@ -4,6 +4,8 @@ use plain::judge::PlainAnswer;
 use plain::judge::plain_judge;
 use spelling::same::SameAnswer;
 use spelling::same::same_walk;
+use successors::call::SuccessorsAnswer;
+use successors::call::successors;
 use table::reader::ReadAnswer;
 use table::reader::read;
 use table::writer::WriteAnswer;
@@ -17,6 +19,7 @@ use treejudge::judge::tree_judge;
 ghost use mathlib.Core.Path.{_≡_};
 ghost use Rattle.plain.specs.PlainCall.{PlainAnswers, plainOutcome, scratchAfter};
 ghost use Rattle.spelling.specs.SameCall.{SameAnswers, sameOutcome};
+ghost use Rattle.successors.specs.SuccessorsCall.{successorsAnswer, successorsOutcome};
 ghost use Rattle.table.specs.ReadCall.{gridAfter, readAnswer, readOutcome};
 ghost use Rattle.table.specs.WriteCall.{tableAfter, writeAnswer, writeOutcome};
 ghost use Rattle.tree.specs.TreeCalls.{startAfter, startAnswer, startOutcome, stepAfter, stepAnswer, stepOutcome};
@@ -101,4 +104,11 @@ pub extern "C" fn suthreldo_same_walk(u: &[u8], v: &[u8], u2: &[u8], v2: &[u8]) 
         (now (u .entry)) (now (v .entry)) (now (u2 .entry)) (now (v2 .entry)) r ⌝ }
 {
     same_walk(u, v, u2, v2)
+}
+
+#[no_mangle]
+pub extern "C" fn suthreldo_successors(table: &[u8], letter: u8, set: u16) -> SuccessorsAnswer
+    ensures { λ r. ⌜ r ≡ successorsAnswer (successorsOutcome (now (table .entry)) letter) letter set ⌝ }
+{
+    successors(table, letter, set)
 }

@@ -1,19 +1,21 @@
 -- Letters read by their tables (specs/Letters.antt), as the code's loops read them.
-use mathlib.Core.Path.{_≡_, _∙_, ap, ap₂}
+use mathlib.Core.Path.{_≡_, refl, sym, _∙_, ap, ap₂}
 use mathlib.Core.List.{List, []}
-use Prim.Native.Nat.{ℕ, suc, _+_, _*_, _%_, _^_, _≤_, _<_}
+use Prim.Native.Nat.{ℕ, suc, _+_, _*_, _/_, _%_, _^_, _≤_, _<_}
+use native.Mathlib.Nat.{mod-lt}
 use native.Mathlib.Numerals.{add-one}
 use native.Mathlib.Omega.{arith}
-use lib.Bits.{bitOr, or-lt}
+use lib.Bits.{bitOr, or-block, or-self, or-zero-r}
 use lib.ListN.{length, getD, drop}
-use lib.Pow.{shl-exact}
+use lib.Pow.{pow-pos, shl-exact, split}
 use lib.Seq.{drop-cons, drop-length}
 use Rattle.table.specs.Limits.{maxStates, maxSets}
-use Rattle.table.specs.Lookup.{mapOf, LetterTable, lookUp}
+use Rattle.table.specs.Lookup.{mapOf, LetterTable, imagesBy, lookUp}
+use Rattle.table.proofs.BitSet.{union-assoc}
 use Rattle.word.specs.WalkTables.{Tables}
-use Rattle.plain.specs.Ways.{packed}
-use Rattle.plain.specs.Letters.{over, mapAfter, extended}
-use Rattle.plain.proofs.RowLaws.{packed-more, packed-at}
+use Rattle.plain.specs.Ways.{packed, marks}
+use Rattle.plain.specs.Letters.{over, further, extended}
+use Rattle.plain.proofs.RowLaws.{map-union, packed-ext, packed-at, packed-more, packed-times}
 
 -- LETTER BY LETTER
 
@@ -31,27 +33,55 @@ module _ (f : LetterTable → ℕ → ℕ) (tables : Tables) (w : List ℕ) (at 
 
 -- A LETTER BEHIND A ROW
 
+-- the lowest digits of a number are in it
+or-low : (a k : ℕ) → bitOr a (a % 2 ^ k) ≡ a
+or-low a k =
+    let none : a % 2 ^ k ≡ 0 * 2 ^ k + a % 2 ^ k = omega arith in
+    let small = mod-lt a (pow-pos k) in
+    ap₂ bitOr (sym (split a k)) none ∙ or-block k (a / 2 ^ k) 0 (a % 2 ^ k) (a % 2 ^ k) small small
+    ∙ ap₂ (λ (x y : ℕ). x * 2 ^ k + y) (or-zero-r (a / 2 ^ k)) (or-self (a % 2 ^ k)) ∙ split a k
+
 module _ (table : LetterTable) (row : ℕ) where
+  -- the images of its states, by all relations at once
+  abbrev own : ℕ
+  own = imagesBy table (mapOf row 0)
+
   -- its maps are maps of states
-  map-after-lt : (i : ℕ) → mapAfter table row i < 2 ^ maxStates
-  unfolding mapAfter lookUp
-  map-after-lt i = or-lt maxStates (lookUp table i (mapOf row 0)) (lookUp table 0 (mapOf row i)) (omega arith) (omega arith)
+  further-lt : (i : ℕ) → further table row i < 2 ^ maxStates
+  unfolding further lookUp
+  further-lt i = omega arith
 
   pub extended-at : (i : ℕ) → i ≤ maxSets
       → mapOf (extended table row) i ≡ bitOr (lookUp table i (mapOf row 0)) (lookUp table 0 (mapOf row i))
-  unfolding extended mapAfter
-  extended-at i h = packed-at (suc maxSets) (mapAfter table row) i map-after-lt (omega arith)
+  unfolding extended further lookUp
+  extended-at i h = map-union own (packed (suc maxSets) (further table row)) i
+      ∙ ap (bitOr (mapOf own i)) (packed-at (suc maxSets) (further table row) i further-lt (omega arith))
 
-  -- one map more, as the code joins it
-  pub extended-more : (i states all first second : ℕ) → i ≤ maxSets → states ≡ mapOf row 0 → all ≡ packed i (mapAfter table row)
-      → first ≡ lookUp table i states → second ≡ lookUp table 0 (mapOf row i)
-      → bitOr all (bitOr first second * 2 ^ (maxStates * i) % 2 ^ 64) ≡ packed (i + 1) (mapAfter table row)
-  unfolding mapAfter
-  extended-more i states all first second h now-states sofar one two = ap₂ bitOr sofar exact
-      ∙ packed-more i (mapAfter table row) map-after-lt ∙ ap (λ (k : ℕ). packed k (mapAfter table row)) (omega arith)
+  -- as the code joins it: the map for relation 0 is there already
+  pub extended-first : own ≡ bitOr own (packed 1 (further table row))
+  unfolding packed further lookUp
+  extended-first = let low : mapOf own 0 + 2 ^ maxStates * 0 ≡ own % 2 ^ maxStates = omega arith in
+      sym (ap (bitOr own) low ∙ or-low own maxStates)
+
+  -- one map more
+  pub extended-more : (i all more : ℕ) → i ≤ maxSets → all ≡ bitOr own (packed i (further table row)) → more ≡ further table row i
+      → bitOr all (more * 2 ^ (maxStates * i) % 2 ^ 64) ≡ bitOr own (packed (i + 1) (further table row))
+  extended-more i all more h sofar e = ap₂ bitOr sofar exact
+      ∙ sym (union-assoc own (packed i (further table row)) (further table row i * 2 ^ (maxStates * i)))
+      ∙ ap (bitOr own) (packed-more i (further table row) further-lt ∙ ap (λ (k : ℕ). packed k (further table row)) (omega arith))
     where
-      more : bitOr first second ≡ mapAfter table row i
-      more = ap₂ bitOr (one ∙ ap (lookUp table i) now-states) two
+      exact : more * 2 ^ (maxStates * i) % 2 ^ 64 ≡ further table row i * 2 ^ (maxStates * i)
+      exact = rw e (shl-exact maxStates (maxStates * i) 64 (further-lt i) (omega arith))
 
-      exact : bitOr first second * 2 ^ (maxStates * i) % 2 ^ 64 ≡ mapAfter table row i * 2 ^ (maxStates * i)
-      exact = rw more (shl-exact maxStates (maxStates * i) 64 (map-after-lt i) (omega arith))
+  -- all maps at once, where they are the same
+  pub extended-full : row ≡ mapOf row 0 * marks (suc maxSets) → bitOr own (mapOf own 0 * marks (suc maxSets)) ≡ extended table row
+  unfolding extended further lookUp marks
+  extended-full full = ap (bitOr own) (packed-times (mapOf own 0) (suc maxSets) (λ i. 1) ∙ packed-ext (suc maxSets) _ _ one)
+    where
+      same : (i : ℕ) → i < suc maxSets → mapOf row i ≡ mapOf row 0
+      same i small =
+          let maps = packed-at (suc maxSets) (λ i. mapOf row 0 * 1) i (λ j. omega arith) small in
+          ap (λ (x : ℕ). mapOf x i) (full ∙ packed-times (mapOf row 0) (suc maxSets) (λ i. 1)) ∙ maps ∙ omega arith
+
+      one : (i : ℕ) → i < suc maxSets → mapOf own 0 * 1 ≡ lookUp table 0 (mapOf row i)
+      one i small = omega (arith, ap (lookUp table 0) (same i small))

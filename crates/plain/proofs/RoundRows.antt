@@ -15,8 +15,8 @@ use Rattle.table.specs.Lookup.{mapOf}
 use Rattle.table.specs.Limits.{maxStates, maxSets}
 use Rattle.table.specs.BitSet.{member}
 use Rattle.table.proofs.BitSet.{member-none, member-union}
-use Rattle.plain.specs.Ways.{Ways, joined, packed, ways, AreWays, Changed}
-use Rattle.plain.specs.Rounds.{passing, widened, marks, continued}
+use Rattle.plain.specs.Ways.{Ways, joined, packed, marks, ways, AreWays, Changed}
+use Rattle.plain.specs.Rounds.{passing, widened, continued}
 use Rattle.plain.proofs.RowLaws.{map-zero, map-none, map-union, packed-at, packed-times, packed-marks, mark, column}
 
 -- PRODUCTS WITH 1 OR 0

@@ -14,8 +14,7 @@ use Rattle.table.specs.Limits.{maxStates}
 use Rattle.table.specs.BitSet.{member}
 use Rattle.table.proofs.BitSet.{member-none, member-union}
 use Rattle.table.proofs.Logic.{and-both, and-in, or-l, or-r, or-in}
-use Rattle.plain.specs.Ways.{packed, ways}
-use Rattle.plain.specs.Rounds.{marks}
+use Rattle.plain.specs.Ways.{packed, marks, ways}
 use Rattle.plain.specs.Search.{reached, Reaches}
 use Rattle.plain.proofs.RowLaws.{map-zero, shift-suc, packed-at, packed-ext, packed-marks, mark, column}
 use Rattle.plain.proofs.RoundRows.{kept}

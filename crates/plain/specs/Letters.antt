@@ -4,7 +4,7 @@ use Prim.Native.Nat.{ℕ, suc}
 use lib.Bits.{bitOr}
 use lib.ListN.{getD}
 use Rattle.table.specs.Limits.{maxSets}
-use Rattle.table.specs.Lookup.{mapOf, LetterTable, lookUp}
+use Rattle.table.specs.Lookup.{mapOf, LetterTable, imagesBy, lookUp}
 use Rattle.word.specs.WalkTables.{Tables}
 use Rattle.plain.specs.Ways.{packed}
 
@@ -17,14 +17,13 @@ over f tables (a ∷ w) x = over f tables w (f (getD tables a []) x)
 unfoldable pub statesAfter : Tables → List ℕ → ℕ → ℕ
 statesAfter = over (λ table states. lookUp table 0 states)
 
--- the map for relation i after a letter behind the ways of a row: the letter's transition is one of set i, or the way before
--- it takes one
-unfoldable pub mapAfter : LetterTable → ℕ → ℕ → ℕ
-mapAfter table row i = bitOr (lookUp table i (mapOf row 0)) (lookUp table 0 (mapOf row i))
+-- where any transition of a letter leads to from the map for relation i of a row
+unfoldable pub further : LetterTable → ℕ → ℕ → ℕ
+further table row i = lookUp table 0 (mapOf row i)
 
--- a row with a letter behind its ways
+-- a row with a letter behind its ways: for set i the letter's transition is one of it, or the way before it takes one
 unfoldable pub extended : LetterTable → ℕ → ℕ
-extended table row = packed (suc maxSets) (mapAfter table row)
+extended table row = bitOr (imagesBy table (mapOf row 0)) (packed (suc maxSets) (further table row))
 
 -- and with the letters
 unfoldable pub rowAfter : Tables → List ℕ → ℕ → ℕ

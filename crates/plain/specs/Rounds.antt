@@ -3,7 +3,7 @@ use mathlib.Core.Bool.{_||_}
 use Prim.Native.Nat.{ℕ, zero, suc, _*_, _/_, _%_, _^_}
 use lib.Bits.{bitAnd, bitOr}
 use Rattle.table.specs.Limits.{maxStates, maxSets}
-use Rattle.plain.specs.Ways.{Ways, joined, packed}
+use Rattle.plain.specs.Ways.{Ways, joined, marks}
 
 -- the ways W, and those that pass state m, once or over and over
 unfoldable pub passing : ℕ → Ways → Ways
@@ -13,10 +13,6 @@ passing m W s t i = W s t i || joined (W s m) (λ i. W m t i || joined (W m m) (
 unfoldable pub widened : ℕ → Ways → Ways
 widened zero W s t i = W s t i
 widened (suc m) W s t i = passing m (widened m W) s t i
-
--- state 0 in each of k maps
-unfoldable pub marks : ℕ → ℕ
-marks k = packed k (λ i. 1)
 
 -- a row, and its ways to m with one of the row `behind` behind them
 unfoldable pub continued : ℕ → ℕ → ℕ → ℕ

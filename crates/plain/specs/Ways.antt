@@ -23,6 +23,10 @@ unfoldable pub packed : ℕ → (ℕ → ℕ) → ℕ
 packed zero f = 0
 packed (suc k) f = f 0 + 2 ^ maxStates * packed k (λ i. f (suc i))
 
+-- the row with state 0 in each of k maps
+unfoldable pub marks : ℕ → ℕ
+marks k = packed k (λ i. 1)
+
 -- the ways of some rows
 unfoldable pub ways : List ℕ → Ways
 ways rows s t i = member (mapOf (getD rows s 0) i) t

@@ -1,5 +1,6 @@
 // The lead-in: the map of the states that it leads to.
 use table::lookup::look_up;
+use table::lookup::map_of;
 use word::tables::AllTables;
 ghost use mathlib.Core.Path.{_≡_};
 ghost use Prim.Native.Nat.{_<_};
@@ -15,7 +16,7 @@ pub fn states_after(tables: &AllTables, start: u16, u: &[u8]) -> u16
     let mut states = start;
     let mut at = 0usize;
     while at < u.len() {
-        states = look_up(&tables[u[at] as usize], 0, states);
+        states = map_of(look_up(&tables[u[at] as usize], states), 0);
         at += 1;
     }
     states

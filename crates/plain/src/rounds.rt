@@ -1,4 +1,5 @@
 // "j further tails", one or more: the ways that they open between any two states.
+use crate::tail::RELATIONS;
 use crate::tail::Rows;
 ghost use mathlib.Core.Path.{_≡_};
 ghost use Prim.Native.Nat.{_<_, _≤_};
@@ -6,9 +7,6 @@ ghost use lib.ListN.{length};
 ghost use Rattle.table.specs.Limits.{maxStates};
 ghost use Rattle.plain.specs.Ways.{AreWays, ways};
 ghost use Rattle.plain.specs.Rounds.{continued, passing, widened};
-
-// Bit 8·i for each relation i.
-pub const RELATIONS: u64 = 4311810305;
 
 // A row with more ways: each way to `middle`, and behind it a way of the row `behind`. The sets are those of both. No branch: a
 // product with 1 or 0 keeps a map or drops it, and one product does so for the maps of all relations.

@@ -1,6 +1,6 @@
 // The search for a loop: a state that the lead-in and some tails lead to, and from which one or more tails lead back to it, by
 // ways that take all sets.
-use crate::rounds::RELATIONS;
+use crate::tail::RELATIONS;
 use crate::tail::Rows;
 use table::limits::SETS;
 ghost use mathlib.Core.Path.{_≡_};

@@ -3,13 +3,14 @@ use table::limits::SETS;
 use table::limits::STATES;
 use table::lookup::LetterTable;
 use table::lookup::look_up;
+use table::lookup::map_of;
 use word::tables::AllTables;
 ghost use mathlib.Core.Path.{_≡_};
 ghost use Prim.Native.Nat.{ℕ, _^_, _<_, _≤_};
 ghost use lib.ListN.{getD, length};
 ghost use Rattle.table.specs.Limits.{maxLetters, maxStates};
-ghost use Rattle.table.specs.Lookup.{tabulate};
 ghost use Rattle.table.specs.Table.{Every};
+ghost use Rattle.table.specs.Tabulate.{tabulate};
 ghost use Rattle.plain.specs.Ways.{Changed};
 ghost use Rattle.plain.specs.Letters.{extended, rowAfter};
 
@@ -17,17 +18,24 @@ ghost use Rattle.plain.specs.Letters.{extended, rowAfter};
 // 8·i + t stands where a way leads to t, for i = 0, and where one takes a transition of set i on it, for i from 1 to 4.
 pub type Rows = [u64; STATES];
 
-// A row with one letter more behind its ways. The transition of set i is taken at this letter, or before it.
+// Bit 8·i for each relation i.
+pub const RELATIONS: u64 = 4311810305;
+
+// A row with one letter more behind its ways. The transition of set i is taken at this letter, and one look-up has all these ways; or it
+// is taken before, and any transition leads on. Where every state is reached by a way that takes each set, that look-up is enough.
 fn extended(table: &LetterTable, row: u64) -> u64
     ensures { λ r. ⌜ r ≡ extended (now (table .entry)) row ⌝ }
 {
-    let states = (row % 256) as u16;
-    let mut all = 0u64;
-    let mut relation = 0usize;
+    let states = map_of(row, 0);
+    let images = look_up(table, states);
+    if row == states as u64 * RELATIONS {
+        return images | (map_of(images, 0) as u64 * RELATIONS);
+    }
+    let mut all = images;
+    let mut relation = 1usize;
     while relation <= SETS {
-        let by = ((row >> (8 * relation)) % 256) as u16;
-        let more = look_up(table, relation, states) | look_up(table, 0, by);
-        all = all | ((more as u64) << (8 * relation));
+        let further = map_of(look_up(table, map_of(row, relation)), 0);
+        all = all | ((further as u64) << (8 * relation));
         relation += 1;
     }
     all

@@ -1,19 +1,20 @@
 -- A call's answer compared, and the line above it.
-use mathlib.Core.Path.{_≡_, _∙_, ap, subst}
+use mathlib.Core.Path.{_≡_, refl, _∙_, ap, subst}
 use mathlib.Core.Bool.{Bool, true, _&&_}
-use mathlib.Core.List.{List}
+use mathlib.Core.List.{List, [], _∷_}
 use Prim.Native.Nat.{ℕ, _+_}
 use native.Mathlib.Omega.{arith}
 use borrow.Author.Tests.{eq-eqb, eqb-true}
 use lib.Dec.{eqb}
-use lib.ListN.{length}
+use lib.ListN.{length, getD}
 use Rattle.notation.specs.Testing.{Tests, HasNumbers}
 use Rattle.notation.specs.Parts.{space, parts, partAt, fieldAt}
 use Rattle.notation.specs.Decimal.{decimalWithin, numberAnswer}
 use Rattle.notation.specs.declared.decimal.Number.{Number}
 use Rattle.notation.proofs.Testing.{both-true, four-true, and-yes}
 use Rattle.notation.proofs.DecimalDigits.{number-found, number-only}
-use Rattle.stored.specs.Calls.{largestSize, largestMap, RuleText, Gives}
+use Rattle.successors.specs.declared.call.SuccessorsAnswer.{SuccessorsAnswer}
+use Rattle.stored.specs.Calls.{largestSize, largestMap, RuleText, successorsNumbers, Gives}
 use Rattle.stored.specs.Comparing.{Compared, RuleIs}
 use Rattle.stored.specs.declared.calls.Call.{Call}
 use Rattle.stored.specs.declared.rules.Rule.{Rule}
@@ -41,6 +42,19 @@ field-rule line number text rule e is = subst (λ t. RuleIs t rule) e is
 pub number-there : (limit : ℕ) (a b : List ℕ) (n : Number) → a ≡ b → n ≡ numberAnswer (decimalWithin limit a)
     → n ≡ numberAnswer (decimalWithin limit b)
 number-there limit a b n e is = is ∙ ap (λ t. numberAnswer (decimalWithin limit t)) e
+
+-- the numbers of an answer on successors: there are four maps
+pub six-numbers : (a : SuccessorsAnswer) → length (a .reached) ≡ 4
+    → a .number ∷ a .next ∷ getD (a .reached) 0 0 ∷ getD (a .reached) 1 0 ∷ getD (a .reached) 2 0 ∷ getD (a .reached) 3 0 ∷ [] ≡ successorsNumbers a
+six-numbers a four = ap (λ l. a .number ∷ a .next ∷ l) (go (a .reached) four)
+  where
+    go : (l : List ℕ) → length l ≡ 4 → getD l 0 0 ∷ getD l 1 0 ∷ getD l 2 0 ∷ getD l 3 0 ∷ [] ≡ l
+    go [] e = absurd (omega (arith, e))
+    go (w ∷ []) e = absurd (omega (arith, e))
+    go (w ∷ x ∷ []) e = absurd (omega (arith, e))
+    go (w ∷ x ∷ y ∷ []) e = absurd (omega (arith, e))
+    go (w ∷ x ∷ y ∷ z ∷ []) e = refl
+    go (w ∷ x ∷ y ∷ z ∷ v ∷ l) e = absurd (omega (arith, e))
 
 -- the four numbers of a rule
 module _ (text a b c d : List ℕ) (n m k start : Number) (separators : ℕ) where

@@ -12,9 +12,9 @@ use Rattle.plain.proofs.PlainVerdict.{plain-determined}
 use Rattle.spelling.specs.SameCall.{sameOutcome, SameAnswers}
 use Rattle.spelling.proofs.SameAnswers.{same-determined}
 use Rattle.stored.specs.Calls.{readNumbers, startNumbers, treeNumbers, plainNumbers, sameNumbers}
-use Rattle.stored.specs.Calls.{ReadGives, WriteGives, StartGives, StepGives, TreeGives, PlainGives, SameGives, Gives}
+use Rattle.stored.specs.Calls.{ReadGives, WriteGives, StartGives, StepGives, TreeGives, PlainGives, SameGives, SuccessorsGives, Gives}
 use Rattle.stored.specs.declared.calls.Call.{Call}
-use Rattle.stored.specs.declared.calls.Call.the-variants.{Read, Write, Start, Step, Tree, Plain, Same}
+use Rattle.stored.specs.declared.calls.Call.the-variants.{Read, Write, Start, Step, Tree, Plain, Same, Successors}
 
 -- two readings of one text are the same
 one : {A : Type 0} {o : Option A} {a b : A} → o ≡ some a → o ≡ some b → a ≡ b
@@ -84,6 +84,13 @@ module _ {line lent ns after ms left : List ℕ} where
       let answer = same-determined outcome (G .u) (G .v) (G .u′) (G .v′) (G .answer) (H .answer) (G .compared) compared in
       (G .answers ∙ ap sameNumbers answer ∙ sym (H .answers), G .leaves ∙ sym (H .leaves))
 
+  successors-one : SuccessorsGives line lent ns after → SuccessorsGives line lent ms left → (ns ≡ ms) × (after ≡ left)
+  successors-one G H =
+      let table : G .table ≡ H .table = one (G .has-table) (H .has-table) in
+      let letter : G .letter ≡ H .letter = one (G .has-letter) (H .has-letter) in
+      let set : G .set ≡ H .set = one (G .has-set) (H .has-set) in
+      (G .answers ∙ rw (table, letter, set) (sym (H .answers)), G .leaves ∙ sym (H .leaves))
+
 -- every call
 pub gives-one : (call : Call) (line lent ns after ms left : List ℕ) → Gives call line lent ns after → Gives call line lent ms left
     → (ns ≡ ms) × (after ≡ left)
@@ -94,3 +101,4 @@ gives-one Step line lent ns after ms left G H = step-one G H
 gives-one Tree line lent ns after ms left G H = tree-one G H
 gives-one Plain line lent ns after ms left G H = plain-one G H
 gives-one Same line lent ns after ms left G H = same-one G H
+gives-one Successors line lent ns after ms left G H = successors-one G H

@@ -22,9 +22,11 @@ use Rattle.plain.specs.PlainCall.{plainOutcome, PlainAnswers, scratchAfter}
 use Rattle.plain.specs.declared.judge.PlainAnswer.{PlainAnswer}
 use Rattle.spelling.specs.SameCall.{sameOutcome, SameAnswers}
 use Rattle.spelling.specs.declared.same.SameAnswer.{SameAnswer}
+use Rattle.successors.specs.SuccessorsCall.{successorsOutcome, successorsAnswer}
+use Rattle.successors.specs.declared.call.SuccessorsAnswer.{SuccessorsAnswer}
 use Rattle.job.specs.Ascii.{ascii}
 use Rattle.stored.specs.declared.calls.Call.{Call}
-use Rattle.stored.specs.declared.calls.Call.the-variants.{Read, Write, Start, Step, Tree, Plain, Same}
+use Rattle.stored.specs.declared.calls.Call.the-variants.{Read, Write, Start, Step, Tree, Plain, Same, Successors}
 
 -- THE CALLS
 
@@ -37,6 +39,7 @@ nameOf Step = ascii "step"
 nameOf Tree = ascii "tree"
 nameOf Plain = ascii "plain"
 nameOf Same = ascii "same"
+nameOf Successors = ascii "successors"
 
 -- how many arguments it has there
 unfoldable pub arguments : Call → ℕ
@@ -47,6 +50,7 @@ arguments Step = 3
 arguments Tree = 3
 arguments Plain = 3
 arguments Same = 4
+arguments Successors = 3
 
 -- THE ARGUMENTS OF A LINE
 
@@ -54,7 +58,7 @@ arguments Same = 4
 abbrev pub BytesAt : List ℕ → ℕ → List ℕ → Type 0
 BytesAt line number bytes = byteString (fieldAt line number) ≡ some bytes
 
--- the largest numbers that a call takes: a size, a starting map, a letter
+-- the largest numbers that a call takes: a size, a map of states, a letter
 abbrev pub largestSize : ℕ
 largestSize = 18446744073709551615
 
@@ -94,6 +98,10 @@ plainNumbers a = a .number ∷ a .verdict ∷ []
 
 abbrev pub sameNumbers : SameAnswer → List ℕ
 sameNumbers a = a .number ∷ a .same ∷ []
+
+-- the maps of the sets are the last
+abbrev pub successorsNumbers : SuccessorsAnswer → List ℕ
+successorsNumbers a = a .number ∷ a .next ∷ a .reached
 
 -- WHAT A CALL GIVES: with a line's arguments and this buffer lent, these numbers, and these bytes in the buffer afterwards, as the
 -- call's own contract says
@@ -175,6 +183,17 @@ pub record SameGives (line lent numbers after : List ℕ) : Type 0 where
   pub answers : numbers ≡ sameNumbers answer
   pub leaves : after ≡ lent
 
+-- successors TABLE LETTER SET: number next set1 set2 set3 set4. Nothing is lent to it: a buffer on the line is unchanged.
+pub record SuccessorsGives (line lent numbers after : List ℕ) : Type 0 where
+  pub table : List ℕ
+  pub letter : ℕ
+  pub set : ℕ
+  pub has-table : BytesAt line 1 table
+  pub has-letter : decimalWithin largestByte (fieldAt line 2) ≡ some letter
+  pub has-set : decimalWithin largestMap (fieldAt line 3) ≡ some set
+  pub answers : numbers ≡ successorsNumbers (successorsAnswer (successorsOutcome table letter) letter set)
+  pub leaves : after ≡ lent
+
 -- the call of each name
 abbrev pub Gives : Call → List ℕ → List ℕ → List ℕ → List ℕ → Type 0
 Gives Read line lent numbers after = ReadGives line lent numbers after
@@ -184,6 +203,7 @@ Gives Step line lent numbers after = StepGives line lent numbers after
 Gives Tree line lent numbers after = TreeGives line lent numbers after
 Gives Plain line lent numbers after = PlainGives line lent numbers after
 Gives Same line lent numbers after = SameGives line lent numbers after
+Gives Successors line lent numbers after = SuccessorsGives line lent numbers after
 
 -- A LINE
 

@@ -1,5 +1,5 @@
 // The library's calls, each with the arguments that a line has. Its answer is held to the numbers that a text has, the
-// refusal number first. Each says whether the line has the call's arguments and the text the answer's numbers.
+// refusal number first. Each `.._right` says whether the line has the call's arguments and the text the answer's numbers.
 use crate::fields::field_bytes;
 use crate::rules::rule_of;
 use notation::decimal::number_of;
@@ -7,13 +7,17 @@ use notation::decimal::numbers_are;
 use notation::lines::field;
 use plain::judge::plain_judge;
 use spelling::same::same_walk;
+use successors::call::SuccessorsAnswer;
+use successors::call::successors;
 use table::reader::read;
 use table::writer::write;
 use tree::calls::start;
 use tree::calls::step;
 use treejudge::judge::tree_judge;
+ghost use mathlib.Core.Path.{_≡_};
+ghost use Rattle.stored.specs.Calls.{successorsNumbers};
 ghost use Rattle.stored.specs.Comparing.{Compared};
-ghost use Rattle.stored.specs.declared.calls.Call.the-variants.{Plain, Read, Same, Start, Step, Tree, Write};
+ghost use Rattle.stored.specs.declared.calls.Call.the-variants.{Plain, Read, Same, Start, Step, Successors, Tree, Write};
 
 // The reader: number n m k start.
 pub fn read_right(line: &[u8], numbers: &[u8], buffer: &mut [u8]) -> bool
@@ -145,4 +149,33 @@ pub fn same_right(line: &[u8], numbers: &[u8], buffer: &mut [u8]) -> bool
     );
     let answer = [given.number as u64, given.same as u64];
     u.right & v.right & u2.right & v2.right & numbers_are(numbers, &answer)
+}
+
+// The numbers of an answer on successors, in the order of a line: number, next, the maps of the four sets.
+fn successors_numbers(given: SuccessorsAnswer) -> [u64; 6]
+    ensures { λ r. ⌜ r ≡ successorsNumbers given ⌝ }
+{
+    let reached = given.reached;
+    [
+        given.number as u64,
+        given.next as u64,
+        reached[0] as u64,
+        reached[1] as u64,
+        reached[2] as u64,
+        reached[3] as u64,
+    ]
+}
+
+// The successors of a set: number next set1 set2 set3 set4. Nothing is lent to it: the buffer is left as it is.
+pub fn successors_right(line: &[u8], numbers: &[u8], buffer: &mut [u8]) -> bool
+    ensures { λ r. ⌜ Compared Successors (now (line .entry)) (now (buffer .entry)) (now (numbers .entry)) (now (buffer .exit)) r ⌝ }
+{
+    let t = field_bytes(line, 1);
+    let letter = number_of(field(line, 2), 255);
+    let set = number_of(field(line, 3), 65535);
+    let table = t.room;
+    let end = t.end;
+    let given = successors(&table[..end], letter.value as u8, set.value as u16);
+    let answer = successors_numbers(given);
+    t.right & letter.right & set.right & numbers_are(numbers, &answer)
 }

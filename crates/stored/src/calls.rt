@@ -11,6 +11,7 @@ use crate::answers::read_right;
 use crate::answers::same_right;
 use crate::answers::start_right;
 use crate::answers::step_right;
+use crate::answers::successors_right;
 use crate::answers::tree_right;
 use crate::answers::write_right;
 use crate::fields::field_bytes;
@@ -34,6 +35,7 @@ pub enum Call {
     Tree,
     Plain,
     Same,
+    Successors,
 }
 
 // A call, or none of this name.
@@ -67,6 +69,9 @@ fn call_named(name: &[u8]) -> Named
     if same(name, b"same") {
         return Named::Known(Call::Same);
     }
+    if same(name, b"successors") {
+        return Named::Known(Call::Successors);
+    }
     Named::Unknown
 }
 
@@ -82,6 +87,7 @@ fn arguments_of(call: Call) -> usize
         Call::Tree => 3,
         Call::Plain => 3,
         Call::Same => 4,
+        Call::Successors => 3,
     }
 }
 
@@ -97,6 +103,7 @@ fn numbers_right(call: Call, line: &[u8], numbers: &[u8], buffer: &mut [u8]) -> 
         Call::Tree => tree_right(line, numbers, buffer),
         Call::Plain => plain_right(line, numbers, buffer),
         Call::Same => same_right(line, numbers, buffer),
+        Call::Successors => successors_right(line, numbers, buffer),
     }
 }
 

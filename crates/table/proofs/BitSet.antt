@@ -301,6 +301,11 @@ module _ (n : ℕ) (E : ℕ → ℕ → Bool) where
   unfolding image
   image-lt s = collect-lt n _
 
+  -- members from n up add nothing
+  pub image-mod : (s : ℕ) → image n E (s % 2 ^ n) ≡ image n E s
+  unfolding image
+  image-mod s = collect-ext n _ _ (λ r hr. some-ext n _ _ (λ q hq. ap (λ (b : Bool). b && E q r) (member-mod n s q hq)))
+
   -- the empty set leads nowhere; a union leads where its parts lead
   pub image-none : image n E 0 ≡ 0
   image-none = empty-set _ (λ r. never _ (λ h. let (q, hq, hr, m, e) = image-out 0 r h in clash (member-none q) m))

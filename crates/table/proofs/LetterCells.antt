@@ -15,7 +15,7 @@ use Rattle.table.specs.Outcome.{accepted}
 use Rattle.table.specs.Rule.{Grid, Rule, squareOf}
 use Rattle.table.specs.Table.{mapByte, setBytes, cellBytes, tableBytes, SquareFits, Read, readMany, readCell, readRule}
 use Rattle.table.specs.Cells.{cellsLength, headerBytes, letterCells}
-use Rattle.table.specs.Lookup.{tabulate}
+use Rattle.table.specs.Tabulate.{tabulate}
 use Rattle.table.specs.Theorems.{TableByLetters, SameCells}
 use Rattle.table.proofs.Every.{every-at}
 use Rattle.table.proofs.Parts.{Squares, fits-squares, flatMap-append}

@@ -17,7 +17,8 @@ use lib.Seq.{ext-getD, getD-append-add, getD-set-same, getD-set-other}
 use Rattle.table.specs.Limits.{maxStates, noTransition}
 use Rattle.table.specs.BitSet.{member, collect, some}
 use Rattle.table.specs.Rule.{Grid, cellAt, edge, edgeIn, image}
-use Rattle.table.specs.Lookup.{relationsOf, tabulate, relation, rowWord, squareWords, gridWords, images, LetterTable, letterTable}
+use Rattle.table.specs.Lookup.{relationsOf, relation, rowWord, squareWords, gridWords, images, LetterTable, letterTable}
+use Rattle.table.specs.Tabulate.{tabulate}
 use Rattle.table.specs.Lookup.{joinedWord, joinedTable}
 use Rattle.table.specs.LookupSteps.{StateAdded}
 use Rattle.table.proofs.BitSet.{member-zero, member-suc, member-none, member-single, union-assoc, union-above, member-collect, collect-ext}

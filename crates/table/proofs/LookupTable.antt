@@ -14,17 +14,12 @@ use Rattle.table.specs.BitSet.{member}
 use Rattle.table.specs.Rule.{Rule, cellAt, edge, edgeIn, image, successors, successorsIn}
 use Rattle.table.specs.Table.{WellFormed}
 use Rattle.table.specs.Held.{held}
-use Rattle.table.specs.Lookup.{mapOf, tabulate, relation, images, LetterTable, letterTable, lookUp}
-use Rattle.table.proofs.BitSet.{member-union, member-mod, set-ext-below, member-collect, collect-lt, collect-ext, some-ext}
-use Rattle.table.proofs.BitSet.{image-lt, image-union}
+use Rattle.table.specs.Lookup.{mapOf, relation, images, LetterTable, letterTable, imagesBy, lookUp}
+use Rattle.table.specs.Tabulate.{tabulate}
+use Rattle.table.proofs.BitSet.{member-union, set-ext-below, member-collect, collect-lt, image-lt, image-union, image-mod}
 use Rattle.table.proofs.ByRelation.{relations-ext, relations-union, relations-at}
 use Rattle.table.proofs.Holding.{image-held, image-held-in}
 use Rattle.table.proofs.Tabulate.{length-tabulate, getD-tabulate}
-
--- states from n up add nothing to an image
-image-mod : (n : ℕ) (E : ℕ → ℕ → Bool) (s : ℕ) → image n E (s % 2 ^ n) ≡ image n E s
-unfolding image
-image-mod n E s = collect-ext n _ _ (λ r hr. some-ext n _ _ (λ q hq. ap (λ (b : Bool). b && E q r) (member-mod n s q hq)))
 
 -- a union leads where its parts lead, by each relation
 pub images-union : (square : List (List ℕ)) (s t : ℕ) → images square (bitOr s t) ≡ bitOr (images square s) (images square t)
@@ -43,7 +38,7 @@ images-at square i s h = relations-at (λ i r. member (image maxStates (relation
 -- the look-up in a letter's table gives the image under the letter's relation i: all transitions at 0, those of set i at i
 pub look-up-image : (square : List (List ℕ)) (i s : ℕ) → i ≤ maxSets
     → lookUp (letterTable square) i s ≡ image maxStates (relation square i) s
-unfolding lookUp letterTable
+unfolding lookUp imagesBy letterTable
 look-up-image square i s h = ap (λ (x : ℕ). mapOf x i) (ap₂ bitOr first second
     ∙ sym (images-union square (s % 16) (16 * (s / 16 % 16))) ∙ ap (images square) both)
     ∙ images-at square i (s % 2 ^ maxStates) h ∙ image-mod maxStates (relation square i) s

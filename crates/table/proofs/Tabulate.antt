@@ -1,4 +1,4 @@
--- The laws of `tabulate` (specs/Lookup.antt), and of an array that a loop fills from the front with the values of a function.
+-- The laws of `tabulate` (specs/Tabulate.antt), and of an array that a loop fills from the front with the values of a function.
 use mathlib.Core.Path.{_≡_, refl, sym, _∙_, ap, ap₂}
 use mathlib.Core.List.{List, [], _∷_, _++_}
 use Prim.Native.Nat.{ℕ, zero, suc, _+_, _≤_, _<_}
@@ -6,7 +6,7 @@ use native.Mathlib.Numerals.{add-one}
 use native.Mathlib.Omega.{arith}
 use lib.ListN.{length, getD, take, set, length-set}
 use lib.Seq.{take-suc-set, take-all}
-use Rattle.table.specs.Lookup.{tabulate}
+use Rattle.table.specs.Tabulate.{tabulate}
 
 module _ {A : Type 0} where
   -- its length and its values

@@ -1,6 +1,7 @@
 -- What to believe: the limits, sets, questions, rules and tables, and the outcomes of the calls.
 pub mod Limits
 pub mod BitSet
+pub mod Tabulate
 pub mod Outcome
 pub mod Rule
 pub mod Table

@@ -1,5 +1,5 @@
 -- The look-up of a set's successors inside the code: a letter has a table of the images of all sets of states within the
--- lowest four bits, then of those within the next four. Two entries give the image of any set.
+-- lowest four bits, then of those within the next four. Two entries give the images of any set, by all relations at once.
 use mathlib.Core.Bool.{Bool, cond}
 use mathlib.Core.List.{List, [], _∷_, _++_, map}
 use Prim.Native.Nat.{ℕ, zero, suc, _+_, _*_, _/_, _%_, _^_}
@@ -9,11 +9,7 @@ use lib.ListN.{getD}
 use Rattle.table.specs.Limits.{maxStates, maxSets, noTransition}
 use Rattle.table.specs.BitSet.{member, collect}
 use Rattle.table.specs.Rule.{Grid, edge, edgeIn, image}
-
--- f 0, f 1, .., f (n−1)
-unfoldable pub tabulate : {A : Type 0} → ℕ → (ℕ → A) → List A
-tabulate zero f = []
-tabulate (suc n) f = f 0 ∷ tabulate n (λ i. f (suc i))
+use Rattle.table.specs.Tabulate.{tabulate}
 
 -- the transitions of a letter's square: all of them at 0, those of set i at i
 unfoldable pub relation : List (List ℕ) → ℕ → ℕ → ℕ → Bool
@@ -23,6 +19,10 @@ relation square (suc i) q r = edgeIn (square ∷ []) (suc i) 0 q r
 -- the relations that a grid's byte stands in, as a map: 0 for all transitions, i for those of set i
 unfoldable pub relationsOf : ℕ → ℕ
 relationsOf x = cond (eqb x noTransition) 0 (1 + 2 * x)
+
+-- a word of the code has a lane of eight bits for each relation, and room for so many
+abbrev pub lanes : ℕ
+lanes = 8
 
 -- a map of states for each relation, in one number: bit 8·i + r stands where r is in the map for relation i
 unfoldable pub byRelation : (ℕ → ℕ → Bool) → ℕ
@@ -64,6 +64,10 @@ joinedWord (word ∷ words) s = bitOr (cond (eqb (s % 2) 1) word 0) (joinedWord 
 unfoldable pub joinedTable : List ℕ → LetterTable
 joinedTable words = tabulate 16 (λ j. joinedWord words j) ++ tabulate 16 (λ j. joinedWord words (16 * j))
 
--- the image of s by a table: under all transitions at i = 0, by those of set i at i
+-- the images of s by a table, in one number: under all transitions, then by those of each set
+unfoldable pub imagesBy : LetterTable → ℕ → ℕ
+imagesBy table s = bitOr (getD table (s % 16) 0) (getD table (16 + s / 16 % 16) 0)
+
+-- one of them: under all transitions at i = 0, by those of set i at i
 unfoldable pub lookUp : LetterTable → ℕ → ℕ → ℕ
-lookUp table i s = mapOf (bitOr (getD table (s % 16) 0) (getD table (16 + s / 16 % 16) 0)) i
+lookUp table i s = mapOf (imagesBy table s) i

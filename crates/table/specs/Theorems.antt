@@ -9,7 +9,7 @@ use Rattle.table.specs.Outcome.{accepted, Tells}
 use Rattle.table.specs.Rule.{Rule, squareOf}
 use Rattle.table.specs.Table.{WellFormed, inRange, tableBytes, gridBytes, readRule}
 use Rattle.table.specs.Cells.{headerBytes, letterCells}
-use Rattle.table.specs.Lookup.{tabulate}
+use Rattle.table.specs.Tabulate.{tabulate}
 use Rattle.table.specs.Storing.{stored}
 use Rattle.table.specs.ReadCall.{readOutcome, readAnswer, gridAfter}
 use Rattle.table.specs.WriteCall.{writeOutcome, writeAnswer}

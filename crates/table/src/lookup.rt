@@ -1,11 +1,10 @@
-// The look-up of successors: the image of a set of states under a letter by two entries of a table.
+// The look-up of successors: the images of a set of states under a letter by two entries of a table.
 // A letter's table is made once; `look_up` is the inner step of every run of a rule.
 use crate::limits::SquareWords;
 ghost use mathlib.Core.Path.{_≡_};
-ghost use Prim.Native.Nat.{_^_, _<_, _≤_};
+ghost use Prim.Native.Nat.{_^_, _<_};
 ghost use lib.ListN.{length};
-ghost use Rattle.table.specs.Limits.{maxSets};
-ghost use Rattle.table.specs.Lookup.{joinedTable, lookUp};
+ghost use Rattle.table.specs.Lookup.{imagesBy, joinedTable, lanes, mapOf};
 ghost use Rattle.table.specs.LookupSteps.{StateAdded};
 
 // The table of a letter: the images of the sets within the lowest four states, then of those within the next four. The images
@@ -15,14 +14,20 @@ pub type LetterTable = [u64; ENTRIES];
 // Sixteen sets in each half.
 pub const ENTRIES: usize = 32;
 
-// The image of a set of states: under all transitions for relation 0, by those of set i for relation i.
-pub fn look_up(table: &LetterTable, relation: usize, set: u16) -> u16
-    requires { ⌜ relation ≤ maxSets ⌝ }
-    ensures { λ r. ⌜ r ≡ lookUp (now (table .entry)) relation set ⌝ }
+// The images of a set of states, all in one word: the next states in lane 0, and in lane i those reached by a transition of set i.
+pub fn look_up(table: &LetterTable, set: u16) -> u64
+    ensures { λ r. ⌜ r ≡ imagesBy (now (table .entry)) set ⌝ }
 {
     let s = set as usize;
-    let word = table[s % 16] | table[16 + s / 16 % 16];
-    ((word >> (8 * relation)) % 256) as u16
+    table[s % 16] | table[16 + s / 16 % 16]
+}
+
+// The map in a lane of such a word: lane 0 has it for all transitions, lane i for those of set i.
+pub fn map_of(word: u64, lane: usize) -> u16
+    requires { ⌜ lane < lanes ⌝ }
+    ensures { λ r. ⌜ r ≡ mapOf word lane ⌝ }
+{
+    ((word >> (8 * lane)) % 256) as u16
 }
 
 // The entries of the sets with highest state q in each half: q's images joined to the entry of the set without q.

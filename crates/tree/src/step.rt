@@ -10,6 +10,7 @@ use crate::rows::Stepped;
 use crate::rows::Tree;
 use table::lookup::LetterTable;
 use table::lookup::look_up;
+use table::lookup::map_of;
 ghost use mathlib.Core.Path.{_≡_};
 ghost use mathlib.Core.Bool.{cond};
 ghost use Prim.Native.Nat.{_≤_, _<_};
@@ -44,10 +45,10 @@ fn meet(table: &LetterTable, x: Row, taken: u16) -> Met
     requires { ⌜ x .active ≤ maxSets ⌝ }
     ensures { λ r. ⌜ r ≡ metBy (lookUp (now (table .entry))) x taken ⌝ }
 {
-    let active = x.active as usize;
-    let label = look_up(table, 0, x.label);
-    let kids = look_up(table, 0, x.kids);
-    let sprout = look_up(table, active, x.label);
+    let images = look_up(table, x.label);
+    let label = map_of(images, 0);
+    let sprout = map_of(images, x.active as usize);
+    let kids = map_of(look_up(table, x.kids), 0);
     Met {
         label: minus(label, taken),
         kids: minus(kids | sprout, taken),

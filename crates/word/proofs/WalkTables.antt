@@ -20,7 +20,8 @@ use Rattle.table.specs.Table.{Every}
 use Rattle.table.specs.HeldRule.{HoldsRule}
 use Rattle.table.specs.declared.header.Header.{Header}
 use Rattle.table.specs.Held.{held}
-use Rattle.table.specs.Lookup.{tabulate, joinedTable}
+use Rattle.table.specs.Lookup.{joinedTable}
+use Rattle.table.specs.Tabulate.{tabulate}
 use Rattle.table.proofs.BitSet.{member-none, member-union, union-assoc, member-collect, collect-ext, collect-union, collect-single}
 use Rattle.table.proofs.Every.{every-weaker, every-both}
 use Rattle.table.proofs.Logic.{look, clash, never, or-l, or-r}

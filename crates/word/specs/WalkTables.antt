@@ -8,7 +8,8 @@ use lib.ListN.{getD}
 use Rattle.table.specs.Limits.{maxLetters}
 use Rattle.table.specs.Rule.{Rule}
 use Rattle.table.specs.Held.{held}
-use Rattle.table.specs.Lookup.{tabulate, LetterTable, letterTable, joinedTable}
+use Rattle.table.specs.Lookup.{LetterTable, letterTable, joinedTable}
+use Rattle.table.specs.Tabulate.{tabulate}
 
 -- a table for each letter
 abbrev pub Tables : Type 0

@@ -31,6 +31,9 @@ fn arguments(case: &Case) -> String {
         Case::Same((u, v), (other_u, other_v)) => {
             [u, v, other_u, other_v].map(|part| shown(part)).join("\t")
         }
+        Case::Successors(table, letter, set) => {
+            format!("{}\t{letter}\t{set}", shown(table))
+        }
     }
 }
 

@@ -107,7 +107,7 @@ fn cells() -> Vec<Tabled> {
 }
 
 /// The calls that take a table, with all else as it should be.
-fn calls(table: &[u8]) -> [Case; 5] {
+fn calls(table: &[u8]) -> [Case; 6] {
     let walk = Walk { table: table.to_vec(), u: vec![], v: vec![0] };
     [
         Case::Read(table.to_vec()),
@@ -115,12 +115,16 @@ fn calls(table: &[u8]) -> [Case; 5] {
         Case::Step(table.to_vec(), 0, vec![1, 0, 1]),
         Case::Tree(walk.clone()),
         Case::Plain(walk),
+        Case::Successors(table.to_vec(), 0, 255),
     ]
 }
 
 fn table_of(case: &Case) -> Option<&[u8]> {
     match case {
-        Case::Read(table) | Case::Start(table) | Case::Step(table, ..) => Some(table),
+        Case::Read(table)
+        | Case::Start(table)
+        | Case::Step(table, ..)
+        | Case::Successors(table, ..) => Some(table),
         Case::Tree(walk) | Case::Plain(walk) => Some(&walk.table),
         Case::Write(..) | Case::Same(..) => None,
     }

@@ -4,9 +4,9 @@
 use super::{first_difference, job, Reference, NAME_LENGTH, RECORD_LENGTH};
 use crate::answers::{Calls, Judges, Numbers};
 
-const A: [u8; 12] = [2, 2, 1, 1, 1, 0, 0, 3, 0, 0, 2, 1];
-const B: [u8; 8] = [1, 2, 2, 1, 1, 1, 1, 2];
-const C: [u8; 5] = [1, 1, 1, 1, 0];
+pub const A: [u8; 12] = [2, 2, 1, 1, 1, 0, 0, 3, 0, 0, 2, 1];
+pub const B: [u8; 8] = [1, 2, 2, 1, 1, 1, 1, 2];
+pub const C: [u8; 5] = [1, 1, 1, 1, 0];
 
 /// One letter under A: the new record, accepting map, stable map.
 fn step(letter: u8, record: &[u8]) -> (Vec<u8>, u16, u16) {

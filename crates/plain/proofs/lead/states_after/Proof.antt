@@ -1,10 +1,11 @@
 -- `states_after` meets its contract. What the letters from `at` on lead to from the states at hand is what all letters lead to.
 use borrow.Author.Needs.{needs}
 use native.Mathlib.Omega.{arith}
-use mathlib.Core.Path.{_≡_, refl, sym, _∙_}
-use Prim.Native.Nat.{_-_, _≤_, _<_}
+use mathlib.Core.Path.{_≡_, refl, sym, _∙_, ap}
+use Prim.Native.Nat.{ℕ, _-_, _≤_, _<_}
 use lib.ListN.{length, drop}
 use Rattle.table.specs.Limits.{maxLetters}
+use Rattle.table.specs.Lookup.{mapOf, lookUp}
 use Rattle.table.proofs.Every.{every-at}
 use Rattle.plain.specs.Letters.{statesAfter}
 use Rattle.plain.proofs.LetterLaws.{over-done, over-more}
@@ -36,6 +37,9 @@ mul-look-up c = omega (arith, index-1-look-up c)
 look-up-requires : tie.Need-look-up-requires Inv-loop μ-loop
 look-up-requires c κs = search needs
 
+map-of-requires : tie.Need-map-of-requires Inv-loop μ-loop
+map-of-requires c κs = search needs
+
 add-at : tie.Need-add-at Inv-loop μ-loop
 add-at c = search needs
 
@@ -43,11 +47,12 @@ loop-less : tie.Need-loop-less Inv-loop μ-loop
 loop-less c = search needs
 
 loop-again : tie.Need-loop-again Inv-loop μ-loop
-unfolding statesAfter
+unfolding statesAfter lookUp
 loop-again c =
-    let at = c .before .before .before .before in
+    let at = c .before .before .before .before .before in
     let u = at .before .before .args .u .now in
-    (omega arith, over-more _ _ u (at .loop .at) _ _ (omega arith) (c .look-up .ensures) ∙ at .loop .inv .1)
+    let next = c .map-of .ensures ∙ ap (λ (x : ℕ). mapOf x 0) (c .before .look-up .ensures) in
+    (omega arith, over-more _ _ u (at .loop .at) _ _ (omega arith) next ∙ at .loop .inv .1)
 
 returns : tie.Need-returns Inv-loop μ-loop
 unfolding statesAfter
@@ -68,6 +73,7 @@ states-after-spec =
     mul-look-up
     index-1-look-up
     look-up-requires
+    map-of-requires
     add-at
     loop-less
     loop-again

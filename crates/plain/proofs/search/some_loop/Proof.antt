@@ -8,8 +8,7 @@ use borrow.Author.Count.{below-more}
 use borrow.Author.Tests.{eqb-true, eq-eqb}
 use Rattle.table.specs.BitSet.{member}
 use Rattle.table.specs.Limits.{maxSets}
-use Rattle.plain.specs.Ways.{packed, ways}
-use Rattle.plain.specs.Rounds.{marks}
+use Rattle.plain.specs.Ways.{packed, marks, ways}
 use Rattle.plain.specs.Search.{LoopAt}
 use Rattle.plain.proofs.Searching.{marks-drop, full-out, full-in, reached-out, reached-in}
 use Rattle.plain.proofs.search.some_loop.Statement.{statement}

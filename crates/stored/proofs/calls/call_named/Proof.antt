@@ -77,10 +77,21 @@ returns-7 : tie.Need-returns-7
 unfolding nameOf
 returns-7 c = c .before .same7 .ensures .0 (c .if7 .taken)
 
+slice-aggregate-same-8 : tie.Need-slice-aggregate-same-8
+slice-aggregate-same-8 c = refl
+
+same-requires-8 : tie.Need-same-requires-8
+same-requires-8 c κs = search needs
+
 returns-8 : tie.Need-returns-8
 unfolding nameOf
-returns-8 c =
-    let sixth = c .before .before .before in
+returns-8 c = c .before .same8 .ensures .0 (c .if8 .taken)
+
+returns-9 : tie.Need-returns-9
+unfolding nameOf
+returns-9 c =
+    let seventh = c .before .before .before in
+    let sixth = seventh .before .before .before in
     let fifth = sixth .before .before .before in
     let fourth = fifth .before .before .before in
     let third = fourth .before .before .before in
@@ -89,7 +100,7 @@ returns-8 c =
     no-name _ (tests-not (first .before .same .ensures) (first .if1 .left)) (tests-not (second .before .same2 .ensures) (second .if2 .left))
     (tests-not (third .before .same3 .ensures) (third .if3 .left)) (tests-not (fourth .before .same4 .ensures) (fourth .if4 .left))
     (tests-not (fifth .before .same5 .ensures) (fifth .if5 .left)) (tests-not (sixth .before .same6 .ensures) (sixth .if6 .left))
-    (tests-not (c .before .same7 .ensures) (c .if7 .left))
+    (tests-not (seventh .before .same7 .ensures) (seventh .if7 .left)) (tests-not (c .before .same8 .ensures) (c .if8 .left))
 
 pub call-named-spec : {M : Type 1} → statement M
 call-named-spec =
@@ -116,4 +127,7 @@ call-named-spec =
     slice-aggregate-same-7
     same-requires-7
     returns-7
-    returns-8)
+    slice-aggregate-same-8
+    same-requires-8
+    returns-8
+    returns-9)

@@ -45,6 +45,12 @@ enum-told-7 c = search needs
 same-right-requires : tie.Need-same-right-requires
 same-right-requires c κs = search needs
 
+enum-told-8 : tie.Need-enum-told-8
+enum-told-8 c = search needs
+
+successors-right-requires : tie.Need-successors-right-requires
+successors-right-requires c κs = search needs
+
 same-length : tie.Need-same-length
 same-length c = search needs
 
@@ -101,6 +107,14 @@ returns-7 c =
     let called = c .before .before in
     rw (called .before .before .enum-told7 .given .1) (called .same-right .ensures)
 
+same-length-8 : tie.Need-same-length-8
+same-length-8 c = search needs
+
+returns-8 : tie.Need-returns-8
+returns-8 c =
+    let called = c .before .before in
+    rw (called .before .before .enum-told8 .given .1) (called .successors-right .ensures)
+
 pub numbers-right-spec : {M : Type 1} → statement M
 numbers-right-spec =
     tie.close
@@ -119,6 +133,8 @@ numbers-right-spec =
     plain-right-requires
     enum-told-7
     same-right-requires
+    enum-told-8
+    successors-right-requires
     same-length
     returns
     same-length-2
@@ -132,4 +148,6 @@ numbers-right-spec =
     same-length-6
     returns-6
     same-length-7
-    returns-7)
+    returns-7
+    same-length-8
+    returns-8)

@@ -1,0 +1,117 @@
+-- What an answer of the look-up says of the rule, by members.
+use mathlib.Core.Path.{_≡_, refl, sym, _∙_, ap, subst}
+use mathlib.Core.Bool.{Bool, true}
+use mathlib.Core.Logic.{_↔_}
+use mathlib.Core.List.{List}
+use Prim.Native.Nat.{ℕ, suc, _%_, _^_, _<_, _≤_}
+use native.Mathlib.Decide.{decLt}
+use native.Mathlib.Omega.{arith}
+use borrow.Author.Tests.{ltb-true}
+use lib.Dec.{ltb}
+use lib.ListN.{getD, List·getD-eq-default}
+use Rattle.table.specs.BitSet.{member}
+use Rattle.table.specs.Limits.{maxSets}
+use Rattle.table.specs.Outcome.{Outcome, refused, accepted, ask, _then_}
+use Rattle.table.specs.Rule.{Rule, edge, edgeIn, image, successors, successorsIn}
+use Rattle.table.specs.Table.{WellFormed, readRule}
+use Rattle.table.specs.Tabulate.{tabulate}
+use Rattle.table.proofs.Accepted.{IfAccepted, of-accepted, asked}
+use Rattle.table.proofs.BitSet.{empty-set, image-in, image-out, image-mod, some-member, member-none}
+use Rattle.table.proofs.Edges.{edge-inside, edgeIn-edge, edgeIn-set}
+use Rattle.table.proofs.Logic.{clash, never}
+use Rattle.table.proofs.RoundTrip.{read-well-formed}
+use Rattle.table.proofs.Tabulate.{length-tabulate, getD-tabulate, tabulate-ext}
+use Rattle.successors.specs.SuccessorsCall.{successorsOutcome, successorsAnswer}
+use Rattle.successors.specs.Reached.{LeadsTo, Reached, ReachedExactly, StatesFromN, Serves}
+use Rattle.successors.specs.declared.call.SuccessorsAnswer.{SuccessorsAnswer}
+use Rattle.successors.proofs.Answers.{successors-number}
+
+-- the members of an image under a relation between numbers below n
+image-exact : (n : ℕ) (E : ℕ → ℕ → Bool) → ((q r : ℕ) → E q r ≡ true → r < n) → (s r : ℕ)
+    → (member (image n E s) r ≡ true) ↔ LeadsTo n E s r
+image-exact n E within s r = (
+  (λ m. let (q, q-in, _, inside, e) = image-out n E s r m in (q, q-in, inside, e)),
+  (λ (q, q-in, inside, e). image-in n E s q r q-in (within q r e) inside e),
+)
+
+module _ (R : Rule) (well : WellFormed R) (a : ℕ) where
+  -- transitions lead to states of the rule
+  to-state : (q r : ℕ) → edge (R .grid) a q r ≡ true → r < R .states
+  to-state q r e = edge-inside R well a q r e .2
+
+  -- no transition is one of a set that the rule does not have
+  no-set : (i s : ℕ) → R .sets ≤ i → successorsIn R (suc i) a s ≡ 0
+  unfolding successorsIn
+  no-set i s large = empty-set _ (λ r. never _ (λ m.
+      let (q, _, _, _, e) = image-out (R .states) (edgeIn (R .grid) (suc i) a) s r m in
+      omega (arith, edgeIn-set R well i a q r e)))
+
+  -- the answer of an accepted call
+  reached : (s : ℕ) → Reached R a s (successorsAnswer (accepted R) a s)
+  unfolding successorsAnswer successors successorsIn
+  reached s = record {
+    next = image-exact (R .states) (edge (R .grid) a) to-state s;
+    by-set = λ i r small. subst (λ x. (member x r ≡ true) ↔ LeadsTo (R .states) (edgeIn (R .grid) (suc i) a) s r)
+        (sym (getD-tabulate maxSets (λ i. successorsIn R (suc i) a s) i 0 small))
+        (image-exact (R .states) (edgeIn (R .grid) (suc i) a) (λ q r e. to-state q r (edgeIn-edge (R .grid) (suc i) a q r e)) s r);
+    others = λ i large. go i large (decLt i maxSets);
+  }
+    where
+      maps : List ℕ
+      maps = tabulate maxSets (λ i. successorsIn R (suc i) a s)
+
+      go : (i : ℕ) → R .sets ≤ i → Dec (i < maxSets) → getD maps i 0 ≡ 0
+      go i large (yes small) = getD-tabulate maxSets (λ i. successorsIn R (suc i) a s) i 0 small ∙ no-set i s large
+      go i large (no other) = List·getD-eq-default maps 0 (omega (arith, length-tabulate maxSets (λ i. successorsIn R (suc i) a s)))
+
+-- an accepted call: the table is read as the rule, and the letter is one of its letters
+accepted-call : (table : List ℕ) (a : ℕ) (R : Rule) → successorsOutcome table a ≡ accepted R → (readRule table ≡ accepted R) × (a < R .letters)
+unfolding successorsOutcome
+accepted-call table a R e = go (readRule table) refl e
+  where
+    Known : Rule → Type 0
+    Known S = (readRule table ≡ accepted S) × (a < S .letters)
+
+    go : (o : Outcome Rule) → readRule table ≡ o → (o then λ S. ask (ltb a (S .letters)) 8 (accepted S)) ≡ accepted R → Known R
+    go (refused number) is e = let z : _≡_ {A = ℕ} 0 1 = cc in absurd (omega arith)
+    go (accepted S) is e = of-accepted Known _ R e (asked Known (ltb a (S .letters)) 8 (accepted S) (λ t. (is, ltb-true _ _ t)))
+
+-- THE THEOREMS
+
+pub reached-exactly : ReachedExactly
+reached-exactly table a s answer e none =
+    let (R, is) = successors-number table a s .accepts .0 (rw e at none) in
+    let (reads, small) = accepted-call table a R is in
+    (R, reads, small, rw (e, is) (reached R (read-well-formed table R reads .0) a s))
+
+-- sets with the same members below n have the same image
+same-image : (n : ℕ) (E : ℕ → ℕ → Bool) (s t : ℕ) → s % 2 ^ n ≡ t % 2 ^ n → image n E s ≡ image n E t
+same-image n E s t e = sym (image-mod n E s) ∙ ap (image n E) e ∙ image-mod n E t
+
+same-answer : (o : Outcome Rule) (a s t : ℕ) → IfAccepted (λ R. s % 2 ^ (R .states) ≡ t % 2 ^ (R .states)) o
+    → successorsAnswer o a s ≡ successorsAnswer o a t
+unfolding successorsAnswer successors successorsIn
+same-answer (refused number) a s t h = refl
+same-answer (accepted R) a s t h = rw (
+  same-image (R .states) (edge (R .grid) a) s t h,
+  tabulate-ext maxSets _ _ (λ i _. same-image (R .states) (edgeIn (R .grid) (suc i) a) s t h),
+)
+
+pub states-from-n : StatesFromN
+unfolding successorsOutcome
+states-from-n table a s t R reads same = same-answer (successorsOutcome table a) a s t
+    (rw reads (asked (λ R. s % 2 ^ (R .states) ≡ t % 2 ^ (R .states)) (ltb a (R .letters)) 8 (accepted R) (λ _. same)))
+
+pub serves : Serves
+serves table a s R is all i small = rw is (
+  (λ some. let (r, m) = some-member _ some in let (q, _, _, e) = exactly .by-set i r small .0 m in (q, r, e)),
+  (λ (q, r, e). λ none.
+      let q-in = edge-inside R well a q r (edgeIn-edge (R .grid) (suc i) a q r e) .1 in
+      clash (member-none r) (rw none at (exactly .by-set i r small .1 (q, q-in, all q q-in, e)))),
+)
+  where
+    well : WellFormed R
+    well = read-well-formed table R (accepted-call table a R is .0) .0
+
+    exactly : Reached R a s (successorsAnswer (accepted R) a s)
+    exactly = reached R well a s

@@ -1,0 +1,29 @@
+-- The look-up of a set's successors under a letter (document 02, U2: "Table look-up with the sets in it"): what the call answers, for all
+-- inputs. It is lent nothing to write.
+use mathlib.Core.List.{List}
+use Prim.Native.Nat.{ℕ, suc}
+use lib.Dec.{ltb}
+use lib.ListN.{replicate}
+use Rattle.table.specs.Limits.{maxSets}
+use Rattle.table.specs.Outcome.{Outcome, refused, accepted, ask, _then_, Tells}
+use Rattle.table.specs.Rule.{Rule, successors, successorsIn}
+use Rattle.table.specs.Table.{readRule}
+use Rattle.table.specs.Tabulate.{tabulate}
+use Rattle.successors.specs.declared.call.SuccessorsAnswer.{SuccessorsAnswer}
+
+-- questions 1 to 6, and 8 to the letter. Nothing is asked of the set: any number is the map of one.
+unfoldable pub successorsOutcome : List ℕ → ℕ → Outcome Rule
+successorsOutcome table a = readRule table then λ R. ask (ltb a (R .letters)) 8 (accepted R)
+
+-- "it shall give the next states and, for each accepting set, exactly those reached by a transition of that set": set i at place i − 1.
+-- On a refusal its number and zero for all else.
+unfoldable pub successorsAnswer : Outcome Rule → ℕ → ℕ → SuccessorsAnswer
+successorsAnswer (refused number) a s = record { number = number; next = 0; reached = replicate maxSets 0 }
+successorsAnswer (accepted R) a s =
+    record { number = 0; next = successors R a s; reached = tabulate maxSets (λ i. successorsIn R (suc i) a s) }
+
+-- the number that a caller sees tells whether the call is accepted
+abbrev pub SuccessorsNumber : Type 0
+SuccessorsNumber =
+    (table : List ℕ) (a s : ℕ)
+    → Tells (successorsOutcome table a) (successorsAnswer (successorsOutcome table a) a s .number)

@@ -1,0 +1,78 @@
+// The look-up of a set's successors as a call: for screens that show which accepting sets a letter can serve.
+use table::limits::LETTERS;
+use table::limits::NO_TRANSITION;
+use table::limits::SETS;
+use table::limits::STATES;
+use table::lookup::ENTRIES;
+use table::lookup::fill_table;
+use table::lookup::look_up;
+use table::lookup::map_of;
+use table::reader::Reading;
+use table::reader::read_rule;
+ghost use mathlib.Core.Path.{_≡_};
+ghost use Prim.Native.Nat.{ℕ, suc};
+ghost use Rattle.table.specs.Limits.{maxSets};
+ghost use Rattle.table.specs.Lookup.{mapOf};
+ghost use Rattle.table.specs.Outcome.{refused};
+ghost use Rattle.table.specs.Tabulate.{tabulate};
+ghost use Rattle.successors.specs.SuccessorsCall.{successorsAnswer, successorsOutcome};
+
+// 0, the map of the next states, and for each accepting set the map of those that a transition of it reaches: set i at place i − 1,
+// 0 for a set that the rule does not have. Or the number of the question that failed and zeros.
+#[repr(C)]
+pub struct SuccessorsAnswer {
+    pub number: u8,
+    pub next: u16,
+    pub reached: [u16; SETS],
+}
+
+// A refusal: its number and zero for all else.
+fn refusal(number: u8) -> SuccessorsAnswer
+    ensures { λ r. ⌜ ((a s : ℕ) → r ≡ successorsAnswer (refused number) a s) ⌝ }
+{
+    SuccessorsAnswer {
+        number: number,
+        next: 0,
+        reached: [0u16; SETS],
+    }
+}
+
+// The maps of the accepting sets in a word of images, set 1 first.
+fn maps_by_set(images: u64) -> [u16; SETS]
+    ensures { λ r. ⌜ r ≡ tabulate maxSets (λ i. mapOf images (suc i)) ⌝ }
+{
+    let mut maps = [0u16; SETS];
+    let mut i = 0usize;
+    while i < SETS {
+        maps[i] = map_of(images, i + 1);
+        i += 1;
+    }
+    maps
+}
+
+// THE SUCCESSORS of a set of states under a letter. Questions 1 to 6, then 8.
+pub fn successors(table: &[u8], letter: u8, set: u16) -> SuccessorsAnswer
+    ensures { λ r. ⌜ r ≡ successorsAnswer (successorsOutcome (now (table .entry)) letter) letter set ⌝ }
+{
+    let mut cells = [[[NO_TRANSITION; STATES]; STATES]; LETTERS];
+    let mut words = [[0u64; STATES]; LETTERS];
+    match read_rule(table, &mut cells, &mut words) {
+        Reading::Refused(number) => refusal(number),
+        Reading::Rule(header) => {
+            let a = letter as usize;
+            if header.letters <= a {
+                return refusal(8);
+            }
+            let mut letter_table = [0u64; ENTRIES];
+            fill_table(&words[a], &mut letter_table);
+            let images = look_up(&letter_table, set);
+            let next = map_of(images, 0);
+            let reached = maps_by_set(images);
+            SuccessorsAnswer {
+                number: 0,
+                next: next,
+                reached: reached,
+            }
+        }
+    }
+}
