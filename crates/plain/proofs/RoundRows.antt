@@ -1,15 +1,12 @@
 -- The rows of one or more tails (specs/Rounds.antt), as the code makes them: products keep maps or drop them, and the rows have
 -- the ways that may pass one state after the other.
-use mathlib.Core.Path.{_≡_, refl, sym, _∙_, ap, ap₂}
-use mathlib.Core.Bool.{Bool, true, false, _&&_, _||_}
+use mathlib.Core.Path.{_≡_, sym, _∙_, ap, ap₂}
+use mathlib.Core.Bool.{Bool, _&&_, _||_}
 use mathlib.Core.List.{List}
 use Prim.Native.Nat.{ℕ, suc, _+_, _*_, _/_, _%_, _^_, _≤_, _<_}
-use native.Mathlib.Nat.{mul-le-mul, mul-le-mul-left}
 use native.Mathlib.Numerals.{add-one}
 use native.Mathlib.Omega.{arith}
-use borrow.Author.Tests.{eqb-true, eqb-false}
-use lib.Bits.{bitAnd, and-le-r}
-use lib.Dec.{eqb}
+use lib.Bits.{bitAnd}
 use lib.ListN.{getD}
 use Rattle.table.specs.Lookup.{mapOf}
 use Rattle.table.specs.Limits.{maxStates, maxSets}
@@ -17,29 +14,7 @@ use Rattle.table.specs.BitSet.{member}
 use Rattle.table.proofs.BitSet.{member-none, member-union}
 use Rattle.plain.specs.Ways.{Ways, joined, packed, marks, ways, AreWays, Changed}
 use Rattle.plain.specs.Rounds.{passing, widened, continued}
-use Rattle.plain.proofs.RowLaws.{map-zero, map-none, map-union, packed-at, packed-times, packed-marks, mark, column}
-
--- PRODUCTS WITH 1 OR 0
-
-module _ (x b : ℕ) (bit : b ≤ 1) where
-  -- such a product is kept, or 0
-  pub kept : (P : ℕ → Bool) → P 0 ≡ false → P (x * b) ≡ (eqb b 1 && P x)
-  kept P none = go (eqb b 1) refl
-    where
-      go : (one : Bool) → eqb b 1 ≡ one → P (x * b) ≡ (one && P x)
-      go true e = let same : x * 1 ≡ x = omega arith in rw (eqb-true b 1 e, same)
-      go false e =
-          let none-left : b ≡ 0 = omega (arith, eqb-false b 1 e) in
-          let same : x * 0 ≡ 0 = omega arith in
-          rw (none-left, same) none
-
-  pub kept-le : x * b ≤ x
-  kept-le = omega (arith, mul-le-mul-left x bit)
-
--- the product with a bit for each relation fits in 64 bits
-pub kept-maps-lt : (x z : ℕ) → x % 2 ^ maxStates * bitAnd z (marks (suc maxSets)) < 2 ^ 64
-unfolding marks packed
-kept-maps-lt x z = omega (arith, mul-le-mul {n₁ = x % 2 ^ maxStates} {n₂ = 2 ^ maxStates} (omega arith) (and-le-r z (marks (suc maxSets))))
+use Rattle.plain.proofs.RowLaws.{map-zero, map-none, map-union, packed-at, packed-times, packed-marks, mark, column, kept, kept-le}
 
 -- ONE ROW
 

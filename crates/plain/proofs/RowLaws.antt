@@ -1,19 +1,22 @@
 -- The laws of rows (specs/Ways.antt): the map for each relation, rows made of maps, and rows changed one after the other.
 use mathlib.Core.Path.{_≡_, refl, sym, _∙_, ap, ap₂}
+use mathlib.Core.Bool.{Bool, true, false, _&&_}
 use mathlib.Core.List.{List}
-use Prim.Native.Nat.{ℕ, zero, suc, _+_, _*_, _/_, _%_, _^_, _<_}
+use Prim.Native.Nat.{ℕ, zero, suc, _+_, _*_, _/_, _%_, _^_, _≤_, _<_}
 use native.Mathlib.Decide.{ℕ-discrete}
+use native.Mathlib.Nat.{mul-le-mul, mul-le-mul-left}
 use native.Mathlib.Omega.{arith}
-use lib.Bits.{bitAnd, bitOr, and-block, and-mask, and-zero-r, or-block, or-shr, or-mod, or-zero-l, or-zero-r}
+use borrow.Author.Tests.{eqb-true, eqb-false}
+use lib.Bits.{bitAnd, bitOr, and-block, and-le-r, and-mask, and-zero-r, or-block, or-shr, or-mod, or-zero-l, or-zero-r}
 use lib.Dec.{eqb}
 use lib.ListN.{length, getD, set, length-set}
 use lib.Pow.{shr-shr, pow-add}
 use lib.Seq.{getD-set-same, getD-set-other}
 use Rattle.table.specs.Lookup.{mapOf}
-use Rattle.table.specs.Limits.{maxStates}
+use Rattle.table.specs.Limits.{maxStates, maxSets}
 use Rattle.table.specs.BitSet.{member}
 use Rattle.table.proofs.BitSet.{member-from, member-mod}
-use Rattle.plain.specs.Ways.{packed, Changed}
+use Rattle.plain.specs.Ways.{packed, marks, Changed}
 
 -- THE MAPS OF A ROW
 
@@ -109,6 +112,28 @@ pub column : (row m i : ℕ) → m < maxStates → eqb (mark (row / 2 ^ m) i) 1 
 unfolding member
 column row m i m-lt = let e : m + maxStates * i ≡ maxStates * i + m = omega arith in
     member-from m row (maxStates * i) ∙ ap (member row) e ∙ sym (map-member row i m m-lt)
+
+-- PRODUCTS WITH 1 OR 0
+
+module _ (x b : ℕ) (bit : b ≤ 1) where
+  -- such a product is kept, or 0
+  pub kept : (P : ℕ → Bool) → P 0 ≡ false → P (x * b) ≡ (eqb b 1 && P x)
+  kept P none = go (eqb b 1) refl
+    where
+      go : (one : Bool) → eqb b 1 ≡ one → P (x * b) ≡ (one && P x)
+      go true e = let same : x * 1 ≡ x = omega arith in rw (eqb-true b 1 e, same)
+      go false e =
+          let none-left : b ≡ 0 = omega (arith, eqb-false b 1 e) in
+          let same : x * 0 ≡ 0 = omega arith in
+          rw (none-left, same) none
+
+  pub kept-le : x * b ≤ x
+  kept-le = omega (arith, mul-le-mul-left x bit)
+
+-- the product with a bit for each relation fits in 64 bits
+pub kept-maps-lt : (x z : ℕ) → x % 2 ^ maxStates * bitAnd z (marks (suc maxSets)) < 2 ^ 64
+unfolding marks packed
+kept-maps-lt x z = omega (arith, mul-le-mul {n₁ = x % 2 ^ maxStates} {n₂ = 2 ^ maxStates} (omega arith) (and-le-r z (marks (suc maxSets))))
 
 -- ROWS CHANGED ONE AFTER THE OTHER
 

@@ -16,8 +16,7 @@ use Rattle.table.proofs.BitSet.{member-none, member-union}
 use Rattle.table.proofs.Logic.{and-both, and-in, or-l, or-r, or-in}
 use Rattle.plain.specs.Ways.{packed, marks, ways}
 use Rattle.plain.specs.Search.{reached, Reaches}
-use Rattle.plain.proofs.RowLaws.{map-zero, shift-suc, packed-at, packed-ext, packed-marks, mark, column}
-use Rattle.plain.proofs.RoundRows.{kept}
+use Rattle.plain.proofs.RowLaws.{map-zero, shift-suc, packed-at, packed-ext, packed-marks, mark, column, kept}
 
 -- THE STATES REACHED
 

@@ -21,7 +21,7 @@ use Rattle.word.specs.Loop.{Leads}
 use Rattle.word.specs.WalkTables.{Tables, Tabled}
 use Rattle.plain.specs.Letters.{over, statesAfter, extended, rowAfter}
 use Rattle.plain.proofs.RowLaws.{map-member}
-use Rattle.plain.proofs.LetterLaws.{extended-at}
+use Rattle.plain.proofs.LetterLaws.{onward-in, onward-out, extended-at}
 use Rattle.plain.proofs.WayLaws.{Takes, takes-union, takes-apart}
 
 -- a way of a row to q, and behind it one whose transitions have the sets c: relation i has the two together
@@ -75,13 +75,13 @@ module _ (R : Rule) (well : WellFormed R) (states : R .states ≤ maxStates) (ta
         → (q : ℕ) × (edge (R .grid) a q r ≡ true) × Behind row q (cellAt (R .grid) a q r) i
     extended-out row r i h m = ⊎-elim
         (λ k. let (q, inside, e, takes) = look-out i (mapOf row 0) r h k in (q, e, inr (inside, takes)))
-        (λ k. let (q, inside, e, _) = look-out 0 (mapOf row i) r (omega arith) k in (q, e, inl inside))
+        (λ k. let (q, inside, e, _) = look-out 0 (mapOf row i) r (omega arith) (onward-out table (mapOf row i) r k) in (q, e, inl inside))
         (or-in (member (lookUp table i (mapOf row 0)) r) _ (sym (member-union _ _ r) ∙ (rw (extended-at table row i h) at m)))
 
     extended-in : (row q r i : ℕ) → i ≤ maxSets → edge (R .grid) a q r ≡ true → Behind row q (cellAt (R .grid) a q r) i
         → member (mapOf (extended table row) i) r ≡ true
     extended-in row q r i h e (inl k) = rw (extended-at table row i h) (member-union _ _ r
-        ∙ or-r (member (lookUp table i (mapOf row 0)) r) _ (look-in 0 (mapOf row i) q r (omega arith) k e tt))
+        ∙ or-r (member (lookUp table i (mapOf row 0)) r) _ (onward-in table (mapOf row i) q r k (look-in 0 (mapOf row i) q r (omega arith) k e tt)))
     extended-in row q r i h e (inr (k, takes)) = rw (extended-at table row i h) (member-union _ _ r
         ∙ or-l (member (lookUp table i (mapOf row 0)) r) _ (look-in i (mapOf row 0) q r h k e takes))
 

@@ -1,7 +1,9 @@
 -- Letters read by their tables, inside the plain judge: the states that they lead to, and the ways that they open.
+use mathlib.Core.Bool.{cond}
 use mathlib.Core.List.{List, [], _∷_}
 use Prim.Native.Nat.{ℕ, suc}
 use lib.Bits.{bitOr}
+use lib.Dec.{eqb}
 use lib.ListN.{getD}
 use Rattle.table.specs.Limits.{maxSets}
 use Rattle.table.specs.Lookup.{mapOf, LetterTable, imagesBy, lookUp}
@@ -17,13 +19,13 @@ over f tables (a ∷ w) x = over f tables w (f (getD tables a []) x)
 unfoldable pub statesAfter : Tables → List ℕ → ℕ → ℕ
 statesAfter = over (λ table states. lookUp table 0 states)
 
--- where any transition of a letter leads to from the map for relation i of a row
-unfoldable pub further : LetterTable → ℕ → ℕ → ℕ
-further table row i = lookUp table 0 (mapOf row i)
+-- where any transition of a letter leads to from the states s; from none nowhere, whatever the table
+unfoldable pub onward : LetterTable → ℕ → ℕ
+onward table s = cond (eqb s 0) 0 (lookUp table 0 s)
 
 -- a row with a letter behind its ways: for set i the letter's transition is one of it, or the way before it takes one
 unfoldable pub extended : LetterTable → ℕ → ℕ
-extended table row = bitOr (imagesBy table (mapOf row 0)) (packed (suc maxSets) (further table row))
+extended table row = bitOr (imagesBy table (mapOf row 0)) (packed (suc maxSets) (λ i. onward table (mapOf row i)))
 
 -- and with the letters
 unfoldable pub rowAfter : Tables → List ℕ → ℕ → ℕ

@@ -12,7 +12,7 @@ ghost use Rattle.table.specs.Limits.{maxLetters, maxStates};
 ghost use Rattle.table.specs.Table.{Every};
 ghost use Rattle.table.specs.Tabulate.{tabulate};
 ghost use Rattle.plain.specs.Ways.{Changed};
-ghost use Rattle.plain.specs.Letters.{extended, rowAfter};
+ghost use Rattle.plain.specs.Letters.{extended, onward, rowAfter};
 
 // A row for each state that the ways come from. A row is one word, with a map of states for each relation, eight bits each: bit
 // 8·i + t stands where a way leads to t, for i = 0, and where one takes a transition of set i on it, for i from 1 to 4.
@@ -21,20 +21,32 @@ pub type Rows = [u64; STATES];
 // Bit 8·i for each relation i.
 pub const RELATIONS: u64 = 4311810305;
 
-// A row with one letter more behind its ways. The transition of set i is taken at this letter, and one look-up has all these ways; or it
-// is taken before, and any transition leads on. Where every state is reached by a way that takes each set, that look-up is enough.
+// Where any transition of a letter leads to from a set of states; from no state nowhere.
+fn onward(table: &LetterTable, set: u16) -> u16
+    ensures { λ r. ⌜ r ≡ onward (now (table .entry)) set ⌝ }
+{
+    if set == 0 {
+        return 0;
+    }
+    map_of(look_up(table, set), 0)
+}
+
+// A row with one letter more behind its ways. The transition of set i is taken at this letter: one look-up has all these ways. Or it is
+// taken before, and any transition leads on; where each map has all of the row's states or none, the same look-up tells.
 fn extended(table: &LetterTable, row: u64) -> u64
     ensures { λ r. ⌜ r ≡ extended (now (table .entry)) row ⌝ }
 {
     let states = map_of(row, 0);
     let images = look_up(table, states);
-    if row == states as u64 * RELATIONS {
-        return images | (map_of(images, 0) as u64 * RELATIONS);
+    // bit 8·i where the map for relation i has the lowest of the states
+    let full = (row >> u16::trailing_zeros(states) as usize) & RELATIONS;
+    if row == states as u64 * full {
+        return images | (map_of(images, 0) as u64 * full);
     }
     let mut all = images;
     let mut relation = 1usize;
     while relation <= SETS {
-        let further = map_of(look_up(table, map_of(row, relation)), 0);
+        let further = onward(table, map_of(row, relation));
         all = all | ((further as u64) << (8 * relation));
         relation += 1;
     }

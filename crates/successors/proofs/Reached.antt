@@ -23,7 +23,6 @@ use Rattle.table.proofs.RoundTrip.{read-well-formed}
 use Rattle.table.proofs.Tabulate.{length-tabulate, getD-tabulate, tabulate-ext}
 use Rattle.successors.specs.SuccessorsCall.{successorsOutcome, successorsAnswer}
 use Rattle.successors.specs.Reached.{LeadsTo, Reached, ReachedExactly, StatesFromN, Serves}
-use Rattle.successors.specs.declared.call.SuccessorsAnswer.{SuccessorsAnswer}
 use Rattle.successors.proofs.Answers.{successors-number}
 
 -- the members of an image under a relation between numbers below n

@@ -6,7 +6,7 @@ use lib.Bits.{bitAnd}
 use Rattle.table.specs.Limits.{maxSets}
 use Rattle.plain.specs.Ways.{packed, marks}
 use Rattle.plain.specs.Rounds.{continued}
-use Rattle.plain.proofs.RoundRows.{kept-le, kept-maps-lt}
+use Rattle.plain.proofs.RowLaws.{kept-le, kept-maps-lt}
 use Rattle.plain.proofs.rounds.continued.Statement.{statement}
 use Rattle.plain.proofs.rounds.continued.Tie as tie
 

@@ -6,7 +6,7 @@ use Prim.Native.Nat.{_-_, _/_, _%_, _^_, _≤_}
 use native.Mathlib.Numerals.{add-one}
 use lib.ListN.{getD}
 use Rattle.plain.specs.Search.{reached}
-use Rattle.plain.proofs.RoundRows.{kept-le}
+use Rattle.plain.proofs.RowLaws.{kept-le}
 use Rattle.plain.proofs.search.reached.Statement.{statement}
 use Rattle.plain.proofs.search.reached.Tie as tie
 

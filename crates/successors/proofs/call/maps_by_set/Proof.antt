@@ -2,7 +2,7 @@
 use borrow.Author.Needs.{needs}
 use native.Mathlib.Omega.{arith}
 use mathlib.Core.Path.{_≡_, _∙_, ap}
-use Prim.Native.Nat.{ℕ, suc, _+_, _-_}
+use Prim.Native.Nat.{suc, _+_, _-_}
 use Rattle.table.specs.Limits.{maxSets}
 use Rattle.table.specs.Lookup.{mapOf}
 use Rattle.table.proofs.Tabulate.{Holds, holds-none, holds-more, holds-all}
