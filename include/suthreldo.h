@@ -73,12 +73,12 @@ SuthreldoRead suthreldo_read(const uint8_t *table, size_t table_length, uint8_t 
 SuthreldoWrite suthreldo_write(size_t n, size_t m, size_t k, uint16_t start, const uint8_t *grid, size_t grid_length,
                                uint8_t *table, size_t table_length);
 
-/* Where a set of states leads under a letter, and by which accepting sets. Questions 1 to 6, then 8. `set` is a map, bit q for state q;
- * every number is allowed, and bits from n up add nothing. Accepted: `next` is the map of the states r to which some state of the set has
- * a transition under the letter; reached[i - 1], for i from 1 to k, is the map of those r to which one of these transitions belongs to set
- * i; reached has 0 for the sets from k + 1 up. So a letter can serve set i just where, with 0xFFFF for the set, reached[i - 1] is not 0.
+/* Where some states lead under a letter, and by which accepting sets. Questions 1 to 6, then 8. `states` is a map, bit q for state q; every
+ * number is allowed, and bits from n up add nothing. Accepted: `next` is the map of the states r to which some state of `states` has a
+ * transition under the letter; reached[i - 1], for i from 1 to k, is the map of those r to which one of these transitions belongs to set i;
+ * reached has 0 for the sets from k + 1 up. So a letter can serve set i just where, with 0xFFFF for `states`, reached[i - 1] is not 0.
  * Stack: 2,616 bytes. */
-SuthreldoSuccessors suthreldo_successors(const uint8_t *table, size_t table_length, uint8_t letter, uint16_t set);
+SuthreldoSuccessors suthreldo_successors(const uint8_t *table, size_t table_length, uint8_t letter, uint16_t states);
 
 /* The record of a table's starting tree. Questions 1 to 6, then 10. Accepted: the record's length; exactly the record is
  * written to the front of `buffer`, the rest unchanged. Stack: 2,280 bytes. */

@@ -86,5 +86,5 @@ pub trait Calls: Judges {
     fn start(&self, table: &[u8], buffer: &mut [u8]) -> StartAnswer;
     fn step(&self, table: &[u8], letter: u8, record: &[u8], buffer: &mut [u8]) -> StepAnswer;
     fn same_walk(&self, u: &[u8], v: &[u8], other_u: &[u8], other_v: &[u8]) -> SameAnswer;
-    fn successors(&self, table: &[u8], letter: u8, set: u16) -> SuccessorsAnswer;
+    fn successors(&self, table: &[u8], letter: u8, states: u16) -> SuccessorsAnswer;
 }

@@ -29,7 +29,7 @@ const SAME_NOTE: &str = "# Then: same U V U2 V2 BUFFER, number same.";
 
 /// The same, of the look-up of successors.
 const SUCCESSORS_NOTE: &str =
-    "# Then: successors TABLE LETTER SET BUFFER, number next set1 set2 set3 set4.";
+    "# Then: successors TABLE LETTER STATES BUFFER, number next set1 set2 set3 set4.";
 
 /// Tables A and C of document 01.
 const A: [u8; 12] = [2, 2, 1, 1, 1, 0, 0, 3, 0, 0, 2, 1];

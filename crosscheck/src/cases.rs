@@ -152,8 +152,8 @@ impl Case {
             Case::Same((u, v), (other_u, other_v)) => {
                 Answer::Same(calls.same_walk(u, v, other_u, other_v))
             }
-            Case::Successors(table, letter, set) => {
-                Answer::Successors(calls.successors(table, *letter, *set))
+            Case::Successors(table, letter, states) => {
+                Answer::Successors(calls.successors(table, *letter, *states))
             }
         }
     }
@@ -176,8 +176,8 @@ impl Case {
             Case::Same(one, other) => {
                 format!("{name} {} {}", shown_spelling(one), shown_spelling(other))
             }
-            Case::Successors(table, letter, set) => {
-                format!("{name} {} {letter} {set}", hex::show(table))
+            Case::Successors(table, letter, states) => {
+                format!("{name} {} {letter} {states}", hex::show(table))
             }
         }
     }

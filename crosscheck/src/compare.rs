@@ -90,8 +90,8 @@ fn state_set(random: &mut Random, states: usize) -> u16 {
 
 fn successors_case(random: &mut Random) -> Case {
     let mut table = inputs::table(random);
-    let [states, limit] = [table[0], table[1]];
-    let set = state_set(random, states.into());
+    let [count, limit] = [table[0], table[1]];
+    let states = state_set(random, count.into());
     let letter = match random.below(16) {
         0 => random.between(limit.into(), 255) as u8,
         1 => random.pick(&[limit, 16, 255]),
@@ -100,7 +100,7 @@ fn successors_case(random: &mut Random) -> Case {
     if random.once_in(8) {
         inputs::damage(random, &mut table);
     }
-    Case::Successors(table, letter, set)
+    Case::Successors(table, letter, states)
 }
 
 /// A random case of one kind of call.

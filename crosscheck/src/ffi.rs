@@ -91,7 +91,7 @@ mod linked {
             table: *const u8,
             table_length: usize,
             letter: u8,
-            set: u16,
+            states: u16,
         ) -> SuccessorsAnswer;
     }
 
@@ -186,8 +186,8 @@ mod linked {
             }
         }
 
-        fn successors(&self, table: &[u8], letter: u8, set: u16) -> SuccessorsAnswer {
-            unsafe { suthreldo_successors(table.as_ptr(), table.len(), letter, set) }
+        fn successors(&self, table: &[u8], letter: u8, states: u16) -> SuccessorsAnswer {
+            unsafe { suthreldo_successors(table.as_ptr(), table.len(), letter, states) }
         }
     }
 }

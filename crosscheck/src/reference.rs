@@ -145,10 +145,10 @@ fn same_walk(u: &[u8], v: &[u8], other_u: &[u8], other_v: &[u8]) -> Result<SameA
     Ok(SameAnswer { number: 0, same })
 }
 
-fn successors(table: &[u8], letter: u8, set: u16) -> Result<SuccessorsAnswer, u8> {
+fn successors(table: &[u8], letter: u8, states: u16) -> Result<SuccessorsAnswer, u8> {
     let rule = Rule::read(table)?;
     check_letter(&rule, letter)?;
-    let (next, reached) = successors::look_up(&rule, letter, set);
+    let (next, reached) = successors::look_up(&rule, letter, states);
     Ok(SuccessorsAnswer { number: 0, next, reached })
 }
 
@@ -186,8 +186,8 @@ impl Calls for Reference {
         same_walk(u, v, other_u, other_v).unwrap_or_else(SameAnswer::refused)
     }
 
-    fn successors(&self, table: &[u8], letter: u8, set: u16) -> SuccessorsAnswer {
-        successors(table, letter, set).unwrap_or_else(SuccessorsAnswer::refused)
+    fn successors(&self, table: &[u8], letter: u8, states: u16) -> SuccessorsAnswer {
+        successors(table, letter, states).unwrap_or_else(SuccessorsAnswer::refused)
     }
 }
 

@@ -129,8 +129,8 @@ fn call(line: &str) -> Option<Call> {
             (hex::parse(u)?, hex::parse(v)?),
             (hex::parse(other_u)?, hex::parse(other_v)?),
         ),
-        ("successors", [table, letter, set]) => {
-            Case::Successors(hex::parse(table)?, letter.parse().ok()?, set.parse().ok()?)
+        ("successors", [table, letter, states]) => {
+            Case::Successors(hex::parse(table)?, letter.parse().ok()?, states.parse().ok()?)
         }
         _ => return None,
     };

@@ -107,8 +107,8 @@ pub extern "C" fn suthreldo_same_walk(u: &[u8], v: &[u8], u2: &[u8], v2: &[u8]) 
 }
 
 #[no_mangle]
-pub extern "C" fn suthreldo_successors(table: &[u8], letter: u8, set: u16) -> SuccessorsAnswer
-    ensures { λ r. ⌜ r ≡ successorsAnswer (successorsOutcome (now (table .entry)) letter) letter set ⌝ }
+pub extern "C" fn suthreldo_successors(table: &[u8], letter: u8, states: u16) -> SuccessorsAnswer
+    ensures { λ r. ⌜ r ≡ successorsAnswer (successorsOutcome (now (table .entry)) letter) letter states ⌝ }
 {
-    successors(table, letter, set)
+    successors(table, letter, states)
 }

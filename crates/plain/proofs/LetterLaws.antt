@@ -46,11 +46,6 @@ or-low a k =
     ap₂ bitOr (sym (split a k)) none ∙ or-block k (a / 2 ^ k) 0 (a % 2 ^ k) (a % 2 ^ k) small small
     ∙ ap₂ (λ (x y : ℕ). x * 2 ^ k + y) (or-zero-r (a / 2 ^ k)) (or-self (a % 2 ^ k)) ∙ split a k
 
--- a look-up gives a map of states
-look-up-lt : (table : LetterTable) (i s : ℕ) → lookUp table i s < 2 ^ maxStates
-unfolding lookUp
-look-up-lt table i s = omega arith
-
 -- from no state nowhere, and from others where a look-up says
 pub onward-none : (table : LetterTable) → onward table 0 ≡ 0
 unfolding onward
@@ -73,11 +68,12 @@ onward-in table s q r inside m = rw (onward-some table s (λ none. clash (member
 
 -- it is a map of states
 onward-lt : (table : LetterTable) (s : ℕ) → onward table s < 2 ^ maxStates
+unfolding lookUp
 onward-lt table s = go (ℕ-discrete s 0)
   where
     go : Dec (s ≡ 0) → onward table s < 2 ^ maxStates
     go (yes none) = rw (none, onward-none table) (omega arith)
-    go (no some) = rw (onward-some table s some) (look-up-lt table 0 s)
+    go (no some) = rw (onward-some table s some) (omega arith)
 
 module _ (table : LetterTable) (row : ℕ) where
   -- the images of its states, by all relations at once

@@ -21,14 +21,14 @@ pub type Rows = [u64; STATES];
 // Bit 8·i for each relation i.
 pub const RELATIONS: u64 = 4311810305;
 
-// Where any transition of a letter leads to from a set of states; from no state nowhere.
-fn onward(table: &LetterTable, set: u16) -> u16
-    ensures { λ r. ⌜ r ≡ onward (now (table .entry)) set ⌝ }
+// Where any transition of a letter leads to from some states; from none nowhere.
+fn onward(table: &LetterTable, states: u16) -> u16
+    ensures { λ r. ⌜ r ≡ onward (now (table .entry)) states ⌝ }
 {
-    if set == 0 {
+    if states == 0 {
         return 0;
     }
-    map_of(look_up(table, set), 0)
+    map_of(look_up(table, states), 0)
 }
 
 // A row with one letter more behind its ways. The transition of set i is taken at this letter: one look-up has all these ways. Or it is

@@ -88,8 +88,8 @@ module _ {line lent ns after ms left : List ℕ} where
   successors-one G H =
       let table : G .table ≡ H .table = one (G .has-table) (H .has-table) in
       let letter : G .letter ≡ H .letter = one (G .has-letter) (H .has-letter) in
-      let set : G .set ≡ H .set = one (G .has-set) (H .has-set) in
-      (G .answers ∙ rw (table, letter, set) (sym (H .answers)), G .leaves ∙ sym (H .leaves))
+      let states : G .states ≡ H .states = one (G .has-states) (H .has-states) in
+      (G .answers ∙ rw (table, letter, states) (sym (H .answers)), G .leaves ∙ sym (H .leaves))
 
 -- every call
 pub gives-one : (call : Call) (line lent ns after ms left : List ℕ) → Gives call line lent ns after → Gives call line lent ms left

@@ -183,15 +183,15 @@ pub record SameGives (line lent numbers after : List ℕ) : Type 0 where
   pub answers : numbers ≡ sameNumbers answer
   pub leaves : after ≡ lent
 
--- successors TABLE LETTER SET: number next set1 set2 set3 set4. Nothing is lent to it: a buffer on the line is unchanged.
+-- successors TABLE LETTER STATES: number next set1 set2 set3 set4. Nothing is lent to it: a buffer on the line is unchanged.
 pub record SuccessorsGives (line lent numbers after : List ℕ) : Type 0 where
   pub table : List ℕ
   pub letter : ℕ
-  pub set : ℕ
+  pub states : ℕ
   pub has-table : BytesAt line 1 table
   pub has-letter : decimalWithin largestByte (fieldAt line 2) ≡ some letter
-  pub has-set : decimalWithin largestMap (fieldAt line 3) ≡ some set
-  pub answers : numbers ≡ successorsNumbers (successorsAnswer (successorsOutcome table letter) letter set)
+  pub has-states : decimalWithin largestMap (fieldAt line 3) ≡ some states
+  pub answers : numbers ≡ successorsNumbers (successorsAnswer (successorsOutcome table letter) letter states)
   pub leaves : after ≡ lent
 
 -- the call of each name

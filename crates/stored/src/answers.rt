@@ -166,16 +166,16 @@ fn successors_numbers(given: SuccessorsAnswer) -> [u64; 6]
     ]
 }
 
-// The successors of a set: number next set1 set2 set3 set4. Nothing is lent to it: the buffer is left as it is.
+// The successors of some states: number next set1 set2 set3 set4. Nothing is lent to it: the buffer is left as it is.
 pub fn successors_right(line: &[u8], numbers: &[u8], buffer: &mut [u8]) -> bool
     ensures { λ r. ⌜ Compared Successors (now (line .entry)) (now (buffer .entry)) (now (numbers .entry)) (now (buffer .exit)) r ⌝ }
 {
     let t = field_bytes(line, 1);
     let letter = number_of(field(line, 2), 255);
-    let set = number_of(field(line, 3), 65535);
+    let states = number_of(field(line, 3), 65535);
     let table = t.room;
     let end = t.end;
-    let given = successors(&table[..end], letter.value as u8, set.value as u16);
+    let given = successors(&table[..end], letter.value as u8, states.value as u16);
     let answer = successors_numbers(given);
-    t.right & letter.right & set.right & numbers_are(numbers, &answer)
+    t.right & letter.right & states.right & numbers_are(numbers, &answer)
 }

@@ -6,7 +6,7 @@ use native.Mathlib.Omega.{arith}
 use borrow.Author.Tests.{le-ltb, lt-ltb}
 use lib.Dec.{ltb}
 use lib.ListN.{getD}
-use Rattle.table.specs.Limits.{maxLetters, maxSets}
+use Rattle.table.specs.Limits.{maxSets}
 use Rattle.table.specs.Lookup.{mapOf, LetterTable, letterTable, imagesBy, lookUp}
 use Rattle.table.specs.Outcome.{Outcome, refused, accepted, numberOf}
 use Rattle.table.specs.Rule.{Grid, Rule, successors, successorsIn}
@@ -25,11 +25,6 @@ pub table-refused : (table : List ℕ) (a s number : ℕ) → readRule table ≡
     → {answer : SuccessorsAnswer} → answer ≡ successorsAnswer (refused number) a s → answer ≡ successorsAnswer (successorsOutcome table a) a s
 unfolding successorsOutcome
 table-refused table a s number is e = rw is e
-
--- the letter has its place in the arrays
-pub letter-fits : {table : List ℕ} {header : Header} {cells : Grid} → RuleRead table header cells → (a : ℕ) → a < header .letters
-    → a < maxLetters
-letter-fits v a small = omega (arith, v .range .letters, ap (λ (x : Header). x .letters) (v .numbers))
 
 module _ {table : List ℕ} {header : Header} {cells : Grid} (v : RuleRead table header cells) (a s : ℕ) where
   -- question 8

@@ -6,23 +6,24 @@ use mathlib.Core.List.{List}
 use Prim.Native.Nat.{ℕ, suc, _%_, _^_, _<_, _≤_}
 use native.Mathlib.Decide.{decLt}
 use native.Mathlib.Omega.{arith}
-use borrow.Author.Tests.{ltb-true}
+use borrow.Author.Tests.{lt-ltb, ltb-true}
 use lib.Dec.{ltb}
 use lib.ListN.{getD, List·getD-eq-default}
-use Rattle.table.specs.BitSet.{member}
+use Rattle.table.specs.BitSet.{member, collect}
 use Rattle.table.specs.Limits.{maxSets}
 use Rattle.table.specs.Outcome.{Outcome, refused, accepted, ask, _then_}
 use Rattle.table.specs.Rule.{Rule, edge, edgeIn, image, successors, successorsIn}
-use Rattle.table.specs.Table.{WellFormed, readRule}
+use Rattle.table.specs.Table.{WellFormed, inRange, readRule}
 use Rattle.table.specs.Tabulate.{tabulate}
 use Rattle.table.proofs.Accepted.{IfAccepted, of-accepted, asked}
-use Rattle.table.proofs.BitSet.{empty-set, image-in, image-out, image-mod, some-member, member-none}
+use Rattle.table.proofs.BitSet.{empty-set, image-in, image-out, image-mod, some-member, member-none, member-collect}
 use Rattle.table.proofs.Edges.{edge-inside, edgeIn-edge, edgeIn-set}
-use Rattle.table.proofs.Logic.{clash, never}
+use Rattle.table.proofs.Logic.{clash, never, and-both}
+use Rattle.table.proofs.Ranges.{in-range}
 use Rattle.table.proofs.RoundTrip.{read-well-formed}
 use Rattle.table.proofs.Tabulate.{length-tabulate, getD-tabulate, tabulate-ext}
 use Rattle.successors.specs.SuccessorsCall.{successorsOutcome, successorsAnswer}
-use Rattle.successors.specs.Reached.{LeadsTo, Reached, ReachedExactly, StatesFromN, Serves}
+use Rattle.successors.specs.Reached.{LeadsTo, Reached, ReachedExactly, StatesFromN, everyState, Serves}
 use Rattle.successors.proofs.Answers.{successors-number}
 
 -- the members of an image under a relation between numbers below n
@@ -101,16 +102,22 @@ unfolding successorsOutcome
 states-from-n table a s t R reads same = same-answer (successorsOutcome table a) a s t
     (rw reads (asked (λ R. s % 2 ^ (R .states) ≡ t % 2 ^ (R .states)) (ltb a (R .letters)) 8 (accepted R) (λ _. same)))
 
-pub serves : Serves
-serves table a s R is all i small = rw is (
-  (λ some. let (r, m) = some-member _ some in let (q, _, _, e) = exactly .by-set i r small .0 m in (q, r, e)),
-  (λ (q, r, e). λ none.
-      let q-in = edge-inside R well a q r (edgeIn-edge (R .grid) (suc i) a q r e) .1 in
-      clash (member-none r) (rw none at (exactly .by-set i r small .1 (q, q-in, all q q-in, e)))),
-)
-  where
-    well : WellFormed R
-    well = read-well-formed table R (accepted-call table a R is .0) .0
+-- every bit stands
+every-state : (q : ℕ) → q < 16 → member everyState q ≡ true
+unfolding collect
+every-state q small = member-collect 16 (λ q. true) q ∙ and-both (ltb q 16) true (lt-ltb q 16 small) refl
 
-    exactly : Reached R a s (successorsAnswer (accepted R) a s)
-    exactly = reached R well a s
+pub serves : Serves
+serves table a answer e none =
+    let (R, reads, _, exactly) = reached-exactly table a everyState answer e none in
+    (R, reads, served R (read-well-formed table R reads) exactly)
+  where
+    served : (R : Rule) → WellFormed R × (inRange (R .states) (R .letters) (R .sets) ≡ true) → Reached R a everyState answer
+        → (i : ℕ) → i < maxSets → (getD (answer .reached) i 0 ≡ 0 → ⊥) ↔ ((q : ℕ) × (r : ℕ) × (edgeIn (R .grid) (suc i) a q r ≡ true))
+    served R (well, range) exactly i small = (
+      (λ some. let (r, m) = some-member _ some in let (q, _, _, e) = exactly .by-set i r small .0 m in (q, r, e)),
+      (λ (q, r, e). λ empty.
+          let q-in = edge-inside R well a q r (edgeIn-edge (R .grid) (suc i) a q r e) .1 in
+          let inside = every-state q (omega (arith, q-in, in-range range .states)) in
+          clash (member-none r) (rw empty at (exactly .by-set i r small .1 (q, q-in, inside, e)))),
+    )

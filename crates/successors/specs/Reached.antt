@@ -40,11 +40,14 @@ StatesFromN =
     (table : List ℕ) (a s t : ℕ) (R : Rule) → readRule table ≡ accepted R → s % 2 ^ (R .states) ≡ t % 2 ^ (R .states)
     → successorsAnswer (successorsOutcome table a) a s ≡ successorsAnswer (successorsOutcome table a) a t
 
--- "Screens show which accepting set each mode can serve.": asked of all states, the map for a set is not 0 just if some transition under
--- the letter belongs to it
+-- all sixteen bits: every state, whatever n is
+abbrev pub everyState : ℕ
+everyState = 65535
+
+-- "Screens show which accepting set each mode can serve.": asked of every state, the map for a set is not 0 just if some transition under
+-- the letter belongs to the set
 abbrev pub Serves : Type 0
 Serves =
-    (table : List ℕ) (a s : ℕ) (R : Rule) → successorsOutcome table a ≡ accepted R → ((q : ℕ) → q < R .states → member s q ≡ true)
-    → (i : ℕ) → i < maxSets
-    → (getD (successorsAnswer (successorsOutcome table a) a s .reached) i 0 ≡ 0 → ⊥)
-    ↔ ((q : ℕ) × (r : ℕ) × (edgeIn (R .grid) (suc i) a q r ≡ true))
+    (table : List ℕ) (a : ℕ) (answer : SuccessorsAnswer) → answer ≡ successorsAnswer (successorsOutcome table a) a everyState
+    → answer .number ≡ 0 → (R : Rule) × (readRule table ≡ accepted R)
+    × ((i : ℕ) → i < maxSets → (getD (answer .reached) i 0 ≡ 0 → ⊥) ↔ ((q : ℕ) × (r : ℕ) × (edgeIn (R .grid) (suc i) a q r ≡ true)))

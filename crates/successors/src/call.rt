@@ -50,9 +50,9 @@ fn maps_by_set(images: u64) -> [u16; SETS]
     maps
 }
 
-// THE SUCCESSORS of a set of states under a letter. Questions 1 to 6, then 8.
-pub fn successors(table: &[u8], letter: u8, set: u16) -> SuccessorsAnswer
-    ensures { λ r. ⌜ r ≡ successorsAnswer (successorsOutcome (now (table .entry)) letter) letter set ⌝ }
+// THE SUCCESSORS of some states under a letter. Questions 1 to 6, then 8.
+pub fn successors(table: &[u8], letter: u8, states: u16) -> SuccessorsAnswer
+    ensures { λ r. ⌜ r ≡ successorsAnswer (successorsOutcome (now (table .entry)) letter) letter states ⌝ }
 {
     let mut cells = [[[NO_TRANSITION; STATES]; STATES]; LETTERS];
     let mut words = [[0u64; STATES]; LETTERS];
@@ -65,7 +65,7 @@ pub fn successors(table: &[u8], letter: u8, set: u16) -> SuccessorsAnswer
             }
             let mut letter_table = [0u64; ENTRIES];
             fill_table(&words[a], &mut letter_table);
-            let images = look_up(&letter_table, set);
+            let images = look_up(&letter_table, states);
             let next = map_of(images, 0);
             let reached = maps_by_set(images);
             SuccessorsAnswer {

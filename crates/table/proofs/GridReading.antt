@@ -75,6 +75,11 @@ read-holds r are = record {
   };
 }
 
+-- a letter of the rule has its square in the arrays
+pub letter-fits : {table : List ℕ} {header : Header} {cells : Grid} → RuleRead table header cells → (a : ℕ) → a < header .letters
+    → a < maxLetters
+letter-fits r a small = omega (arith, r .range .letters, ap (λ (x : Header). x .letters) (r .numbers))
+
 module _ (table : List ℕ) (cells : Grid) (kept : cells ≡ cellsAfter (readRule table)) where
   pub reading-refused : (number : ℕ) → Refused number ≡ readingOf (readRule table) → readRule table ≡ refused number
   unfolding readingOf

@@ -14,11 +14,11 @@ pub type LetterTable = [u64; ENTRIES];
 // Sixteen sets in each half.
 pub const ENTRIES: usize = 32;
 
-// The images of a set of states, all in one word: the next states in lane 0, and in lane i those reached by a transition of set i.
-pub fn look_up(table: &LetterTable, set: u16) -> u64
-    ensures { λ r. ⌜ r ≡ imagesBy (now (table .entry)) set ⌝ }
+// The images of a map of states, all in one word: the next states in lane 0, and in lane i those reached by a transition of set i.
+pub fn look_up(table: &LetterTable, states: u16) -> u64
+    ensures { λ r. ⌜ r ≡ imagesBy (now (table .entry)) states ⌝ }
 {
-    let s = set as usize;
+    let s = states as usize;
     table[s % 16] | table[16 + s / 16 % 16]
 }
 

@@ -9,7 +9,7 @@ use borrow.Author.Tests.{le-leb, lt-leb, le-ltb, lt-ltb}
 use lib.Dec.{leb}
 use lib.ListN.{length, getD, take}
 use Rattle.table.specs.Held.{held}
-use Rattle.table.specs.Limits.{maxStates, maxLetters, maxSets}
+use Rattle.table.specs.Limits.{maxStates, maxSets}
 use Rattle.table.specs.Lookup.{LetterTable, letterTable}
 use Rattle.table.specs.Outcome.{Outcome, refused, accepted, _then_}
 use Rattle.table.specs.Rule.{Grid}
@@ -113,10 +113,6 @@ module _ (table : List ℕ) (a : ℕ) (bytes before : List ℕ) (header : Header
   step-no-letter h answer e = let h′ = rw (v .numbers) at h in rw (v .reads, le-ltb _ _ h′) (e, refl)
 
   module _ (letter : a < header .letters) where
-    -- a letter of the rule has its square in the arrays
-    pub letter-fits : a < maxLetters
-    letter-fits = omega (arith, v .range .letters, ap (λ (x : Header). x .letters) (v .numbers))
-
     below : a < v .rule .letters
     below = rw (v .numbers) at letter
 

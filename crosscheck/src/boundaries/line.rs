@@ -31,8 +31,8 @@ fn arguments(case: &Case) -> String {
         Case::Same((u, v), (other_u, other_v)) => {
             [u, v, other_u, other_v].map(|part| shown(part)).join("\t")
         }
-        Case::Successors(table, letter, set) => {
-            format!("{}\t{letter}\t{set}", shown(table))
+        Case::Successors(table, letter, states) => {
+            format!("{}\t{letter}\t{states}", shown(table))
         }
     }
 }

@@ -30,25 +30,25 @@ fn letters() -> Vec<LookUp> {
     ]
 }
 
-fn sets() -> Vec<LookUp> {
+fn states() -> Vec<LookUp> {
     let none = found(0, [0; 4]);
     let all = found(7, [3, 6, 0, 0]);
-    let of_set = |what, set, answer| (what, D.to_vec(), 0, set, answer);
+    let of = |what, states, answer| (what, D.to_vec(), 0, states, answer);
     vec![
-        of_set("no state", 0, none),
-        of_set("state n − 1 alone", 4, found(2, [2, 2, 0, 0])),
-        of_set("states from n up only", 65_528, none),
-        of_set("all states", 7, all),
-        of_set("set 65,535", 65_535, all),
+        of("no state", 0, none),
+        of("state n − 1 alone", 4, found(2, [2, 2, 0, 0])),
+        of("states from n up only", 65_528, none),
+        of("all states", 7, all),
+        of("states 65,535", 65_535, all),
     ]
 }
 
 /// Only the very same call stands at the boundary.
 pub fn boundaries() -> Vec<Boundary> {
     let mut list = Vec::new();
-    for (what, table, letter, set, answer) in letters().into_iter().chain(sets()) {
-        assert_eq!(Reference.successors(&table, letter, set), answer, "{what}");
-        let case = Case::Successors(table, letter, set);
+    for (what, table, letter, from, answer) in letters().into_iter().chain(states()) {
+        assert_eq!(Reference.successors(&table, letter, from), answer, "{what}");
+        let case = Case::Successors(table, letter, from);
         let told = case.shown();
         let test = move |case: &Case| case.shown() == told;
         list.push(Boundary::of(what, answer.number, case, test));

@@ -39,8 +39,8 @@ mod tests {
     const D: [u8; 17] = [4, 1, 4, 1, 15, 1, 2, 4, 8, 15, 15, 0, 0, 0, 0, 8, 4];
 
     /// What an accepted look-up gives.
-    fn found(table: &[u8], letter: u8, set: u16) -> (u16, [u16; 4]) {
-        let answer = Reference.successors(table, letter, set);
+    fn found(table: &[u8], letter: u8, states: u16) -> (u16, [u16; 4]) {
+        let answer = Reference.successors(table, letter, states);
         assert_eq!(answer.number, 0);
         (answer.next, answer.reached)
     }
@@ -55,7 +55,7 @@ mod tests {
     #[test]
     fn tables_of_document_01() {
         let none = [0; 4];
-        assert_eq!([1, 2, 3].map(|set| found(&A, 0, set)), [(1, none), (0, none), (1, none)]);
+        assert_eq!([1, 2, 3].map(|states| found(&A, 0, states)), [(1, none), (0, none), (1, none)]);
         assert_eq!(found(&A, 1, 1), (3, none));
         assert_eq!(found(&A, 1, 2), (2, [2, 0, 0, 0]));
         assert_eq!(found(&A, 1, 3), (3, [2, 0, 0, 0]));
@@ -89,8 +89,8 @@ mod tests {
         assert_eq!(found(&A, 1, 65_532), (0, [0; 4]));
         assert_eq!(found(&A, 1, 65_535), (3, [2, 0, 0, 0]));
         let full = [vec![8, 1, 4, 1], [vec![255], vec![15; 8]].concat().repeat(8)].concat();
-        assert_eq!([128, 255, 65_535].map(|set| found(&full, 0, set)), [(255, [255; 4]); 3]);
-        assert_eq!([256, 65_280].map(|set| found(&full, 0, set)), [(0, [0; 4]); 2]);
+        assert_eq!([128, 255, 65_535].map(|states| found(&full, 0, states)), [(255, [255; 4]); 3]);
+        assert_eq!([256, 65_280].map(|states| found(&full, 0, states)), [(0, [0; 4]); 2]);
     }
 
     #[test]

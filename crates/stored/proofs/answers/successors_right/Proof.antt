@@ -55,28 +55,28 @@ returns : tie.Need-returns
 returns c =
     let listed = c .before .before .before .before .before in
     let given = listed .before in
-    let set-read = given .before .before .before .before .before in
-    let set = number-there 65535 _ _ _ (set-read .before .field2 .ensures) (set-read .number-of2 .ensures) in
-    let letter-read = set-read .before .before in
+    let states-read = given .before .before .before .before .before in
+    let states = number-there 65535 _ _ _ (states-read .before .field2 .ensures) (states-read .number-of2 .ensures) in
+    let letter-read = states-read .before .before in
     let letter = number-there 255 _ _ _ (letter-read .before .field .ensures) (letter-read .number-of .ensures) in
     let table-read = letter-read .before .before in
     let table = bytes-hold _ _ (table-read .field-bytes .ensures .0) in
     let all =
-    three-true (table-read .field-bytes .result .right) (letter-read .number-of .result .right) (set-read .number-of2 .result .right) in
+    three-true (table-read .field-bytes .result .right) (letter-read .number-of .result .right) (states-read .number-of2 .result .right) in
     compared Successors _ _ _ _ _ _ _
     (λ right. record {
       table = take (table-read .field-bytes .result .end) (table-read .field-bytes .result .room);
       letter = letter-read .number-of .result .value;
-      set = set-read .number-of2 .result .value;
+      states = states-read .number-of2 .result .value;
       has-table = table .only (all right .0);
       has-letter = number-only _ _ letter (all right .1);
-      has-set = number-only _ _ set (all right .2);
+      has-states = number-only _ _ states (all right .2);
       answers = listed .successors-numbers .ensures ∙ ap successorsNumbers (given .successors .ensures);
       leaves = refl;
     })
     (λ ms left G.
     and-yes (and-yes (table .found (G .table) (G .has-table) .0) (number-found _ _ letter (G .letter) (G .has-letter) .0))
-    (number-found _ _ set (G .set) (G .has-set) .0))
+    (number-found _ _ states (G .states) (G .has-states) .0))
     (c .numbers-are .ensures)
 
 pub successors-right-spec : {M : Type 1} → statement M

@@ -2,9 +2,9 @@
 use borrow.Author.Needs.{needs}
 use native.Mathlib.Omega.{arith}
 use mathlib.Core.Path.{sym, _∙_}
-use Rattle.table.proofs.GridReading.{RuleRead, reading-refused, reading-rule}
+use Rattle.table.proofs.GridReading.{RuleRead, letter-fits, reading-refused, reading-rule}
 use Rattle.table.proofs.LookupSteps.{table-made}
-use Rattle.successors.proofs.Answers.{table-refused, no-letter, letter-fits, looked-up}
+use Rattle.successors.proofs.Answers.{table-refused, no-letter, looked-up}
 use Rattle.successors.proofs.call.successors.Statement.{statement}
 use Rattle.successors.proofs.call.successors.Tie as tie
 

@@ -7,9 +7,9 @@ use native.Mathlib.Omega.{arith}
 use lib.ListN.{getD}
 use Rattle.table.specs.Limits.{maxLetters}
 use Rattle.table.specs.Lookup.{letterTable}
-use Rattle.table.proofs.GridReading.{RuleRead, reading-refused, reading-rule}
+use Rattle.table.proofs.GridReading.{RuleRead, letter-fits, reading-refused, reading-rule}
 use Rattle.table.proofs.LookupSteps.{table-made}
-use Rattle.tree.proofs.StepCall.{step-refused, TreeRead, tree-refused, tree-read, numbers-fit, letter-fits}
+use Rattle.tree.proofs.StepCall.{step-refused, TreeRead, tree-refused, tree-read, numbers-fit}
 use Rattle.tree.proofs.StepCall.{step-no-letter, step-no-tree, step-no-room, step-ready, step-recordable, step-done}
 use Rattle.tree.proofs.calls.step.Statement.{statement}
 use Rattle.tree.proofs.calls.step.Tie as tie
@@ -33,7 +33,7 @@ letter : (c : tie.Else2) → let l = c .before .before .before .before .before .
     h .before .before .before .before .before .before .before .before .args .letter < maxLetters
 letter c =
     let l = c .before .before .before .before .before .before in
-    letter-fits _ _ [] [] _ _ (rule (l .before .before .before)) (l .if1 .left)
+    letter-fits (rule (l .before .before .before)) _ (l .if1 .left)
 
 -- its table is made from its states' words
 filled : (c : tie.After-fill-table) →
