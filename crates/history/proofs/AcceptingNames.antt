@@ -10,13 +10,13 @@ use Rattle.table.specs.Rule.{Rule}
 use Rattle.table.proofs.Logic.{clash, never, and-both, and-in, not-in}
 use Rattle.history.specs.Forest.{Forest, nil, node, listing, sameNumbers}
 use Rattle.history.specs.Tree.{Node, Tree}
-use Rattle.history.specs.Letter.{sprouted, Grown, child, kept, survivors, isOld, anyOf, stable, accepting}
+use Rattle.history.specs.Letter.{sprouted, Grown, child, kept, fiveSteps, isOld, anyOf, stable, accepting}
 use Rattle.history.proofs.LocalStep.{newLabel, accepts, branchAt, survive, taken, branchOf, takenAt, nameKept}
 use Rattle.history.proofs.LocalStep.{stableLocally, acceptingLocally}
 use Rattle.history.proofs.Conditions.{OneRoot}
-use Rattle.history.proofs.StepsJoined.{grown, advanced, oldNode, begunFrom}
+use Rattle.history.proofs.StepsJoined.{grown, advanced, oldNode, begunFrom, survivors-steps}
 use Rattle.history.proofs.Names.{same-self, same-equal, parted, longer, any-node, any-weaker}
-use Rattle.history.proofs.Origins.{From, from-begun, grownBranch, grown-begun, survivors-root}
+use Rattle.history.proofs.Origins.{From, from-begun, grownBranch, grown-begun, steps-root}
 use Rattle.history.proofs.StableNames.{stable-local}
 
 -- is a node accepting, and of that old name?
@@ -125,14 +125,15 @@ module _ (R : Rule) (a : ℕ) where
 pub accepting-local : (R : Rule) (a : ℕ) (T : Tree) → OneRoot T → (w : List ℕ) → stable R a T w ≡ true
     → accepting R a T w ≡ acceptingLocally R a T w
 unfolding accepting acceptingLocally stableLocally survive branchAt child anyOf listing
-accepting-local R a T one w h = go T one (sym (stable-local R a T one w) ∙ h)
+accepting-local R a T one w h =
+    ap (λ (F : Forest Grown). anyOf (Accepted w) (listing F)) (survivors-steps R a T) ∙ go T one (sym (stable-local R a T one w) ∙ h)
   where
     go : (T : Tree) → OneRoot T → stableLocally R a T w ≡ true
-        → anyOf (Accepted w) (listing (survivors R a T)) ≡ acceptingLocally R a T w
+        → anyOf (Accepted w) (listing (fiveSteps R a T)) ≡ acceptingLocally R a T w
     go nil one k = clash refl k
     go (node x below nil) one k =
         let (stays, keeps) = and-in (not (eqb (newLabel R a 0 x) 0)) _ k in
-        ap (λ (F : Forest Grown). anyOf (Accepted w) (listing F)) (survivors-root R a x below)
+        ap (λ (F : Forest Grown). anyOf (Accepted w) (listing F)) (steps-root R a x below)
         ∙ branch-accepting R a w [] w 0 x below nil refl (not-in _ stays) keeps refl
         (λ j t is more. siblings-accepting R a w [] t 0 (child R a (oldNode [] x)) 0 j below refl
         (is ∙ ap (λ (m : ℕ). m ∷ t) (omega arith)) more)

@@ -9,11 +9,11 @@ use Rattle.table.specs.Rule.{Rule}
 use Rattle.table.proofs.Logic.{or-r}
 use Rattle.history.specs.Forest.{Forest, nil, node, change, listing, namedFrom, named, names, sameNumbers}
 use Rattle.history.specs.Tree.{Node, Tree}
-use Rattle.history.specs.Letter.{sprouted, Grown, begun, child, kept, survivors, isOld, anyOf, stable}
+use Rattle.history.specs.Letter.{sprouted, Grown, begun, child, kept, fiveSteps, survivors, isOld, anyOf, stable}
 use Rattle.history.proofs.LocalStep.{newLabel, accepts}
 use Rattle.history.proofs.SetFacts.{nothing-minus}
 use Rattle.history.proofs.StepsJoined.{heldNode, grown, advanced, grown-new, grown-node}
-use Rattle.history.proofs.StepsJoined.{oldNode, begunFrom, held-begunFrom, noSprout, survivors-grown}
+use Rattle.history.proofs.StepsJoined.{oldNode, begunFrom, held-begunFrom, noSprout, steps-grown, survivors-steps}
 use Rattle.history.proofs.Names.{or-weaker, any-node, any-map, any-change, at-any, named-in, named-tree}
 use Rattle.history.proofs.NamesDistinct.{IsName, name-number}
 
@@ -52,11 +52,14 @@ module _ (R : Rule) (a : ℕ) where
       (sym (any-change (From w) (λ x. oldNode (x .name) (x .here)) (namedFrom p c F)) ∙ grown-origins w older new (begunFrom p c F) e h)
 
   -- and one that a tree has
-  from-survivors : (w : List ℕ) (T : Tree) → anyOf (From w) (listing (survivors R a T)) ≡ true → IsName T w
+  from-steps : (w : List ℕ) (T : Tree) → anyOf (From w) (listing (fiveSteps R a T)) ≡ true → IsName T w
   unfolding begun names isOld noSprout
-  from-survivors w T h = name-number T w
+  from-steps w T h = name-number T w
       (any-map (sameNumbers w) (λ x. x .name) (listing (named T)) ∙ sym (any-change (From w) _ (named T))
-      ∙ grown-origins w 0 noSprout (begun T) refl (rw survivors-grown at h))
+      ∙ grown-origins w 0 noSprout (begun T) refl (rw steps-grown at h))
+
+  from-survivors : (w : List ℕ) (T : Tree) → anyOf (From w) (listing (survivors R a T)) ≡ true → IsName T w
+  from-survivors w T h = from-steps w T (rw survivors-steps at h)
 
   -- a stable name is the name of an old node
   pub stable-old : (T : Tree) (w : List ℕ) → stable R a T w ≡ true → IsName T w
@@ -85,11 +88,11 @@ module _ (R : Rule) (a : ℕ) where
   unfolding noSprout kept
   none-grown older = grown-new R a older noSprout ∙ rw nothing-minus
 
-  pub survivors-dead : survivors R a nil ≡ nil
+  pub steps-dead : fiveSteps R a nil ≡ nil
   unfolding begun named change
-  survivors-dead = survivors-grown R a nil ∙ none-grown 0
+  steps-dead = steps-grown R a nil ∙ none-grown 0
 
-  pub survivors-root : (x : Node) (below : Tree) → survivors R a (node x below nil) ≡ grownBranch 0 [] x below nil
+  pub steps-root : (x : Node) (below : Tree) → fiveSteps R a (node x below nil) ≡ grownBranch 0 [] x below nil
   unfolding begun named change heldNode oldNode begunFrom grownBranch
-  survivors-root x below = survivors-grown R a (node x below nil) ∙ grown-node R a 0 noSprout (oldNode [] x) (begunFrom [] 0 below) nil
+  steps-root x below = steps-grown R a (node x below nil) ∙ grown-node R a 0 noSprout (oldNode [] x) (begunFrom [] 0 below) nil
       ∙ rw (held-begunFrom [] 0 below, none-grown (newLabel R a 0 (heldNode (oldNode [] x))))

@@ -14,9 +14,9 @@ use Rattle.table.specs.Rule.{Rule}
 use Rattle.table.proofs.Logic.{look, never}
 use Rattle.history.specs.Forest.{Forest, nil, node, change, listing, named, names, sameNumbers}
 use Rattle.history.specs.Tree.{Tree}
-use Rattle.history.specs.Letter.{sprouted, Grown, begun, child, kept, survivors, isOld}
+use Rattle.history.specs.Letter.{sprouted, Grown, begun, child, kept, fiveSteps, survivors, isOld}
 use Rattle.history.proofs.LocalStep.{newLabel, accepts}
-use Rattle.history.proofs.StepsJoined.{heldNode, heldBranch, grown, advanced, grown-new, grown-node, noSprout, survivors-grown}
+use Rattle.history.proofs.StepsJoined.{heldNode, heldBranch, grown, advanced, grown-new, grown-node, noSprout, steps-grown, survivors-steps}
 use Rattle.history.proofs.Names.{same-equal}
 use Rattle.history.proofs.NamesDistinct.{names-distinct}
 use Rattle.history.proofs.Origins.{From}
@@ -120,14 +120,17 @@ module _ (R : Rule) (a : ℕ) where
       ))
 
   -- so there is at most one, as there was
-  single : (T : Tree) (w : List ℕ) → many (From w) (listing (survivors R a T)) ≤ 1
+  steps-single : (T : Tree) (w : List ℕ) → many (From w) (listing (fiveSteps R a T)) ≤ 1
   unfolding begun isOld names noSprout
-  single T w =
+  steps-single T w =
       let once : many (sameNumbers w) (names T) ≤ 1 = many-single (sameNumbers w) [] (names T) (λ i j hi hj s t.
       names-distinct T i j hi hj (sym (same-equal w (getD (names T) i []) s) ∙ same-equal w (getD (names T) j []) t)) in
       let begins : many (From w) (listing (begun T)) ≡ many (sameNumbers w) (names T) =
       many-change (From w) _ (named T) ∙ sym (many-map (sameNumbers w) (λ x. x .name) (listing (named T))) in
-      rw (survivors-grown R a T) (omega (arith, grown-fewer w 0 noSprout (begun T) refl))
+      rw (steps-grown R a T) (omega (arith, grown-fewer w 0 noSprout (begun T) refl))
+
+  single : (T : Tree) (w : List ℕ) → many (From w) (listing (survivors R a T)) ≤ 1
+  single T w = rw (survivors-steps R a T) (steps-single T w)
 
   -- two nodes that come from the same old node are the same
   pub origins-distinct : (T : Tree) (w : List ℕ) (d : Grown) (i j : ℕ) → i < length (listing (survivors R a T))

@@ -1,13 +1,14 @@
 -- What a letter makes of a tree depends on the letter's square alone: two letters with the same square, of one rule or of two with the same
 -- states and sets, give the same next tree, with the same accepting and the same stable nodes.
-use mathlib.Core.Path.{_≡_, refl}
+use mathlib.Core.Path.{_≡_, refl, sym, _∙_}
 use mathlib.Core.List.{List}
 use Prim.Native.Nat.{ℕ}
 use Rattle.table.specs.Rule.{Rule, squareOf}
 use Rattle.table.proofs.SameSquares.{same-successors, same-successors-in}
 use Rattle.history.specs.Forest.{Forest, nil, node, change}
 use Rattle.history.specs.Tree.{Tree}
-use Rattle.history.specs.Letter.{Grown, succeeded, child, sprouting, survivors, nextTree, accepting, stable}
+use Rattle.history.specs.Letter.{Grown, succeeded, child, sprouting, fiveSteps, survivors, nextTree, accepting, stable}
+use Rattle.history.proofs.StepsJoined.{survivors-steps}
 
 module _ (R S : Rule) (states : R .states ≡ S .states) (sets : R .sets ≡ S .sets) (a b : ℕ) (same : squareOf R a ≡ squareOf S b) where
   same-succeeded : (F : Forest Grown) → succeeded R a F ≡ succeeded S b F
@@ -25,9 +26,12 @@ module _ (R S : Rule) (states : R .states ≡ S .states) (sets : R .sets ≡ S .
   same-sprouting nil = refl
   same-sprouting (node x below younger) = rw (same-child x, same-sprouting below, same-sprouting younger)
 
+  same-steps : (T : Tree) → fiveSteps R a T ≡ fiveSteps S b T
+  unfolding fiveSteps
+  same-steps T = rw (same-succeeded, same-sprouting, sets)
+
   same-survivors : (T : Tree) → survivors R a T ≡ survivors S b T
-  unfolding survivors
-  same-survivors T = rw (same-succeeded, same-sprouting, sets)
+  same-survivors T = survivors-steps R a T ∙ same-steps T ∙ sym (survivors-steps S b T)
 
   pub same-next : (T : Tree) → nextTree R a T ≡ nextTree S b T
   unfolding nextTree

@@ -10,12 +10,12 @@ use Rattle.table.specs.Rule.{Rule}
 use Rattle.table.proofs.Logic.{clash, never}
 use Rattle.history.specs.Forest.{Forest, nil, node, change, listing, namedFrom, sameNumbers}
 use Rattle.history.specs.Tree.{Node, Tree}
-use Rattle.history.specs.Letter.{sprouted, Grown, child, kept, survivors, isOld, anyOf, stable}
+use Rattle.history.specs.Letter.{sprouted, Grown, child, kept, fiveSteps, survivors, isOld, anyOf, stable}
 use Rattle.history.proofs.LocalStep.{newLabel, accepts, branchAt, survive, taken, nameKept, stableLocally}
 use Rattle.history.proofs.Conditions.{OneRoot}
-use Rattle.history.proofs.StepsJoined.{grown, advanced, oldNode, begunFrom}
+use Rattle.history.proofs.StepsJoined.{grown, advanced, oldNode, begunFrom, survivors-steps}
 use Rattle.history.proofs.Names.{same-self, parted, longer, atPlace, at-any, named-tree}
-use Rattle.history.proofs.Origins.{From, grown-origins, from-begun, grownBranch, grown-begun, survivors-dead, survivors-root}
+use Rattle.history.proofs.Origins.{From, grown-origins, from-begun, grownBranch, grown-begun, steps-dead, steps-root}
 
 -- step 4 at a node, seen from a later place among the siblings
 kept-later : (f : Grown → Bool) (k : ℕ) (gone full : Bool) (x : Grown) (below younger : Forest Grown) (i : ℕ) (u : List ℕ)
@@ -111,11 +111,12 @@ module _ (R : Rule) (a : ℕ) where
 -- "An old node is stable if it survives with its name unchanged": it is stable from the root down
 pub stable-local : (R : Rule) (a : ℕ) (T : Tree) → OneRoot T → (w : List ℕ) → stable R a T w ≡ stableLocally R a T w
 unfolding stable stableLocally survive branchAt atPlace child
-stable-local R a T one w = named-tree (From w) w (survivors R a T) ∙ go T one
+stable-local R a T one w =
+    named-tree (From w) w (survivors R a T) ∙ ap (λ (F : Forest Grown). atPlace (From w) F 0 w) (survivors-steps R a T) ∙ go T one
   where
-    go : (T : Tree) → OneRoot T → atPlace (From w) (survivors R a T) 0 w ≡ stableLocally R a T w
-    go nil one = ap (λ (F : Forest Grown). atPlace (From w) F 0 w) (survivors-dead R a)
-    go (node x below nil) one = ap (λ (F : Forest Grown). atPlace (From w) F 0 w) (survivors-root R a x below)
+    go : (T : Tree) → OneRoot T → atPlace (From w) (fiveSteps R a T) 0 w ≡ stableLocally R a T w
+    go nil one = ap (λ (F : Forest Grown). atPlace (From w) F 0 w) (steps-dead R a)
+    go (node x below nil) one = ap (λ (F : Forest Grown). atPlace (From w) F 0 w) (steps-root R a x below)
         ∙ branch-stable R a w [] w 0 x below nil refl refl
         (λ j t is. siblings-stable R a w [] t 0 (child R a (oldNode [] x)) 0 j below refl (is ∙ ap (λ (m : ℕ). m ∷ t) (omega arith)))
     go (node x below (node y other younger)) one = absurd one

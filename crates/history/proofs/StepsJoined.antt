@@ -12,7 +12,7 @@ use Rattle.table.proofs.BitSet.{member-union, member-minus, set-ext}
 use Rattle.history.specs.Forest.{Forest, nil, node, change, namedFrom, named}
 use Rattle.history.specs.Tree.{Node, Tree, labels}
 use Rattle.history.specs.Letter.{was, sprouted, Grown, begun, succeeded, youngest, child, sprouting, separated}
-use Rattle.history.specs.Letter.{grownLabels, kept, pruned, survivors, nextTree}
+use Rattle.history.specs.Letter.{grownLabels, kept, pruned, fiveSteps, survivors, nextTree}
 use Rattle.history.proofs.LocalStep.{settled, settle, newLabel, sproutOf, step, Branch, newBelow, accepts}
 use Rattle.history.proofs.SetFacts.{nothing-minus}
 use Rattle.history.proofs.Conditions.{OneRoot}
@@ -151,12 +151,20 @@ held-begun (node x below (node y other younger)) one = absurd one
 unfoldable pub noSprout : Grown
 noSprout = record { origin = sprouted; before = 0; label = 0; active = 1; accepting = false }
 
-pub survivors-grown : (R : Rule) (a : ℕ) (T : Tree) → survivors R a T ≡ grown R a 0 noSprout (begun T)
-unfolding survivors grown noSprout
-survivors-grown R a T = sym (empty-sprout R a 0 noSprout (sprouting R a (succeeded R a (begun T))) refl)
+pub steps-grown : (R : Rule) (a : ℕ) (T : Tree) → fiveSteps R a T ≡ grown R a 0 noSprout (begun T)
+unfolding fiveSteps grown noSprout
+steps-grown R a T = sym (empty-sprout R a 0 noSprout (sprouting R a (succeeded R a (begun T))) refl)
 
--- the next tree is the local step
+-- A LETTER
+
+-- a letter makes the five steps
+pub survivors-steps : (R : Rule) (a : ℕ) (T : Tree) → survivors R a T ≡ fiveSteps R a T
+unfolding survivors
+survivors-steps R a T = refl
+
+-- so the next tree is the local step
 pub nextTree-step : (R : Rule) (a : ℕ) (T : Tree) → OneRoot T → nextTree R a T ≡ step R a 0 0 T
 unfolding nextTree plainNode noSprout
 nextTree-step R a T one =
-    ap plain (survivors-grown R a T) ∙ grown-step R a 0 noSprout (begun T) refl ∙ ap (step R a 0 0) (held-begun T one)
+    ap plain (survivors-steps R a T ∙ steps-grown R a T) ∙ grown-step R a 0 noSprout (begun T) refl
+    ∙ ap (step R a 0 0) (held-begun T one)

@@ -42,6 +42,7 @@ use Rattle.history.specs.Letter.{
   nextSet,
   kept,
   pruned,
+  fiveSteps,
   survivors,
   nextTree,
   isOld,
@@ -159,7 +160,7 @@ module _ (test : List ℕ → Bool) where
 unfoldable pub verdictTest : Rule → List ℕ → List ℕ → ℕ → ℕ → Finding → Bool
 unfolding repeatTest seenBefore sameTree isFirst witnessTest
     treeInRound roundTree readLetters rounds startTree
-    nextTree stable accepting survivors begun succeeded sprouting child youngest separated pruned kept grownLabels nextSet
+    nextTree stable accepting survivors fiveSteps begun succeeded sprouting child youngest separated pruned kept grownLabels nextSet
     change named namedFrom names listing anyOf isOld sameNumbers
     successors successorsIn image collect some member minus edge edgeIn cellAt
 verdictTest R u v entry period finding =

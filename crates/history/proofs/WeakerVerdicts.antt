@@ -7,37 +7,20 @@ use mathlib.Core.List.{List, [], _∷_}
 use Prim.Native.Nat.{ℕ, zero, suc, _≤_, _<_}
 use native.Mathlib.Omega.{arith}
 use lib.ListN.{getD}
-use Rattle.table.specs.BitSet.{member, minus, collect, some}
-use Rattle.table.specs.Rule.{Rule, cellAt, edge, edgeIn, image, successors, successorsIn}
+use Rattle.table.specs.BitSet.{member}
+use Rattle.table.specs.Rule.{Rule, cellAt, edge, edgeIn}
 use Rattle.table.specs.Table.{WellFormed, startFits, bytesFit}
 use Rattle.table.proofs.Logic.{clash, or-r}
-use Rattle.word.specs.Walk.{rounds}
 use Rattle.word.specs.Run.{AcceptingRun}
 use Rattle.word.specs.Loop.{Loop}
 use Rattle.word.proofs.Variants.{cycle, nonempty, small, no-loop, away, away-fits, once-no-loop}
-use Rattle.history.specs.Forest.{size, change, listing, namedFrom, named, sameNumbers}
-use Rattle.history.specs.Tree.{labels, startTree}
-use Rattle.history.specs.Letter.{
-  begun,
-  succeeded,
-  youngest,
-  child,
-  sprouting,
-  separated,
-  grownLabels,
-  nextSet,
-  kept,
-  pruned,
-  survivors,
-  nextTree,
-  isOld,
-  anyOf,
-  accepting,
-  stable,
-}
-use Rattle.history.specs.Rounds.{readLetters, roundTree, treeInRound, FirstRepeat}
+use Rattle.history.specs.Forest.{size}
+use Rattle.history.specs.Tree.{labels}
+use Rattle.history.specs.Letter.{accepting, stable}
+use Rattle.history.specs.Rounds.{roundTree, treeInRound, FirstRepeat}
 use Rattle.history.specs.Verdict.{LetterPlace, Witness}
 use Rattle.history.proofs.TreeTheorem.{witness-loop}
+use Rattle.history.proofs.VerdictTest.{verdictTest}
 
 -- VERDICTS THAT ASK LESS
 
@@ -114,10 +97,7 @@ record Leaving : Type 0 where
   renamed : stable leaving 0 (treeInRound leaving [] cycle 2 0) (1 ∷ []) ≡ false
 
 leaving-computed : Leaving
-unfolding treeInRound roundTree readLetters rounds startTree size labels
-    nextTree stable accepting survivors begun succeeded sprouting child youngest separated pruned kept grownLabels nextSet
-    change named namedFrom listing anyOf isOld sameNumbers
-    successors successorsIn image collect some member minus edge edgeIn cellAt
+unfolding verdictTest size labels
 leaving-computed = record { one = refl; two = refl; three = refl; back = refl; accepts = refl; renamed = refl }
 
 leaving-repeat : FirstRepeat (roundTree leaving [] cycle) 2 1
@@ -168,10 +148,7 @@ record Away : Type 0 where
   accepts : accepting away 0 (treeInRound away [] cycle 0 0) [] ≡ true
 
 away-computed : Away
-unfolding treeInRound roundTree readLetters rounds startTree size labels
-    nextTree stable accepting survivors begun succeeded sprouting child youngest separated pruned kept grownLabels nextSet
-    change named namedFrom listing anyOf isOld sameNumbers
-    successors successorsIn image collect some member minus edge edgeIn cellAt
+unfolding verdictTest size labels
 away-computed = record { first = refl; second = refl; back = refl; stays = refl; accepts = refl }
 
 away-repeat : FirstRepeat (roundTree away [] cycle) 1 1

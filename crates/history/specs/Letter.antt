@@ -83,10 +83,14 @@ pruned k nil = nil
 pruned k (node x below younger) =
     kept k (eqb (x .label) 0) (eqb (x .label) (grownLabels below)) x (pruned k below) (pruned k younger)
 
--- the nodes after the letter, each with where it comes from. 5. "Surviving siblings are renumbered from 0 in their old
+-- the nodes after the five steps, each with where it comes from. 5. "Surviving siblings are renumbered from 0 in their old
 -- order": their places among siblings are their child numbers.
+unfoldable pub fiveSteps : Rule → ℕ → Tree → Forest Grown
+fiveSteps R a T = pruned (R .sets) (separated 0 (sprouting R a (succeeded R a (begun T))))
+
+-- what a letter makes of a tree: the nodes after it
 unfoldable pub survivors : Rule → ℕ → Tree → Forest Grown
-survivors R a T = pruned (R .sets) (separated 0 (sprouting R a (succeeded R a (begun T))))
+survivors R a T = fiveSteps R a T
 
 -- the next tree: what survives, with labels and active sets alone
 unfoldable pub nextTree : Rule → ℕ → Tree → Tree

@@ -13,7 +13,7 @@ use Rattle.table.specs.Rule.{Rule, successors, successorsIn}
 use Rattle.table.proofs.BitSet.{union-assoc}
 use Rattle.history.specs.Forest.{Forest, nil, node, size, change, namedFrom, named}
 use Rattle.history.specs.Tree.{Node, Tree, labels}
-use Rattle.history.specs.Letter.{Origin, was, sprouted, Grown, child, kept, survivors}
+use Rattle.history.specs.Letter.{Origin, was, sprouted, Grown, child, kept, fiveSteps}
 use Rattle.history.specs.OldNumbers.{noNode}
 use Rattle.tree.specs.Rows.{rowsFrom, rowsOf}
 use Rattle.tree.specs.Pass.{Level, sproutRow, written}
@@ -22,7 +22,7 @@ use Rattle.tree.specs.declared.rows.Row.{Row}
 use Rattle.history.proofs.LocalStep.{newLabel}
 use Rattle.history.proofs.Conditions.{Fits}
 use Rattle.history.proofs.StepsJoined.{grown, advanced, grown-new, oldNode, begunFrom}
-use Rattle.history.proofs.Origins.{grownBranch, grown-begun, survivors-dead, survivors-root}
+use Rattle.history.proofs.Origins.{grownBranch, grown-begun, steps-dead, steps-root}
 use Rattle.tree.proofs.PassSteps.{level, pass, Closes, sproutOfLevel, none-closed, pass-closes}
 use Rattle.tree.proofs.GrownRows.{marked, grownRows, acceptingOf, stableOf, stableIn, Gives}
 use Rattle.tree.proofs.GrownRows.{rowsHere, acceptingHere, stableHere, rows-kept, accepting-kept, stable-kept, stable-root}
@@ -170,13 +170,13 @@ module _ (R : Rule) (a : ℕ) (E : ℕ → ℕ → ℕ) (number : Origin → ℕ
   -- A WHOLE TREE
 
   -- the dead tree
-  pub pass-dead : Gives number (passOver E (R .sets) 0 atStart (rowsOf nil)) (survivors R a nil)
+  pub pass-dead : Gives number (passOver E (R .sets) 0 atStart (rowsOf nil)) (fiveSteps R a nil)
   unfolding passOver rowsOf rowsFrom closedTo levelsTo sproutsTo grownRows acceptingOf stableIn marked named
-  pass-dead = rw (survivors-dead R a) (record { rows = refl; accepting = refl; stable = refl })
+  pass-dead = rw (steps-dead R a) (record { rows = refl; accepting = refl; stable = refl })
 
   -- one root with all below it
   pub pass-root : (x : Node) (below : Tree) → Fits (R .sets) (node x below nil) → number (was []) ≡ 0 → Numbered number [] 0 1 below
-      → Gives number (passOver E (R .sets) 0 atStart (rowsOf (node x below nil))) (survivors R a (node x below nil))
+      → Gives number (passOver E (R .sets) 0 atStart (rowsOf (node x below nil))) (fiveSteps R a (node x below nil))
   unfolding rowsOf rowsFrom passOver grownBranch advanced oldNode grownRows acceptingOf marked
   pass-root x below (own, down, on) is inner = record {
     rows = ap (λ (p : Pass). p .rows) read
@@ -200,8 +200,8 @@ module _ (R : Rule) (a : ℕ) (E : ℕ → ℕ → ℕ) (number : Origin → ℕ
       B : Forest Grown
       B = newKids R a 0 [] x below
 
-      root : survivors R a (node x below nil) ≡ kept (R .sets) g f N B nil
-      root = survivors-root R a x below ∙ rw (full-is R a 0 [] x below)
+      root : fiveSteps R a (node x below nil) ≡ kept (R .sets) g f N B nil
+      root = steps-root R a x below ∙ rw (full-is R a 0 [] x below)
 
       read : passOver E (R .sets) 0 atStart (rowAt 0 x below ∷ (rowsFrom 1 below ++ []))
           ≡ pass (level (bitOr 0 (newLabel R a 0 x)) 0 (cond g false true) ∷ []) (rowsHere number (R .sets) 0 g f N B)

@@ -19,7 +19,7 @@ use Rattle.table.specs.Held.{held}
 use Rattle.table.proofs.LookupTable.{look-up-successors, look-up-successors-in}
 use Rattle.history.specs.Forest.{nil, node, size}
 use Rattle.history.specs.Tree.{Tree, isTree}
-use Rattle.history.specs.Letter.{sprouted, survivors, nextTree}
+use Rattle.history.specs.Letter.{sprouted, fiveSteps, survivors, nextTree}
 use Rattle.history.specs.OldNumbers.{noNode, oldNumber, oldNumbers}
 use Rattle.tree.specs.Rows.{rowsFrom, rowsOf, withoutOld, AreRows, StepsTo}
 use Rattle.tree.specs.Pass.{metBy, joinedIf, settledRow, deepest, Pass, closedTo, metRow, readRow, passOver, atStart}
@@ -29,7 +29,7 @@ use Rattle.tree.specs.declared.rows.Row.{Row}
 use Rattle.tree.specs.declared.rows.Stepped.{Stepped}
 use Rattle.history.proofs.Conditions.{Fits, OneRoot, tree-out}
 use Rattle.history.proofs.TreesKept.{next-is-tree, few-nodes}
-use Rattle.history.proofs.StepsJoined.{plainNode}
+use Rattle.history.proofs.StepsJoined.{plainNode, survivors-steps}
 use Rattle.tree.proofs.TreeRows.{rows-size, rows-are-nodes}
 use Rattle.tree.proofs.GrownRows.{Gives, grown-rows, grown-olds}
 use Rattle.tree.proofs.PassTree.{pass-dead, pass-root}
@@ -127,10 +127,10 @@ module _ (R : Rule) (well : WellFormed R) (few-states : R .states ≤ maxStates)
 
   -- the pass gives the nodes after the letter
   gives : Gives (oldNumber T) whole (survivors R a T)
-  gives = let t = tree-out (R .states) (R .sets) T tree in go T none (t .one-root) (t .fits) few
+  gives = let t = tree-out (R .states) (R .sets) T tree in rw (survivors-steps R a T) (go T none (t .one-root) (t .fits) few)
     where
       go : (F : Tree) → oldNumber F sprouted ≡ noNode → OneRoot F → Fits (R .sets) F → size F < noNode
-          → Gives (oldNumber F) (passOver E (R .sets) 0 atStart (rowsOf F)) (survivors R a F)
+          → Gives (oldNumber F) (passOver E (R .sets) 0 atStart (rowsOf F)) (fiveSteps R a F)
       go nil e one fits small = pass-dead R a E (oldNumber nil) e (look-up-successors R well few-states a)
           (λ i s low high. look-up-successors-in R well few-states i a s low (omega arith))
       go (node x below nil) e one fits small = let (root, inner) = tree-numbered x below small in

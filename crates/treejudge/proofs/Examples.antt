@@ -7,20 +7,18 @@ use Prim.Native.Nat.{ℕ}
 use native.Mathlib.Omega.{arith}
 use lib.Count.{ones, onesIn}
 use lib.ListN.{replicate, length-replicate}
-use Rattle.table.specs.BitSet.{member, minus, collect, some}
 use Rattle.table.specs.Outcome.{Outcome, refused, accepted}
-use Rattle.table.specs.Rule.{Rule, cellAt, edge, edgeIn, image, successors, successorsIn}
-use Rattle.table.specs.Table.{Every, inRange, startFits, askHeader, readByte, readTransition, readRow, readCell, readMany, readGrid, ended, readBody, readRule}
+use Rattle.table.specs.Rule.{Rule}
+use Rattle.table.specs.Table.{Every, readRule}
 use Rattle.table.proofs.Every.{every-weaker}
 use Rattle.table.proofs.Logic.{and-in}
 use Rattle.word.specs.Judging.{judgeQuestions}
 use Rattle.word.specs.Walk.{lengthsFit, lettersBelow, askWalk}
 use Rattle.word.proofs.JudgeQuestions.{with-room}
 use Rattle.word.proofs.WalkQuestions.{lengths-in}
-use Rattle.history.specs.Forest.{size, change, listing, namedFrom, named, names, sameNumbers}
-use Rattle.history.specs.Tree.{labels, disjoint, strictlyInside, nodesFit, isTree, startTree}
-use Rattle.history.specs.Letter.{begun, succeeded, youngest, child, sprouting, separated, grownLabels, nextSet, kept, pruned, survivors, nextTree}
-use Rattle.history.specs.Letter.{isOld, anyOf, accepting, stable, byNumber, acceptingMap, stableMap}
+use Rattle.history.specs.Forest.{size}
+use Rattle.history.specs.Tree.{labels, disjoint, strictlyInside, nodesFit, isTree}
+use Rattle.history.specs.Letter.{byNumber, acceptingMap, stableMap}
 use Rattle.history.specs.Record.{hostFrom, host, membersFrom, members, marks, recordOf, rank, hostedIn, planted, decoded, isRecord, readTree}
 use Rattle.history.specs.Finding.{Finding}
 use Rattle.history.proofs.VerdictTest.{verdictTest, verdict-by-test, ruleTest, rule-by-test}
@@ -85,6 +83,8 @@ computed-holds (refuses table u v number) h = h
 
 -- every row holds
 pub examples-hold : Every Holds examples
-unfolding ones onesIn member minus collect some cellAt edge edgeIn image successors successorsIn inRange startFits askHeader readByte readTransition readRow readCell readMany readGrid ended readBody readRule size change listing namedFrom named names sameNumbers labels disjoint strictlyInside nodesFit isTree startTree begun succeeded youngest child sprouting separated grownLabels nextSet kept pruned survivors nextTree isOld anyOf accepting stable byNumber acceptingMap stableMap hostFrom host membersFrom members marks recordOf rank hostedIn planted decoded isRecord readTree startOutcome stepOutcome lengthsFit lettersBelow askWalk judgeQuestions treeOutcome rowTest tableA tableB tableC examples
+unfolding rowTest ones onesIn size labels disjoint strictlyInside nodesFit isTree byNumber acceptingMap stableMap
+    hostFrom host membersFrom members marks recordOf rank hostedIn planted decoded isRecord readTree
+    startOutcome stepOutcome askWalk judgeQuestions treeOutcome tableA tableB tableC examples
 examples-hold = every-weaker Computes Holds examples computed-holds
     (refl, (refl, (refl, (refl, (refl, (refl, (refl, (refl, (refl, (refl, (refl, (refl, (refl, tt)))))))))))))
