@@ -22,7 +22,7 @@ use Rattle.history.specs.Letter.{nextTree, accepting, stable, byNumber}
 use Rattle.history.specs.Rounds.{readLetters, roundTree, treeInRound, FirstRepeat}
 use Rattle.history.specs.Verdict.{LetterPlace, Witness, FirstWitness}
 use Rattle.history.specs.Following.{stableThrough, acceptingOnce, acceptedMap}
-use Rattle.history.proofs.Conditions.{tree-out}
+use Rattle.history.proofs.TreesOf.{of-root}
 use Rattle.history.proofs.NamesDistinct.{length-names}
 use Rattle.history.proofs.TreesOfWalk.{read-append, round-next, round-periodic}
 use Rattle.history.proofs.RepeatExists.{round-is-tree}
@@ -183,7 +183,7 @@ module _ (R : Rule) (u v : List ℕ) (entry period : ℕ) (F : FirstRepeat (roun
   module _ (well : WellFormed R) (sets : 1 ≤ R .sets) where
     -- the numbers of the nodes are those below their count
     all-named : length (names (roundTree R u v start)) ≡ size (roundTree R u v start)
-    all-named = length-names _ (tree-out (R .states) (R .sets) _ (round-is-tree R well sets u v start) .one-root)
+    all-named = length-names _ (of-root R _ (round-is-tree R well sets u v start))
 
     -- the lowest member is the first witness
     pub verdict-yes : (j : ℕ) → j < size (roundTree R u v start)

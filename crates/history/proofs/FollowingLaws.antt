@@ -17,7 +17,7 @@ use Rattle.table.specs.Table.{WellFormed}
 use Rattle.table.proofs.Logic.{bool-ext, and-both, and-in}
 use Rattle.table.proofs.BitSet.{member-union, member-inter, set-ext, member-collect, collect-ext}
 use Rattle.history.specs.Forest.{size, names}
-use Rattle.history.specs.Tree.{Tree, isTree}
+use Rattle.history.specs.Tree.{Tree, isTreeOf}
 use Rattle.history.specs.Letter.{nextTree, accepting, stable, byNumber, acceptingMap, stableMap}
 use Rattle.history.specs.Rounds.{readLetters}
 use Rattle.history.specs.OldNumbers.{noNode, oldNumbers}
@@ -86,7 +86,7 @@ follow-none R T = (collect-all (size T), collect-none (size T))
 
 module _ (R : Rule) (well : WellFormed R) (sets : 1 ≤ R .sets) (few : R .states < noNode) where
   -- a map of stable names is carried to the same names
-  carried-names : (a : ℕ) (T : Tree) → isTree (R .states) (R .sets) T ≡ true → (f : List ℕ → Bool)
+  carried-names : (a : ℕ) (T : Tree) → isTreeOf R T ≡ true → (f : List ℕ → Bool)
       → carried (oldNumbers R a T) (byNumber (λ p. f p && stable R a T p) T) ≡ byNumber (λ p. f p && stable R a T p) (nextTree R a T)
   unfolding carried byNumber
   carried-names a T tree f =
@@ -111,7 +111,7 @@ module _ (R : Rule) (well : WellFormed R) (sets : 1 ≤ R .sets) (few : R .state
           let (small, same) = stable-comes R well sets a T tree j l (and-in (f (getD (names (nextTree R a T)) j [])) _ e .1) in
           and-both (ltb (getD (oldNumbers R a T) j 0) (size T)) _ (lt-ltb _ (size T) small) (rw same e)
 
-  module _ (T₀ : Tree) (tree : isTree (R .states) (R .sets) T₀ ≡ true) (w : List ℕ) (a : ℕ) where
+  module _ (T₀ : Tree) (tree : isTreeOf R T₀ ≡ true) (w : List ℕ) (a : ℕ) where
     -- if the names with f are those with g that are stable at the letter behind w, then g's map gives f's
     follow : (f g : List ℕ → Bool) → ((p : List ℕ) → f p ≡ (g p && stable R a (readLetters R w T₀) p))
         → byNumber f (readLetters R (w ++ (a ∷ [])) T₀)

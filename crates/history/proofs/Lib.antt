@@ -35,6 +35,7 @@ pub mod AcceptingNames
 pub mod SetFacts
 pub mod Conditions
 pub mod TreesKept
+pub mod TreesOf
 pub mod Hosts
 pub mod HostLabels
 pub mod Members

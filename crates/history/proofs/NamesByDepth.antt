@@ -2,7 +2,6 @@
 -- number order give all names. A name is as long as its node is deep; its numbers are smaller than the number of nodes, since
 -- each child number counts older siblings.
 use mathlib.Core.Path.{_≡_, refl, sym, _∙_, ap, subst}
-use mathlib.Core.Bool.{true}
 use mathlib.Core.List.{List, [], _∷_, _++_, map, map-append, append-nil}
 use Prim.Native.Nat.{ℕ, zero, suc, _+_, _-_, _≤_, _<_}
 use native.Mathlib.Omega.{arith}
@@ -12,14 +11,13 @@ use lib.Seq.{take-length, take-append-seam, getD-append-seam}
 use Rattle.table.specs.Table.{Every}
 use Rattle.table.proofs.Every.{every-at, every-weaker}
 use Rattle.history.specs.Forest.{Forest, nil, node, size, listing, named, names}
-use Rattle.history.specs.Tree.{Tree, isTree}
+use Rattle.history.specs.Tree.{Tree}
 use Rattle.history.specs.Verdict.{Before}
 use Rattle.history.specs.NamesByDepth.{depthsFrom, depths, nameAfter, namesAlong}
-use Rattle.history.proofs.Conditions.{OneRoot, tree-out}
+use Rattle.history.proofs.Conditions.{OneRoot}
 use Rattle.history.proofs.Names.{longer}
 use Rattle.history.proofs.NamesDistinct.{length-names}
 use Rattle.history.proofs.NameOrder.{every-append, namesFrom, names-root, names-ascend}
-use Rattle.history.proofs.TreesKept.{few-nodes}
 
 -- ONE NAME BEHIND ANOTHER
 
@@ -206,14 +204,14 @@ tree-weights nil = tt
 tree-weights (node x below younger) = subst (Every (λ w. weight w < size (node x below younger))) (sym (names-root x below younger))
     (omega arith, every-weaker _ _ (namesFrom [] 0 below) (λ w h. omega arith) (weight-from [] 0 below))
 
-module _ (n k : ℕ) (T : Tree) (tree : isTree n k T ≡ true) where
+module _ (T : Tree) (one : OneRoot T) where
   -- the depths give the names
   pub names-along : names T ≡ namesAlong [] (depths T)
-  names-along = tree-along T (tree-out n k T tree .one-root)
+  names-along = tree-along T one
 
   -- the numbers of the nodes are those below their count, and each name weighs less
   count : length (names T) ≡ size T
-  count = length-names T (tree-out n k T tree .one-root)
+  count = length-names T one
 
   light : (j : ℕ) → j < size T → weight (getD (names T) j []) < size T
   light j h = every-at (λ w. weight w < size T) (names T) j [] (tree-weights T) (omega (arith, count))
@@ -225,7 +223,7 @@ module _ (n k : ℕ) (T : Tree) (tree : isTree n k T ≡ true) where
   -- a name is as long as its node is deep
   pub name-depth : (j : ℕ) → length (getD (names T) j []) ≡ getD (depths T) j 0
   name-depth j = sym (List·getD-map (λ w. length w) (names T) j [])
-      ∙ ap (λ (l : List ℕ). getD l j 0) (tree-lengths T (tree-out n k T tree .one-root))
+      ∙ ap (λ (l : List ℕ). getD l j 0) (tree-lengths T one)
 
   -- the depth of each node but the root is from 1 to one more than the depth before it
   pub depth-next : (j : ℕ) → suc j < size T
@@ -245,8 +243,7 @@ module _ (n k : ℕ) (T : Tree) (tree : isTree n k T ≡ true) where
   pub name-number : (j i : ℕ) → j < size T → i < length (getD (names T) j []) → getD (getD (names T) j []) i 0 < size T
   name-number j i h l = omega (arith, number-weight (getD (names T) j []) i l, light j h)
 
-  -- over n states it has at most n − 1 numbers, each below n
-  pub name-small : (j : ℕ) → j < size T
+  -- if there are at most n nodes it has at most n − 1 numbers, each below n
+  pub name-small : (n : ℕ) → size T ≤ n → (j : ℕ) → j < size T
       → (length (getD (names T) j []) ≤ n - 1) × ((i : ℕ) → i < length (getD (names T) j []) → getD (getD (names T) j []) i 0 < n)
-  name-small j h =
-      let few = few-nodes n k T tree in (omega (arith, name-length j h), λ i l. omega (arith, name-number j i h l))
+  name-small n few j h = (omega (arith, name-length j h), λ i l. omega (arith, name-number j i h l))

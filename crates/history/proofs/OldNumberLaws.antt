@@ -12,12 +12,12 @@ use Rattle.table.specs.Rule.{Rule}
 use Rattle.table.specs.Table.{WellFormed}
 use Rattle.table.proofs.Logic.{clash, and-in}
 use Rattle.history.specs.Forest.{Forest, nil, node, size, change, listing, Named, namedFrom, named, names, sameNumbers}
-use Rattle.history.specs.Tree.{Node, Tree, isTree}
+use Rattle.history.specs.Tree.{Node, Tree, isTreeOf}
 use Rattle.history.specs.Letter.{Origin, was, sprouted, Grown, survivors, nextTree, isOld, anyOf, stable}
 use Rattle.history.specs.OldNumbers.{noNode, numberFrom, oldNumber, oldNumbers}
-use Rattle.history.proofs.Conditions.{OneRoot, tree-out}
+use Rattle.history.proofs.Conditions.{OneRoot}
 use Rattle.history.proofs.StepsJoined.{noSprout}
-use Rattle.history.proofs.TreesKept.{next-is-tree, few-nodes}
+use Rattle.history.proofs.TreesOf.{of-root, of-few, next-is-tree}
 use Rattle.history.proofs.Names.{same-self, same-equal, any-number, any-in}
 use Rattle.history.proofs.NamesDistinct.{names-distinct, IsName, length-names}
 use Rattle.history.proofs.NameOrder.{namesFrom, names-root}
@@ -116,12 +116,12 @@ stable-node R a T w h =
     let (from, same) = and-in (isOld w (x .here .origin)) (sameNumbers w (x .name)) is in
     (j, small, from, same-equal w (x .name) same)
 
-module _ (R : Rule) (well : WellFormed R) (sets : 1 ≤ R .sets) (a : ℕ) (T : Tree) (tree : isTree (R .states) (R .sets) T ≡ true) where
+module _ (R : Rule) (well : WellFormed R) (sets : 1 ≤ R .sets) (a : ℕ) (T : Tree) (tree : isTreeOf R T ≡ true) where
   one : OneRoot T
-  one = tree-out (R .states) (R .sets) T tree .one-root
+  one = of-root R T tree
 
   next-one : OneRoot (nextTree R a T)
-  next-one = tree-out (R .states) (R .sets) (nextTree R a T) (next-is-tree R well sets a T tree) .one-root
+  next-one = of-root R (nextTree R a T) (next-is-tree R well sets a T tree)
 
   -- the nodes themselves, their names and their old numbers
   here-nodes : map (λ x. x .here) (nodes R a T) ≡ listing (survivors R a T)
@@ -167,7 +167,7 @@ module _ (R : Rule) (well : WellFormed R) (sets : 1 ≤ R .sets) (a : ℕ) (T : 
       let all : length (listing (survivors R a T)) ≡ size (nextTree R a T) =
       ap (λ (l : List Grown). length l) (sym here-nodes) ∙ length-map (nodes R a T) (λ x. x .here) ∙ count in
       let own : isOld w (getD (nodes R a T) j nowhere .here .origin) ≡ true = rw (old-at j h)
-      (number-origin T one (omega (arith, few-nodes (R .states) (R .sets) T tree)) _ (rw (old-at j h) at old)) in
+      (number-origin T one (omega (arith, of-few R T tree)) _ (rw (old-at j h) at old)) in
       let z : m ≡ j = origins-distinct R a T w noSprout m j (omega arith) (omega arith) (rw (here-at m l) from) (rw (here-at j h) own) in
       name-at j h ∙ ap (λ (i : ℕ). getD (nodes R a T) i nowhere .name) (sym z) ∙ sym same
 

@@ -1,7 +1,7 @@
 -- "There are fewer than 2^63 trees, so a repeat always comes": within the limits of today's tables the first repeat of the
 -- trees at round ends exists, with entry and period together below 2^63. Everything else about repeats is stated for a given
 -- repeat, and names no limit.
-use mathlib.Core.Path.{_≡_}
+use mathlib.Core.Path.{_≡_, sym, _∙_}
 use mathlib.Core.Bool.{true}
 use mathlib.Core.List.{List, [], _∷_, _++_}
 use Prim.Native.Nat.{ℕ, _+_, _-_, _^_, _≤_, _<_}
@@ -10,20 +10,20 @@ use Rattle.table.specs.Limits.{maxStates, maxSets}
 use Rattle.table.specs.Rule.{Rule}
 use Rattle.table.specs.Table.{WellFormed}
 use Rattle.word.specs.Walk.{rounds}
-use Rattle.history.specs.Tree.{Tree, isTree, startTree}
+use Rattle.history.specs.Tree.{Tree, isTree, isTreeOf, startTree}
 use Rattle.history.specs.Rounds.{readLetters, roundTree, FirstRepeat}
-use Rattle.history.proofs.TreesKept.{start-is-tree, next-is-tree}
+use Rattle.history.proofs.TreesOf.{of-tree, next-is-tree, start-is-tree}
 use Rattle.history.proofs.TreeCode.{treeCode, code-lt, code-injective}
 use Rattle.history.proofs.FirstRepeats.{repeats}
 
 module _ (R : Rule) (well : WellFormed R) (sets : 1 ≤ R .sets) where
   -- letters lead from trees to trees
-  pub letters-keep : (w : List ℕ) (T : Tree) → isTree (R .states) (R .sets) T ≡ true → isTree (R .states) (R .sets) (readLetters R w T) ≡ true
+  pub letters-keep : (w : List ℕ) (T : Tree) → isTreeOf R T ≡ true → isTreeOf R (readLetters R w T) ≡ true
   unfolding readLetters
   letters-keep [] T h = h
   letters-keep (a ∷ w) T h = letters-keep w _ (next-is-tree R well sets a T h)
 
-  pub round-is-tree : (u v : List ℕ) (r : ℕ) → isTree (R .states) (R .sets) (roundTree R u v r) ≡ true
+  pub round-is-tree : (u v : List ℕ) (r : ℕ) → isTreeOf R (roundTree R u v r) ≡ true
   unfolding roundTree
   round-is-tree u v r = letters-keep (u ++ rounds r v) (startTree R) (start-is-tree R well sets)
 
@@ -31,7 +31,7 @@ module _ (R : Rule) (well : WellFormed R) (sets : 1 ≤ R .sets) where
       → (entry : ℕ) × (period : ℕ) × FirstRepeat (roundTree R u v) entry period × (entry + period < 2 ^ 63)
   repeat-exists few few-sets u v =
       let t = roundTree R u v in
-      let tree = round-is-tree u v in
+      let tree : (i : ℕ) → isTree (R .states) (R .sets) (t i) ≡ true = λ i. sym (of-tree R (t i)) ∙ round-is-tree u v i in
       let (e, p, first, small) = repeats t (treeCode (R .states))
       (λ i j same. code-injective (R .states) (R .sets) (t i) (t j) (tree i) (tree j) few few-sets same)
       (2 ^ 63 - 1) (λ i. code-lt (R .states) (R .sets) (t i) (tree i) few few-sets) in

@@ -20,12 +20,12 @@ use Rattle.word.specs.Walk.{letterAt}
 use Rattle.word.specs.Loop.{Leads}
 use Rattle.word.proofs.Paths.{leads-one, leads-append}
 use Rattle.word.proofs.Positions.{Reads}
-use Rattle.history.specs.Tree.{labels, isTree, startTree}
-use Rattle.history.proofs.Conditions.{IsTree, tree-out}
+use Rattle.history.specs.Tree.{labels, isTreeOf, startTree}
+use Rattle.history.proofs.Conditions.{IsTree}
 use Rattle.history.proofs.LocalStep.{step}
 use Rattle.history.proofs.LabelsOfStep.{labels-step}
 use Rattle.history.proofs.StepsJoined.{nextTree-step}
-use Rattle.history.proofs.TreesKept.{start-is-tree, next-is-tree}
+use Rattle.history.proofs.TreesOf.{of-out, next-is-tree, start-is-tree}
 use Rattle.history.proofs.OneNode.{successors-out, stays-among}
 use Rattle.history.proofs.BetweenAccepting.{stretch}
 use Rattle.history.proofs.TreesOfWalk.{treeAt, reads-next}
@@ -59,13 +59,13 @@ stretch-list letter w same =
 
 module _ (R : Rule) (well : WellFormed R) (sets : 1 ≤ R .sets) (u v : List ℕ) where
   -- the trees of a walk are trees
-  test-at : (p : ℕ) → isTree (R .states) (R .sets) (treeAt R u v p) ≡ true
+  test-at : (p : ℕ) → isTreeOf R (treeAt R u v p) ≡ true
   unfolding treeAt
   test-at zero = start-is-tree R well sets
   test-at (suc p) = next-is-tree R well sets (letterAt u v p) (treeAt R u v p) (test-at p)
 
   pub is-tree-at : (p : ℕ) → IsTree (R .states) (R .sets) (treeAt R u v p)
-  is-tree-at p = tree-out (R .states) (R .sets) (treeAt R u v p) (test-at p)
+  is-tree-at p = of-out R (treeAt R u v p) (test-at p)
 
   -- the next tree by the local step
   pub tree-next : (p : ℕ) → treeAt R u v (suc p) ≡ step R (letterAt u v p) 0 0 (treeAt R u v p)

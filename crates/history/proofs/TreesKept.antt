@@ -1,4 +1,4 @@
--- Trees stay trees: the starting tree is one, and so is what a letter makes of one, the dead tree included.
+-- Trees stay trees: the starting tree is one, and so is what the local step makes of one, the dead tree included.
 -- A tree has at most as many nodes as there are states.
 use mathlib.Core.Path.{_≡_, refl, sym, _∙_}
 use mathlib.Core.Logic.{⊎-elim}
@@ -20,7 +20,7 @@ use Rattle.history.specs.Letter.{nextSet, nextTree, byNumber, acceptingM
 use Rattle.history.proofs.LocalStep.{settled, settle, newLabel, sproutOf, step}
 use Rattle.history.proofs.SetFacts.{nothing-minus, subset-proper, none-proper}
 use Rattle.history.proofs.Hosts.{size-labels}
-use Rattle.history.proofs.Conditions.{Fits, OneRoot, tree-out, tree-in}
+use Rattle.history.proofs.Conditions.{Fits, OneRoot, IsTree, tree-out}
 use Rattle.history.proofs.LabelsOfStep.{successors-subset, successorsIn-subset, successors-lt, labels-step}
 use Rattle.history.proofs.StepsJoined.{nextTree-step}
 
@@ -116,24 +116,22 @@ module _ (R : Rule) (a : ℕ) where
 
 -- THE TREES
 
--- the next tree of a tree is a tree
-pub next-is-tree : (R : Rule) → WellFormed R → 1 ≤ R .sets → (a : ℕ) (T : Tree) → isTree (R .states) (R .sets) T ≡ true
-    → isTree (R .states) (R .sets) (nextTree R a T) ≡ true
-next-is-tree R well pos a T h =
-    let tree = tree-out (R .states) (R .sets) T h in
-    rw (nextTree-step R a T (tree .one-root)) (tree-in (R .states) (R .sets) (step R a 0 0 T) (record {
-      one-root = one-root-step R a T (tree .one-root);
-      states = labels-lt R a T;
-      fits = fits-step R a pos 0 0 T (tree .fits);
-    }))
+-- the local step of a tree is a tree
+pub step-fits : (R : Rule) (a : ℕ) → 1 ≤ R .sets → (T : Tree) → IsTree (R .states) (R .sets) T
+    → IsTree (R .states) (R .sets) (step R a 0 0 T)
+step-fits R a pos T tree = record {
+  one-root = one-root-step R a T (tree .one-root);
+  states = labels-lt R a T;
+  fits = fits-step R a pos 0 0 T (tree .fits);
+}
 
 -- the starting tree is a tree
-pub start-is-tree : (R : Rule) → WellFormed R → 1 ≤ R .sets → isTree (R .states) (R .sets) (startTree R) ≡ true
+pub start-fits : (R : Rule) → WellFormed R → 1 ≤ R .sets → IsTree (R .states) (R .sets) (startTree R)
 unfolding startTree startFits labels
-start-is-tree R well pos =
+start-fits R well pos =
     let (full, small) = and-in (not (eqb (R .start) 0)) _ (well .starts) in
     let some = eqb-false (R .start) 0 (not-in _ full) in
-    tree-in (R .states) (R .sets) (startTree R) (record {
+    record {
       one-root = tt;
       states = rw or-zero-r (ltb-true (R .start) (2 ^ R .states) small);
       fits = (
@@ -141,7 +139,7 @@ start-is-tree R well pos =
         tt,
         tt,
       );
-    })
+    }
 
 -- "The dead tree steps to itself, both maps 0."
 pub dead-next : (R : Rule) (a : ℕ) → nextTree R a nil ≡ nil

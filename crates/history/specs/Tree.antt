@@ -42,6 +42,10 @@ isTree n k nil = true
 isTree n k (node x below nil) = ltb (x .label) (2 ^ n) && nodesFit k (node x below nil)
 isTree n k (node x below (node y other younger)) = false
 
+-- is it a tree of the rule? One over its states and its sets
+unfoldable pub isTreeOf : Rule → Tree → Bool
+isTreeOf R T = isTree (R .states) (R .sets) T
+
 -- "The starting tree is the root alone, the starting states, active set 1."
 unfoldable pub startTree : Rule → Tree
 startTree R = node (record { label = R .start; active = 1 }) nil nil

@@ -19,7 +19,7 @@ use Rattle.table.specs.declared.header.Header.{Header}
 use Rattle.table.proofs.GridReading.{RuleRead}
 use Rattle.table.proofs.Logic.{and-both}
 use Rattle.history.specs.Forest.{size}
-use Rattle.history.specs.Tree.{Tree, isTree}
+use Rattle.history.specs.Tree.{Tree, isTree, isTreeOf}
 use Rattle.history.specs.Letter.{nextTree}
 use Rattle.history.specs.Record.{recordOf, readTree}
 use Rattle.tree.specs.PackedRows.{rowsIn}
@@ -35,7 +35,8 @@ use Rattle.tree.specs.declared.record.Checked.{Checked}
 use Rattle.tree.specs.declared.rows.Row.{Row}
 use Rattle.tree.specs.declared.rows.Stepped.{Stepped}
 use Rattle.history.proofs.QuestionNine.{record-accepted}
-use Rattle.history.proofs.TreesKept.{next-is-tree, few-nodes}
+use Rattle.history.proofs.TreesKept.{few-nodes}
+use Rattle.history.proofs.TreesOf.{of-tree, of-few, next-is-tree}
 use Rattle.tree.proofs.TreeRows.{rows-size, has-are, has-nodes, has-long}
 use Rattle.tree.proofs.RowsOfRecord.{limits-yes}
 use Rattle.tree.proofs.PassLoop.{two-sides}
@@ -130,16 +131,16 @@ module _ (table : List ℕ) (a : ℕ) (bytes before : List ℕ) (header : Header
       step-no-room h answer e = let reads = rw (v .numbers) at (w .reads) in
           rw (v .reads, lt-ltb _ _ below, reads, lt-leb _ _ h) (e, refl)
 
-      tree-fits : isTree (v .rule .states) (v .rule .sets) (w .tree) ≡ true
-      tree-fits = rw (v .numbers) at (w .fits)
+      tree-fits : isTreeOf (v .rule) (w .tree) ≡ true
+      tree-fits = of-tree (v .rule) (w .tree) ∙ (rw (v .numbers) at (w .fits))
 
       -- the letter can be read from the tree's rows on the first side,
       pub step-ready : (other : List ℕ) → length other ≡ places → Steppable (words ∷ other ∷ []) 0 count
       step-ready other long-other = record {
         arrays = two-sides words other (w .long) long-other;
         side = omega arith;
-        few = omega (arith, w .nodes, few-nodes (v .rule .states) (v .rule .sets) (w .tree) tree-fits, v .range .states);
-        fits = sets-fit (v .rule .states) (v .rule .sets) (take count (rowsIn words)) (w .tree) (v .range .sets) tree-fits (w .are);
+        few = omega (arith, w .nodes, of-few (v .rule) (w .tree) tree-fits, v .range .states);
+        fits = sets-fit (v .rule) (take count (rowsIn words)) (w .tree) (v .range .sets) tree-fits (w .are);
       }
 
       -- and its table is the rule's: so the next tree is on the second
@@ -160,7 +161,8 @@ module _ (table : List ℕ) (a : ℕ) (bytes before : List ℕ) (header : Header
             (v .range .states) (v .range .sets) sets tree-fits of-rule (w .are) (v .range .some-set) (omega arith)
 
         next-fits : isTree (v .rule .states) (v .rule .sets) (nextTree (v .rule) a (w .tree)) ≡ true
-        next-fits = next-is-tree (v .rule) (v .well) (v .range .some-set) a (w .tree) tree-fits
+        next-fits = sym (of-tree (v .rule) (nextTree (v .rule) a (w .tree)))
+            ∙ next-is-tree (v .rule) (v .well) (v .range .some-set) a (w .tree) tree-fits
 
         -- its rows can be recorded
         pub step-recordable : Recordable (header .states) (r .count) (rowsIn (getD after 1 [])) × (length (getD after 1 []) ≡ places)

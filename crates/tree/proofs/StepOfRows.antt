@@ -18,7 +18,7 @@ use Rattle.table.specs.Lookup.{LetterTable, letterTable, lookUp}
 use Rattle.table.specs.Held.{held}
 use Rattle.table.proofs.LookupTable.{look-up-successors, look-up-successors-in}
 use Rattle.history.specs.Forest.{nil, node, size}
-use Rattle.history.specs.Tree.{Tree, isTree}
+use Rattle.history.specs.Tree.{Tree, isTreeOf}
 use Rattle.history.specs.Letter.{sprouted, fiveSteps, survivors, nextTree}
 use Rattle.history.specs.OldNumbers.{noNode, oldNumber, oldNumbers}
 use Rattle.tree.specs.Rows.{rowsFrom, rowsOf, withoutOld, AreRows, StepsTo}
@@ -27,8 +27,8 @@ use Rattle.tree.specs.Pass.{blankRow, SetsFit, steppedRows}
 use Rattle.tree.specs.Sides.{rowsOn, Steppable, Stepping}
 use Rattle.tree.specs.declared.rows.Row.{Row}
 use Rattle.tree.specs.declared.rows.Stepped.{Stepped}
-use Rattle.history.proofs.Conditions.{Fits, OneRoot, tree-out}
-use Rattle.history.proofs.TreesKept.{next-is-tree, few-nodes}
+use Rattle.history.proofs.Conditions.{Fits, OneRoot}
+use Rattle.history.proofs.TreesOf.{of-out, of-root, of-few, next-is-tree}
 use Rattle.history.proofs.StepsJoined.{plainNode, survivors-steps}
 use Rattle.tree.proofs.TreeRows.{rows-size, rows-are-nodes}
 use Rattle.tree.proofs.GrownRows.{Gives, grown-rows, grown-olds}
@@ -95,22 +95,22 @@ with-old k [] h i less = absurd (omega arith)
 with-old k (x ∷ rows) h zero less = h 0 (omega arith)
 with-old k (x ∷ rows) h (suc i) less = with-old k rows (λ i less. h (suc i) (omega arith)) i (omega arith)
 
-pub active-sets : (n k : ℕ) (rows : List Row) (T : Tree) → isTree n k T ≡ true → AreRows rows T → ActiveSets k rows
+active-sets : (R : Rule) (rows : List Row) (T : Tree) → isTreeOf R T ≡ true → AreRows rows T → ActiveSets (R .sets) rows
 unfolding rowsOf
-active-sets n k rows T tree are = with-old k rows (rw are (actives-from k 0 T (tree-out n k T tree .fits)))
+active-sets R rows T tree are = with-old (R .sets) rows (rw are (actives-from (R .sets) 0 T (of-out R T tree .fits)))
 
 -- so the table has images for them
-pub sets-fit : (n k : ℕ) (rows : List Row) (T : Tree) → k ≤ maxSets → isTree n k T ≡ true → AreRows rows T → SetsFit rows
-sets-fit n k rows T h tree are i = go (decLt i (length rows))
+pub sets-fit : (R : Rule) (rows : List Row) (T : Tree) → R .sets ≤ maxSets → isTreeOf R T ≡ true → AreRows rows T → SetsFit rows
+sets-fit R rows T h tree are i = go (decLt i (length rows))
   where
     go : Dec (i < length rows) → getD rows i blankRow .active ≤ maxSets
-    go (yes less) = omega (arith, active-sets n k rows T tree are i less .1)
+    go (yes less) = omega (arith, active-sets R rows T tree are i less .1)
     go (no more) = rw (List·getD-eq-default rows blankRow {n = i} (omega arith)) (omega arith)
 
 -- ONE LETTER
 
 module _ (R : Rule) (well : WellFormed R) (few-states : R .states ≤ maxStates) (few-sets : R .sets ≤ maxSets)
-    (a : ℕ) (T : Tree) (tree : isTree (R .states) (R .sets) T ≡ true) where
+    (a : ℕ) (T : Tree) (tree : isTreeOf R T ≡ true) where
   abbrev E : ℕ → ℕ → ℕ
   E = lookUp (letterTable (getD (held (R .grid)) a []))
 
@@ -118,7 +118,7 @@ module _ (R : Rule) (well : WellFormed R) (few-states : R .states ≤ maxStates)
   whole = passOver E (R .sets) 0 atStart (rowsOf T)
 
   few : size T < noNode
-  few = omega (arith, few-nodes (R .states) (R .sets) T tree)
+  few = omega (arith, of-few R T tree)
 
   -- a sprouted node has no old number
   none : oldNumber T sprouted ≡ noNode
@@ -127,7 +127,7 @@ module _ (R : Rule) (well : WellFormed R) (few-states : R .states ≤ maxStates)
 
   -- the pass gives the nodes after the letter
   gives : Gives (oldNumber T) whole (survivors R a T)
-  gives = let t = tree-out (R .states) (R .sets) T tree in rw (survivors-steps R a T) (go T none (t .one-root) (t .fits) few)
+  gives = let t = of-out R T tree in rw (survivors-steps R a T) (go T none (t .one-root) (t .fits) few)
     where
       go : (F : Tree) → oldNumber F sprouted ≡ noNode → OneRoot F → Fits (R .sets) F → size F < noNode
           → Gives (oldNumber F) (passOver E (R .sets) 0 atStart (rowsOf F)) (fiveSteps R a F)
@@ -148,7 +148,7 @@ module _ (R : Rule) (well : WellFormed R) (few-states : R .states ≤ maxStates)
   steps : (r : Stepped) → r .count ≡ length (whole .rows) → r .accepting ≡ whole .accepting → r .stable ≡ whole .stable
       → StepsTo R a T (whole .rows) r
   unfolding nextTree plainNode rowsOf oldNumbers
-  steps r many accepts keeps = let one = tree-out (R .states) (R .sets) T tree .one-root in record {
+  steps r many accepts keeps = let one = of-root R T tree in record {
     are = ap (map withoutOld) (gives .rows) ∙ grown-rows (oldNumber T) 0 (survivors R a T);
     count = many;
     olds = ap (map (λ x. x .old)) (gives .rows) ∙ grown-olds (oldNumber T) 0 (survivors R a T);
@@ -159,7 +159,7 @@ module _ (R : Rule) (well : WellFormed R) (few-states : R .states ≤ maxStates)
 module _ (table : LetterTable) (k from : ℕ) (rows : List Row) (before after : List (List ℕ)) (r : Stepped)
     (step : Stepping (steppedRows table k rows) from before r after)
     (R : Rule) (a : ℕ) (T : Tree) (well : WellFormed R) (few-states : R .states ≤ maxStates) (few-sets : R .sets ≤ maxSets)
-    (sets : R .sets ≡ k) (tree : isTree (R .states) (R .sets) T ≡ true) (by : table ≡ letterTable (getD (held (R .grid)) a []))
+    (sets : R .sets ≡ k) (tree : isTreeOf R T ≡ true) (by : table ≡ letterTable (getD (held (R .grid)) a []))
     (are : AreRows rows T) where
   -- the pass over the rows of a tree
   over-tree : steppedRows table k rows ≡ passOver (lookUp (letterTable (getD (held (R .grid)) a []))) (R .sets) 0 atStart (rowsOf T)
@@ -181,9 +181,9 @@ module _ (table : LetterTable) (k from : ℕ) (rows : List Row) (before after : 
         side = omega arith;
         few = omega (
           arith,
-          few-nodes (R .states) (R .sets) (nextTree R a T) next,
+          of-few R (nextTree R a T) next,
           rows-are-nodes rows′ (nextTree R a T) (steps-to .are),
           steps-to .count,
         );
-        fits = sets-fit (R .states) (R .sets) rows′ (nextTree R a T) few-sets next (steps-to .are);
+        fits = sets-fit R rows′ (nextTree R a T) few-sets next (steps-to .are);
       }

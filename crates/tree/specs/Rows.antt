@@ -6,7 +6,7 @@ use Prim.Native.Nat.{ℕ, suc}
 use lib.ListN.{length, take}
 use Rattle.table.specs.Rule.{Rule}
 use Rattle.history.specs.Forest.{nil, node, size}
-use Rattle.history.specs.Tree.{Tree, labels, isTree}
+use Rattle.history.specs.Tree.{Tree, labels, isTreeOf}
 use Rattle.history.specs.Letter.{nextTree, acceptingMap, stableMap}
 use Rattle.history.specs.OldNumbers.{oldNumbers}
 use Rattle.tree.specs.PackedRows.{rowsIn}
@@ -32,9 +32,9 @@ withoutOld x = record { depth = x .depth; label = x .label; kids = x .kids; acti
 abbrev pub AreRows : List Row → Tree → Type 0
 AreRows rows T = map withoutOld rows ≡ rowsOf T
 
--- the rows that count are those of the tree T over the rule R
+-- the rows that count are those of T, a tree of the rule R
 pub record HoldsTree (R : Rule) (T : Tree) (x : CodeTree) : Type 0 where
-  pub fits : isTree (R .states) (R .sets) T ≡ true
+  pub fits : isTreeOf R T ≡ true
   pub nodes : x .count ≡ size T
   pub are : AreRows (take (x .count) (rowsIn (x .rows))) T
 

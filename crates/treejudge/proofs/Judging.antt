@@ -21,7 +21,7 @@ use Rattle.history.specs.Tree.{startTree}
 use Rattle.history.specs.Rounds.{roundTree}
 use Rattle.history.specs.Verdict.{FirstWitness}
 use Rattle.history.specs.Finding.{yes-node, no-node}
-use Rattle.history.proofs.TreesKept.{few-nodes}
+use Rattle.history.proofs.TreesOf.{of-few}
 use Rattle.tree.specs.RecordRows.{startRows, HasRows}
 use Rattle.tree.proofs.StartCall.{start-holds}
 use Rattle.treejudge.specs.JudgeCall.{noName, treeAnswer, namesAfter, Judged}
@@ -112,7 +112,7 @@ module _ (R : Rule) (u v : List ℕ) (r : Repeat) (S : RepeatOf R u v r) (before
     -- and the first witness
     first-witness : FirstWitness R u v (r .entry) (r .period) (getD (names (S .tree)) j [])
     first-witness =
-        let few = few-nodes (R .states) (R .sets) (S .tree) (S .holds .fits) in
+        let few = of-few R (S .tree) (S .holds .fits) in
         S .lowest j (lowest .here (omega (arith, node-there, few))) (lowest .none-before)
 
     pub says-yes : (name : Name) → IsName (r .tree) j name → (after : List ℕ)

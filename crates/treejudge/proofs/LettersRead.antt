@@ -12,7 +12,7 @@ use Rattle.table.proofs.Every.{every-at}
 use Rattle.history.specs.Tree.{Tree}
 use Rattle.history.specs.Letter.{nextTree}
 use Rattle.history.specs.Rounds.{readLetters}
-use Rattle.history.proofs.TreesKept.{next-is-tree, few-nodes}
+use Rattle.history.proofs.TreesOf.{of-few, next-is-tree}
 use Rattle.history.proofs.TreesOfWalk.{read-append}
 use Rattle.tree.specs.Rows.{StepsTo}
 use Rattle.tree.specs.Pass.{steppedRows}
@@ -31,7 +31,7 @@ use Rattle.treejudge.specs.declared.letters.OnSide.{OnSide}
 
 -- a tree over a rule within the limits has few rows
 pub tree-small : (R : Rule) (T : Tree) (x : CodeTree) → R .states ≤ maxStates → HoldsTree R T x → x .count ≤ maxStates
-tree-small R T x h tree = omega (arith, tree .nodes, few-nodes (R .states) (R .sets) T (tree .fits))
+tree-small R T x h tree = omega (arith, tree .nodes, of-few R T (tree .fits))
 
 module _ (R : Rule) (T : Tree) (tables : Tables) (k : ℕ) (holds : HasSets R k)
     (sides : List (List ℕ)) (from count : ℕ) (tree : HoldsTree R T (record { rows = getD sides from []; count = count })) where
@@ -41,7 +41,7 @@ module _ (R : Rule) (T : Tree) (tables : Tables) (k : ℕ) (holds : HasSets R k)
     arrays = arrays;
     side = side;
     few = tree-small R T _ (holds .limits .states) tree;
-    fits = sets-fit (R .states) (R .sets) (rowsOn sides from count) T (holds .limits .sets) (tree .fits) (tree .are);
+    fits = sets-fit R (rowsOn sides from count) T (holds .limits .sets) (tree .fits) (tree .are);
   }
 
   module _ (a : ℕ) (has : Tabled R tables a) (next : Stepped) (after : List (List ℕ))

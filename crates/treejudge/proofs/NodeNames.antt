@@ -15,6 +15,8 @@ use Rattle.table.specs.Rule.{Rule}
 use Rattle.history.specs.Forest.{nil, node, size, names}
 use Rattle.history.specs.NamesByDepth.{depthsFrom, depths, nameAfter}
 use Rattle.history.specs.Tree.{Tree}
+use Rattle.history.proofs.Conditions.{OneRoot}
+use Rattle.history.proofs.TreesOf.{of-root, of-few}
 use Rattle.history.proofs.NamesByDepth.{after-deeper, after-beside, name-root, name-next, name-depth, depth-next, name-small}
 use Rattle.tree.specs.Rows.{rowsFrom, rowsOf, withoutOld}
 use Rattle.tree.specs.PackedRows.{rowsIn}
@@ -108,6 +110,9 @@ name-start rows number numbers room =
 
 -- the next node in any tree of the rows: its depth and its name
 module _ (R : Rule) (T : Tree) (x : CodeTree) (held : HoldsTree R T x) (i : ℕ) (h : i + 1 < x .count) where
+  one : OneRoot T
+  one = of-root R T (held .fits)
+
   later : suc i < size T
   later = omega (arith, held .nodes)
 
@@ -116,15 +121,15 @@ module _ (R : Rule) (T : Tree) (x : CodeTree) (held : HoldsTree R T x) (i : ℕ)
 
   next-depth : (1 ≤ rowDepth x (i + 1)) × ((rowDepth x (i + 1) ≤ suc (length (getD (names T) i []))) × (rowDepth x (i + 1) < R .states))
   next-depth =
-      let (low, step) = depth-next (R .states) (R .sets) T (held .fits) i later in
-      let own = name-depth (R .states) (R .sets) T (held .fits) (suc i) in
-      let (small, _) = name-small (R .states) (R .sets) T (held .fits) (suc i) later in (
+      let (low, step) = depth-next T one i later in
+      let own = name-depth T one (suc i) in
+      let (small, _) = name-small T one (R .states) (of-few R T (held .fits)) (suc i) later in (
         omega (arith, same),
-        (omega (arith, same, name-depth (R .states) (R .sets) T (held .fits) i), omega (arith, same)),
+        (omega (arith, same, name-depth T one i), omega (arith, same)),
       )
 
   next-name : nameAfter (getD (names T) i []) (rowDepth x (i + 1)) ≡ getD (names T) (i + 1) []
-  next-name = ap (nameAfter (getD (names T) i [])) same ∙ sym (name-next (R .states) (R .sets) T (held .fits) i later)
+  next-name = ap (nameAfter (getD (names T) i [])) same ∙ sym (name-next T one i later)
       ∙ ap (λ (c : ℕ). getD (names T) c []) (sym (add-one i))
 
 -- a number of a node is below the limit
@@ -155,8 +160,8 @@ module _ {x : CodeTree} {number : ℕ} (some : SomeNode x number) {numbers : Lis
   pub number-small : depth - 1 < long → getD numbers (depth - 1) 0 < maxStates
   number-small l =
       let long-is = length-take-le long numbers (omega (arith, v .room, v .short)) in
-      let (_, small) =
-      name-small (some .rule .states) (some .rule .sets) (some .tree) (some .holds .fits) i (omega (arith, some .holds .nodes)) in
+      let (_, small) = name-small (some .tree) (of-root (some .rule) (some .tree) (some .holds .fits)) (some .rule .states)
+      (of-few (some .rule) (some .tree) (some .holds .fits)) i (omega (arith, some .holds .nodes)) in
       rw (← getD-take long numbers (depth - 1) 0 l, now) (omega (arith, small (depth - 1) (omega (arith, ap length now)), some .states))
 
   -- the next name

@@ -15,6 +15,7 @@ use Rattle.table.specs.Rule.{Rule}
 use Rattle.table.proofs.Logic.{never, clash, and-both, and-in, bool-ext}
 use Rattle.history.specs.Tree.{Tree}
 use Rattle.history.proofs.QuestionNine.{record-injective}
+use Rattle.history.proofs.TreesOf.{of-tree}
 use Rattle.tree.specs.Rows.{withoutOld}
 use Rattle.tree.specs.Pass.{blankRow}
 use Rattle.tree.specs.RecordRows.{places}
@@ -125,9 +126,11 @@ pub same-rows-same : (R : Rule) (T U : Tree) (x y : CodeTree) → R .sets ≤ ma
     → sameTrees x y ≡ true → T ≡ U
 same-rows-same R T U x y sets held other e =
     let rows = take (x .count) (rowsIn (x .rows)) in
-    record-injective (R .states) (R .sets) T U (held .fits) (other .fits) (omega arith)
-    (sym (record-of-rows (R .states) (R .sets) T (held .fits) rows (held .are))
-    ∙ record-of-rows (R .states) (R .sets) U (other .fits) rows (same-rows-out rows (take (y .count) (rowsIn (y .rows))) e ∙ other .are))
+    let t = sym (of-tree R T) ∙ held .fits in
+    let u = sym (of-tree R U) ∙ other .fits in
+    record-injective (R .states) (R .sets) T U t u (omega arith)
+    (sym (record-of-rows (R .states) (R .sets) T t rows (held .are))
+    ∙ record-of-rows (R .states) (R .sets) U u rows (same-rows-out rows (take (y .count) (rowsIn (y .rows))) e ∙ other .are))
 
 -- one tree has the same rows wherever it is held
 pub same-trees-same : (R : Rule) (T : Tree) (x y : CodeTree) → HoldsTree R T x → HoldsTree R T y

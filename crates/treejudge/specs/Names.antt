@@ -7,7 +7,7 @@ use lib.Bits.{bitAnd, bitOr}
 use lib.ListN.{getD, take}
 use Rattle.table.specs.Rule.{Rule}
 use Rattle.table.specs.Table.{Every}
-use Rattle.history.specs.Tree.{Tree, isTree}
+use Rattle.history.specs.Tree.{Tree, isTreeOf}
 use Rattle.history.specs.Rounds.{readLetters}
 use Rattle.history.specs.Following.{carried, keptMap, acceptedMap}
 use Rattle.tree.specs.PackedRows.{rowsIn}
@@ -58,7 +58,7 @@ begunOn side count = record { side = side; count = count; kept = 2 ^ count - 1; 
 
 -- the tree after the letters w from T on, and the maps of its nodes that kept their names all along, and were accepting once
 pub record Follows (R : Rule) (T : Tree) (w : List ℕ) (x : Followed) : Type 0 where
-  pub first : isTree (R .states) (R .sets) T ≡ true
+  pub first : isTreeOf R T ≡ true
   pub tree : HoldsTree R (readLetters R w T) (treeOf x)
   pub kept : x .kept ≡ keptMap R T w
   pub accepted : x .accepted ≡ acceptedMap R T w
