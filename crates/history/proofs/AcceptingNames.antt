@@ -12,7 +12,7 @@ use Rattle.history.specs.Forest.{Forest, nil, node, listing, sameNumbers
 use Rattle.history.specs.Tree.{Node, Tree}
 use Rattle.history.specs.Letter.{sprouted, Grown, child, kept, fiveSteps, isOld, anyOf, stable, accepting}
 use Rattle.history.proofs.LocalStep.{newLabel, accepts, branchAt, survive, taken, branchOf, takenAt, nameKept}
-use Rattle.history.proofs.LocalStep.{stableLocally, acceptingLocally}
+use Rattle.history.proofs.LocalStep.{keptAmong, acceptsAmong}
 use Rattle.history.proofs.Conditions.{OneRoot}
 use Rattle.history.proofs.StepsJoined.{grown, advanced, oldNode, begunFrom, survivors-steps}
 use Rattle.history.proofs.Names.{same-self, same-equal, parted, longer, any-node, any-weaker}
@@ -33,7 +33,7 @@ kept-accepting w k false x below younger e = any-node (Accepted w) x below young
 
 module _ (R : Rule) (a : ℕ) where
   -- among siblings none accepts under a name that goes on with another number
-  none-accepting : (w p : List ℕ) (older : ℕ) (new : Grown) (c : ℕ) (F : Tree) → new .origin ≡ sprouted
+  pub none-accepting : (w p : List ℕ) (older : ℕ) (new : Grown) (c : ℕ) (F : Tree) → new .origin ≡ sprouted
       → ((m : ℕ) (v : List ℕ) → c ≤ m → w ≡ p ++ (m ∷ v) → ⊥)
       → anyOf (Accepted w) (listing (grown R a older new (begunFrom p c F))) ≡ false
   none-accepting w p older new c F e none = never _ (λ h.
@@ -47,12 +47,12 @@ module _ (R : Rule) (a : ℕ) where
       → eqb (newLabel R a older x) 0 ≡ false → nameKept R a older (record { top = x; below = below }) u ≡ true
       → anyOf (Accepted w) (listing younger) ≡ false
       → ((j : ℕ) (t : List ℕ) → w ≡ v ++ (j ∷ t)
-      → (survive R a older below j && nameKept R a (taken R a older below j) (branchAt below j) t) ≡ true
+      → keptAmong R a older below j t ≡ true
       → anyOf (Accepted w) (listing (grown R a older (child R a (oldNode v x)) (begunFrom v 0 below)))
-      ≡ accepts R a (takenAt R a (taken R a older below j) (branchAt below j) t) (branchOf (branchAt below j) t))
+      ≡ acceptsAmong R a older below j t)
       → anyOf (Accepted w) (listing (grownBranch R a older v x below younger))
       ≡ accepts R a (takenAt R a older (record { top = x; below = below }) u) (branchOf (record { top = x; below = below }) u)
-  unfolding grownBranch nameKept takenAt branchOf advanced oldNode isOld child
+  unfolding grownBranch nameKept takenAt branchOf keptAmong acceptsAmong advanced oldNode isOld child
   branch-accepting w v [] older x below younger is stays keeps none ih = rw stays (
       kept-accepting w (R .sets) (accepts R a older (record { top = x; below = below })) (advanced R a older (oldNode v x)) B younger refl
       ∙ rw (own, down, none) (itself (accepts R a older (record { top = x; below = below }))))
@@ -96,11 +96,11 @@ module _ (R : Rule) (a : ℕ) where
       nowhere false = refl
 
   -- siblings from child number c on below the node that is named p
-  siblings-accepting : (w p u : List ℕ) (older : ℕ) (new : Grown) (c i : ℕ) (F : Tree) → new .origin ≡ sprouted → w ≡ p ++ ((c + i) ∷ u)
-      → (survive R a older F i && nameKept R a (taken R a older F i) (branchAt F i) u) ≡ true
+  pub siblings-accepting : (w p u : List ℕ) (older : ℕ) (new : Grown) (c i : ℕ) (F : Tree) → new .origin ≡ sprouted → w ≡ p ++ ((c + i) ∷ u)
+      → keptAmong R a older F i u ≡ true
       → anyOf (Accepted w) (listing (grown R a older new (begunFrom p c F)))
-      ≡ accepts R a (takenAt R a (taken R a older F i) (branchAt F i) u) (branchOf (branchAt F i) u)
-  unfolding survive taken branchAt child grownBranch advanced oldNode isOld
+      ≡ acceptsAmong R a older F i u
+  unfolding keptAmong acceptsAmong survive taken branchAt child grownBranch advanced oldNode isOld
   siblings-accepting w p u older new c i nil e is h = clash refl h
   siblings-accepting w p u older new c zero (node x below younger) e is h =
       let (stays, keeps) = and-in (not (eqb (newLabel R a older x) 0)) _ h in
@@ -123,13 +123,13 @@ module _ (R : Rule) (a : ℕ) where
 
 -- "it is accepting": a stable node is where its label equals the union of its children's labels
 pub accepting-local : (R : Rule) (a : ℕ) (T : Tree) → OneRoot T → (w : List ℕ) → stable R a T w ≡ true
-    → accepting R a T w ≡ acceptingLocally R a T w
-unfolding accepting acceptingLocally stableLocally survive branchAt child anyOf listing
+    → accepting R a T w ≡ acceptsAmong R a 0 T 0 w
+unfolding accepting acceptsAmong keptAmong survive taken branchAt child anyOf listing
 accepting-local R a T one w h =
     ap (λ (F : Forest Grown). anyOf (Accepted w) (listing F)) (survivors-steps R a T) ∙ go T one (sym (stable-local R a T one w) ∙ h)
   where
-    go : (T : Tree) → OneRoot T → stableLocally R a T w ≡ true
-        → anyOf (Accepted w) (listing (fiveSteps R a T)) ≡ acceptingLocally R a T w
+    go : (T : Tree) → OneRoot T → keptAmong R a 0 T 0 w ≡ true
+        → anyOf (Accepted w) (listing (fiveSteps R a T)) ≡ acceptsAmong R a 0 T 0 w
     go nil one k = clash refl k
     go (node x below nil) one k =
         let (stays, keeps) = and-in (not (eqb (newLabel R a 0 x) 0)) _ k in

@@ -62,7 +62,7 @@ module _ (period : ℕ) (positive : 0 < period) where
       on (suc e) = rw add-suc (stays (m + e) (on e))
 
   -- what never rises is always the same
-  level : (f : ℕ → ℕ) → Periodic period f → ((d : ℕ) → f (suc d) ≤ f d) → (d : ℕ) → f d ≡ f 0
+  pub level : (f : ℕ → ℕ) → Periodic period f → ((d : ℕ) → f (suc d) ≤ f d) → (d : ℕ) → f d ≡ f 0
   level f back falls d =
       let z : d + (d * period - d) ≡ 0 + d * period = omega (arith, mul-le-mul-left d positive) in
       let l : f (0 + d * period) ≤ f d = rw z at (on d (d * period - d)) in

@@ -13,15 +13,15 @@ pub mod TreesOfWalk
 pub mod SameSquares
 pub mod SameAlong
 pub mod StatesOfTrees
-pub mod WholeTrees
 pub mod AnyRounds
 pub mod NameOrder
 pub mod FirstWitness
--- One node and one letter, paths between accepting letters, the descent into children.
+-- One node and one letter, paths between accepting letters, the descent into children, siblings.
 pub mod OneNode
 pub mod BranchFits
 pub mod BetweenAccepting
 pub mod Descent
+pub mod Siblings
 -- One letter: the local form, and that it is document 01's steps.
 pub mod LocalStep
 pub mod LabelsOfStep

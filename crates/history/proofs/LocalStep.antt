@@ -93,9 +93,10 @@ nameKept R a older b (i ∷ w) =
     not (accepts R a older b)
     && (survive R a older (b .below) i && nameKept R a (taken R a older (b .below) i) (branchAt (b .below) i) w)
 
--- of a whole tree
-unfoldable pub stableLocally : Rule → ℕ → Tree → List ℕ → Bool
-stableLocally R a T w = survive R a 0 T 0 && nameKept R a 0 (branchAt T 0) w
+-- among siblings: is the name i ∷ w kept, from the sibling at place i down?
+unfoldable pub keptAmong : Rule → ℕ → ℕ → Tree → ℕ → List ℕ → Bool
+keptAmong R a older F i w = survive R a older F i && nameKept R a (taken R a older F i) (branchAt F i) w
 
-unfoldable pub acceptingLocally : Rule → ℕ → Tree → List ℕ → Bool
-acceptingLocally R a T w = accepts R a (takenAt R a 0 (branchAt T 0) w) (branchOf (branchAt T 0) w)
+-- does its node accept?
+unfoldable pub acceptsAmong : Rule → ℕ → ℕ → Tree → ℕ → List ℕ → Bool
+acceptsAmong R a older F i w = accepts R a (takenAt R a (taken R a older F i) (branchAt F i) w) (branchOf (branchAt F i) w)

@@ -1,7 +1,7 @@
 -- From a loop to a witness: follow the lead and the loop until the trees repeat, and then tree and state return
 -- together, after p turns of the loop. The root holds the run's state at every letter; below it there is a name that is
 -- kept at every letter and accepts at one, and by periodicity so it is in rounds e+1 to e+p.
-use mathlib.Core.Path.{_≡_, sym, _∙_, ap}
+use mathlib.Core.Path.{_≡_, refl, sym, _∙_, ap}
 use mathlib.Core.Bool.{true}
 use mathlib.Core.List.{List, _++_, append-assoc}
 use Prim.Native.Nat.{ℕ, zero, suc, _+_, _*_, _-_, _%_, _≤_, _<_}
@@ -19,6 +19,7 @@ use native.Mathlib.Nat.{
   mul-le-mul-right,
 }
 use native.Mathlib.Decide.{decLt}
+use lib.Bits.{or-zero-r}
 use lib.ListN.{length, getD}
 use Rattle.table.specs.BitSet.{member}
 use Rattle.table.specs.Rule.{Rule, edge, edgeIn}
@@ -29,16 +30,26 @@ use Rattle.table.proofs.Edges.{member-edgeIn}
 use Rattle.word.proofs.Paths.{rounds-add, leads-append, leads-repeat}
 use Rattle.word.proofs.Positions.{letter-round, letter-cycle, letter-unrolled, length-rounds, reads-lead}
 use Rattle.word.proofs.Traces.{Trace, place-of, leads-trace}
-use Rattle.history.specs.Tree.{labels}
+use Rattle.history.specs.Forest.{nil, node}
+use Rattle.history.specs.Tree.{Tree, labels}
 use Rattle.history.specs.Letter.{stable, accepting}
 use Rattle.history.specs.Rounds.{roundTree, treeInRound, FirstRepeat}
 use Rattle.history.specs.Verdict.{LetterPlace, Witness}
+use Rattle.history.proofs.Conditions.{OneRoot}
 use Rattle.history.proofs.StableNames.{stable-local}
 use Rattle.history.proofs.AcceptingNames.{accepting-local}
 use Rattle.history.proofs.LocalStep.{step}
-use Rattle.history.proofs.WholeTrees.{LocalWitness, run-named}
+use Rattle.history.proofs.OneNode.{placeOf}
+use Rattle.history.proofs.Siblings.{LocalWitness, run-named}
 use Rattle.history.proofs.TreesOfWalk.{treeAt, length-lead, tree-in-round, in-round-periodic, walk-periodic, same-place}
 use Rattle.history.proofs.StatesOfTrees.{is-tree-at, tree-next, start-held, state-held}
+
+-- what a tree holds its root holds
+place-root : (q : ℕ) (T : Tree) → OneRoot T → member (labels T) q ≡ true → placeOf q T ≡ 0
+unfolding placeOf labels
+place-root q nil one h = refl
+place-root q (node x below nil) one h = let m : member (x .label) q ≡ true = rw or-zero-r at h in rw m
+place-root q (node x below (node y other younger)) one h = absurd one
 
 -- the next place of a loop of m places; its end is its beginning
 around : (m : ℕ) (state : ℕ → ℕ) → 0 < m → state m ≡ state 0 → (d : ℕ) → state (suc d % m) ≡ state (suc (d % m))
@@ -116,11 +127,12 @@ module _ (R : Rule) (well : WellFormed R) (sets : 1 ≤ R .sets) (u v : List ℕ
       (rw (append-assoc, ← rounds-add (L .lead) (suc entry * L .turns) v) at path))
 
   -- so some name is kept and accepts
-  named : (w : List ℕ) × LocalWitness R (λ d. letterAt u v (begin + d)) (λ d. treeAt R u v (begin + d)) w
+  named : (w : List ℕ) × LocalWitness R (λ d. letterAt u v (begin + d)) (λ d. treeAt R u v (begin + d)) 0 w
   unfolding state begin before turn
-  named = run-named R (λ d. letterAt u v (begin + d)) (λ d. treeAt R u v (begin + d)) next well
-      (λ d. is-tree-at R well sets u v (begin + d))
-      (period * length turn) (mul-pos (F .positive) turn-filled) letter-back tree-back state moves state-back takes begins
+  named = let tree = is-tree-at R well sets u v (begin + 0) in
+      rw (place-root (state 0) (treeAt R u v (begin + 0)) (tree .one-root) begins) at
+      (run-named R (λ d. letterAt u v (begin + d)) (λ d. 0) (λ d. treeAt R u v (begin + d)) next well (tree .fits)
+      (period * length turn) (mul-pos (F .positive) turn-filled) letter-back tree-back state moves state-back takes begins)
     where
       next : (d : ℕ) → treeAt R u v (begin + suc d) ≡ step R (letterAt u v (begin + d)) 0 0 (treeAt R u v (begin + d))
       next d = rw add-suc (tree-next R well sets u v (begin + d))
@@ -136,7 +148,7 @@ module _ (R : Rule) (well : WellFormed R) (sets : 1 ≤ R .sets) (u v : List ℕ
       state-back : (d : ℕ) → state (d + period * length turn) ≡ state d
       state-back d = ap (trace .state) (add-mul-mod-self-right d period (length turn))
 
-  module _ (w : List ℕ) (N : LocalWitness R (λ d. letterAt u v (begin + d)) (λ d. treeAt R u v (begin + d)) w) where
+  module _ (w : List ℕ) (N : LocalWitness R (λ d. letterAt u v (begin + d)) (λ d. treeAt R u v (begin + d)) 0 w) where
     -- kept at each position from there on
     stable-on : (p : ℕ) → begin ≤ p → stable R (letterAt u v p) (treeAt R u v p) w ≡ true
     stable-on p h =

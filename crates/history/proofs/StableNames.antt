@@ -11,7 +11,7 @@ use Rattle.table.proofs.Logic.{clash, never}
 use Rattle.history.specs.Forest.{Forest, nil, node, change, listing, namedFrom, sameNumbers}
 use Rattle.history.specs.Tree.{Node, Tree}
 use Rattle.history.specs.Letter.{sprouted, Grown, child, kept, fiveSteps, survivors, isOld, anyOf, stable}
-use Rattle.history.proofs.LocalStep.{newLabel, accepts, branchAt, survive, taken, nameKept, stableLocally}
+use Rattle.history.proofs.LocalStep.{newLabel, accepts, branchAt, survive, taken, nameKept, keptAmong}
 use Rattle.history.proofs.Conditions.{OneRoot}
 use Rattle.history.proofs.StepsJoined.{grown, advanced, oldNode, begunFrom, survivors-steps}
 use Rattle.history.proofs.Names.{same-self, parted, longer, atPlace, at-any, named-tree}
@@ -62,10 +62,10 @@ module _ (R : Rule) (a : ℕ) where
   branch-stable : (w v u : List ℕ) (older : ℕ) (x : Node) (below : Tree) (younger : Forest Grown) → w ≡ v ++ u
       → atPlace (From w) younger 0 u ≡ false
       → ((j : ℕ) (t : List ℕ) → w ≡ v ++ (j ∷ t) → atPlace (From w) (grown R a older (child R a (oldNode v x)) (begunFrom v 0 below)) j t
-      ≡ (survive R a older below j && nameKept R a (taken R a older below j) (branchAt below j) t))
+      ≡ keptAmong R a older below j t)
       → atPlace (From w) (grownBranch R a older v x below younger) 0 u
       ≡ (not (eqb (newLabel R a older x) 0) && nameKept R a older (record { top = x; below = below }) u)
-  unfolding grownBranch nameKept atPlace kept advanced oldNode isOld
+  unfolding grownBranch nameKept keptAmong atPlace kept advanced oldNode isOld
   branch-stable w v [] older x below younger is none ih =
       go (eqb (newLabel R a older x) 0) (accepts R a older (record { top = x; below = below }))
     where
@@ -82,16 +82,16 @@ module _ (R : Rule) (a : ℕ) where
     where
       go : (gone full : Bool) → atPlace (From w) (kept (R .sets) gone full (advanced R a older (oldNode v x))
           (grown R a older (child R a (oldNode v x)) (begunFrom v 0 below)) younger) 0 (j ∷ t)
-          ≡ (not gone && (not full && (survive R a older below j && nameKept R a (taken R a older below j) (branchAt below j) t)))
+          ≡ (not gone && (not full && keptAmong R a older below j t))
       go true full = none
       go false true = refl
       go false false = ih j t is
 
   -- siblings from child number c on below the node that is named p
-  siblings-stable : (w p u : List ℕ) (older : ℕ) (new : Grown) (c i : ℕ) (F : Tree) → new .origin ≡ sprouted → w ≡ p ++ ((c + i) ∷ u)
+  pub siblings-stable : (w p u : List ℕ) (older : ℕ) (new : Grown) (c i : ℕ) (F : Tree) → new .origin ≡ sprouted → w ≡ p ++ ((c + i) ∷ u)
       → atPlace (From w) (grown R a older new (begunFrom p c F)) i u
-      ≡ (survive R a older F i && nameKept R a (taken R a older F i) (branchAt F i) u)
-  unfolding begunFrom namedFrom change grownBranch survive taken branchAt child
+      ≡ keptAmong R a older F i u
+  unfolding begunFrom namedFrom change grownBranch keptAmong survive taken branchAt child
   siblings-stable w p u older new c i nil e is = not-sprouted w older new i u e
   siblings-stable w p u older new c zero (node x below younger) e is =
       let here : w ≡ p ++ (c ∷ u) = is ∙ ap (λ (m : ℕ). p ++ (m ∷ u)) (omega arith) in
@@ -109,12 +109,12 @@ module _ (R : Rule) (a : ℕ) where
       (siblings-stable w p u held new (suc c) i younger e (is ∙ ap (λ (m : ℕ). p ++ (m ∷ u)) (omega arith)))
 
 -- "An old node is stable if it survives with its name unchanged": it is stable from the root down
-pub stable-local : (R : Rule) (a : ℕ) (T : Tree) → OneRoot T → (w : List ℕ) → stable R a T w ≡ stableLocally R a T w
-unfolding stable stableLocally survive branchAt atPlace child
+pub stable-local : (R : Rule) (a : ℕ) (T : Tree) → OneRoot T → (w : List ℕ) → stable R a T w ≡ keptAmong R a 0 T 0 w
+unfolding stable keptAmong survive taken branchAt atPlace child
 stable-local R a T one w =
     named-tree (From w) w (survivors R a T) ∙ ap (λ (F : Forest Grown). atPlace (From w) F 0 w) (survivors-steps R a T) ∙ go T one
   where
-    go : (T : Tree) → OneRoot T → atPlace (From w) (fiveSteps R a T) 0 w ≡ stableLocally R a T w
+    go : (T : Tree) → OneRoot T → atPlace (From w) (fiveSteps R a T) 0 w ≡ keptAmong R a 0 T 0 w
     go nil one = ap (λ (F : Forest Grown). atPlace (From w) F 0 w) (steps-dead R a)
     go (node x below nil) one = ap (λ (F : Forest Grown). atPlace (From w) F 0 w) (steps-root R a x below)
         ∙ branch-stable R a w [] w 0 x below nil refl refl

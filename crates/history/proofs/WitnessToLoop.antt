@@ -10,6 +10,7 @@ use native.Mathlib.Nat.{add-suc, add-zero, zero-add, mul-pos, mul-le-mul-right}
 use lib.ListN.{length}
 use Rattle.table.specs.Rule.{Rule}
 use Rattle.table.specs.Table.{WellFormed}
+use Rattle.table.proofs.BitSet.{member-lt}
 use Rattle.word.specs.Walk.{letterAt, rounds}
 use Rattle.word.specs.Loop.{Loop}
 use Rattle.word.proofs.Paths.{rounds-mul}
@@ -18,11 +19,12 @@ use Rattle.history.specs.Tree.{labels}
 use Rattle.history.specs.Letter.{stable, accepting}
 use Rattle.history.specs.Rounds.{roundTree, FirstRepeat}
 use Rattle.history.specs.Verdict.{Witness}
+use Rattle.history.proofs.Conditions.{IsTree}
 use Rattle.history.proofs.StableNames.{stable-local}
 use Rattle.history.proofs.AcceptingNames.{accepting-local}
-use Rattle.history.proofs.LocalStep.{step, stableLocally}
+use Rattle.history.proofs.LocalStep.{step, keptAmong}
 use Rattle.history.proofs.BetweenAccepting.{stretch, Return}
-use Rattle.history.proofs.WholeTrees.{name-returns}
+use Rattle.history.proofs.Siblings.{name-returns}
 use Rattle.history.proofs.TreesOfWalk.{treeAt, length-lead, tree-in-round, in-round-periodic, walk-periodic, same-place}
 use Rattle.history.proofs.StatesOfTrees.{stretch-list, is-tree-at, tree-next, state-reached}
 
@@ -82,14 +84,17 @@ module _ (R : Rule) (well : WellFormed R) (sets : 1 ≤ R .sets) (u v : List ℕ
     returns : Return R (labels (treeAt R u v (begin + 0))) (stretch (λ d. letterAt u v (begin + d)) (suc (R .sets) * turn))
     unfolding begin turn
     returns =
-        name-returns R (λ d. letterAt u v (begin + d)) (λ d. treeAt R u v (begin + d)) next (is-tree-at R well sets u v (begin + 0)) w kept
-        turn accept accept-within
+        name-returns R (λ d. letterAt u v (begin + d)) (λ d. 0) (λ d. treeAt R u v (begin + d)) next (tree .fits)
+        (λ s. member-lt (R .states) (labels (treeAt R u v (begin + 0))) s (tree .states)) 0 w kept turn accept accept-within
         (λ j. sym (accepting-local R _ _ (is-tree-at R well sets u v _ .one-root) w (stable-on _ (omega arith))) ∙ accepting-on j) back
       where
+        tree : IsTree (R .states) (R .sets) (treeAt R u v (begin + 0))
+        tree = is-tree-at R well sets u v (begin + 0)
+
         next : (d : ℕ) → treeAt R u v (begin + suc d) ≡ step R (letterAt u v (begin + d)) 0 0 (treeAt R u v (begin + d))
         next d = rw add-suc (tree-next R well sets u v (begin + d))
 
-        kept : (d : ℕ) → stableLocally R (letterAt u v (begin + d)) (treeAt R u v (begin + d)) w ≡ true
+        kept : (d : ℕ) → keptAmong R (letterAt u v (begin + d)) 0 (treeAt R u v (begin + d)) 0 w ≡ true
         kept d = sym (stable-local R _ _ (is-tree-at R well sets u v (begin + d) .one-root) w) ∙ stable-on (begin + d) (omega arith)
 
         back : treeAt R u v (begin + suc (R .sets) * turn) ≡ treeAt R u v (begin + 0)
