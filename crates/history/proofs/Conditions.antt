@@ -6,7 +6,7 @@ use borrow.Author.Tests.{eqb-false, ne-eqb, leb-true, le-leb, ltb-true, lt-ltb}
 use lib.Bits.{or-zero-r}
 use lib.Dec.{eqb, leb, ltb}
 use lib.Pow.{pow-pos}
-use Rattle.table.specs.BitSet.{member, ProperSubset}
+use Rattle.table.specs.BitSet.{member, Subset, ProperSubset}
 use Rattle.table.proofs.Logic.{clash, and-both, and-in, not-out, not-in}
 use Rattle.history.specs.Forest.{nil, node}
 use Rattle.history.specs.Tree.{Node, Tree, labels, disjoint, strictlyInside, nodesFit, isTree}
@@ -66,6 +66,32 @@ fits-in k (node x below younger) (own, down, on) =
     (disjoint-in (x .label) (labels younger) (own .apart)) (inside-in (labels below) (x .label) (own .inside)))
     (and-both (nodesFit k below) _ (fits-in k below down) (fits-in k younger on)))
 
+-- LABELS AND ACTIVE SETS APART
+
+-- siblings' labels are disjoint, and those of a node's children are inside its own, strictly or not
+pub record NodeNested (x : Node) (below younger : Tree) : Type 0 where
+  pub apart : (q : ℕ) → member (x .label) q ≡ true → member (labels younger) q ≡ false
+  pub within : Subset (labels below) (x .label)
+
+abbrev pub Nested : Tree → Type 0
+Nested nil = Unit {0}
+Nested (node x below younger) = NodeNested x below younger × Nested below × Nested younger
+
+-- each active set is from 1 to k
+abbrev pub Active : ℕ → Tree → Type 0
+Active k nil = Unit {0}
+Active k (node x below younger) = (1 ≤ x .active) × (x .active ≤ k) × Active k below × Active k younger
+
+-- nodes that fit are so
+pub fits-nested : (k : ℕ) (F : Tree) → Fits k F → Nested F
+fits-nested k nil w = tt
+fits-nested k (node x below younger) (f, down, on) =
+    (record { apart = f .apart; within = f .inside .0 }, fits-nested k below down, fits-nested k younger on)
+
+pub fits-active : (k : ℕ) (F : Tree) → Fits k F → Active k F
+fits-active k nil w = tt
+fits-active k (node x below younger) (f, down, on) = (f .from-one, f .up-to, fits-active k below down, fits-active k younger on)
+
 -- TREES
 
 -- a forest of one root or of none
@@ -79,6 +105,17 @@ pub record IsTree (n k : ℕ) (T : Tree) : Type 0 where
   pub one-root : OneRoot T
   pub states : labels T < 2 ^ n
   pub fits : Fits k T
+
+-- what the laws of records ask of it: the labels are nested, strictly or not
+pub record NestedTree (n k : ℕ) (T : Tree) : Type 0 where
+  pub one-root : OneRoot T
+  pub states : labels T < 2 ^ n
+  pub active : Active k T
+  pub nested : Nested T
+
+pub tree-nested : (n k : ℕ) (T : Tree) → IsTree n k T → NestedTree n k T
+tree-nested n k T t =
+    record { one-root = t .one-root; states = t .states; active = fits-active k T (t .fits); nested = fits-nested k T (t .fits) }
 
 -- from the test to the statement
 pub tree-out : (n k : ℕ) (T : Tree) → isTree n k T ≡ true → IsTree n k T

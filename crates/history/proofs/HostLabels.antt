@@ -13,7 +13,7 @@ use Rattle.table.proofs.BitSet.{member-none, member-union, set-ext}
 use Rattle.history.specs.Forest.{nil, node, size}
 use Rattle.history.specs.Tree.{Node, Tree, labels}
 use Rattle.history.specs.Record.{hostFrom}
-use Rattle.history.proofs.Conditions.{NodeFits, Fits}
+use Rattle.history.proofs.Conditions.{Fits, NodeNested, Nested, Active}
 use Rattle.history.proofs.Hosts.{host-below, host-here, host-younger, held-here, held-younger, held-in, host-from, host-inside}
 
 -- LABELS BY NUMBER
@@ -47,7 +47,7 @@ record Numbered (s : ℕ) (number : ℕ → ℕ) (i : ℕ) (F : Tree) : Type 0 w
 
 -- the states of a node's label are those with the numbers of the node and of what is below it
 
-module _ (k s : ℕ) (number : ℕ → ℕ) (i : ℕ) (x : Node) (below younger : Tree) (f : NodeFits k x below younger)
+module _ (s : ℕ) (number : ℕ → ℕ) (i : ℕ) (x : Node) (below younger : Tree) (f : NodeNested x below younger)
     (v : Numbered s number i (node x below younger)) (q : ℕ) where
   number-here : member (x .label) q ≡ true → (i ≤ number q) × (number q < suc (i + size below))
   number-here h = let e = v .hosts q (held-here x below younger q h) in
@@ -62,31 +62,31 @@ module _ (k s : ℕ) (number : ℕ → ℕ) (i : ℕ) (x : Node) (below younger 
     host-from (suc (i + size below)) younger q,
   ))) (look (member (x .label) q))
 
-label-by-hosts : (k s : ℕ) (number : ℕ → ℕ) (label : ℕ → ℕ → ℕ) → ByNumber s number label
-    → (i : ℕ) (F : Tree) → Fits k F → Numbered s number i F → relabelled label i F ≡ F
+label-by-hosts : (s : ℕ) (number : ℕ → ℕ) (label : ℕ → ℕ → ℕ) → ByNumber s number label
+    → (i : ℕ) (F : Tree) → Nested F → Numbered s number i F → relabelled label i F ≡ F
 unfolding relabelled size
-label-by-hosts k s number label law i nil w v = refl
-label-by-hosts k s number label law i (node x below younger) (f, down, on) v =
+label-by-hosts s number label law i nil w v = refl
+label-by-hosts s number label law i (node x below younger) (f, down, on) v =
     let here : label i (suc (i + size below)) ≡ x .label = set-ext _ _ (λ q. bool-ext _ _ (into q) (back q)) in
     rw (
       here,
-      label-by-hosts k s number label law (suc i) below down below-numbered,
-      label-by-hosts k s number label law (suc (i + size below)) younger on younger-numbered,
+      label-by-hosts s number label law (suc i) below down below-numbered,
+      label-by-hosts s number label law (suc (i + size below)) younger on younger-numbered,
     )
   where
     into : (q : ℕ) → member (label i (suc (i + size below))) q ≡ true → member (x .label) q ≡ true
     into q m = let (ofS, l, h) = law .among i (suc (i + size below)) q m in
-        held-by-number k s number i x below younger f v q ofS l (omega arith)
+        held-by-number s number i x below younger f v q ofS l (omega arith)
 
     back : (q : ℕ) → member (x .label) q ≡ true → member (label i (suc (i + size below))) q ≡ true
-    back q m = let (l, h) = number-here k s number i x below younger f v q m in
+    back q m = let (l, h) = number-here s number i x below younger f v q m in
         law .all-of i (suc (i + size below)) q (v .some-of q (held-here x below younger q m)) l (omega arith)
 
     below-numbered : Numbered s number (suc i) below
     below-numbered = record {
-      some-of = λ q b. v .some-of q (held-here x below younger q (f .inside .0 q b));
-      hosts = λ q b. let h = f .inside .0 q b in v .hosts q (held-here x below younger q h) ∙ host-below i x below younger q h b;
-      holds = λ q m l h. let e = held-by-number k s number i x below younger f v q m (omega arith) (omega arith) in
+      some-of = λ q b. v .some-of q (held-here x below younger q (f .within q b));
+      hosts = λ q b. let h = f .within q b in v .hosts q (held-here x below younger q h) ∙ host-below i x below younger q h b;
+      holds = λ q m l h. let e = held-by-number s number i x below younger f v q m (omega arith) (omega arith) in
           ⊎-elim (λ b. b) (λ b. absurd (omega (arith, v .hosts q (held-here x below younger q e), host-here i x below younger q e b)))
           (look (member (labels below) q));
     }
@@ -96,27 +96,18 @@ label-by-hosts k s number label law i (node x below younger) (f, down, on) v =
       some-of = λ q y. v .some-of q (held-younger x below younger q y);
       hosts = λ q y. let e : member (x .label) q ≡ false = never _ (λ m. clash (f .apart q m) y) in
           v .hosts q (held-younger x below younger q y) ∙ host-younger i x below younger q e;
-      holds = λ q m l h. ⊎-elim (λ e. absurd (omega (arith, number-here k s number i x below younger f v q e .1))) (λ y. y)
+      holds = λ q m l h. ⊎-elim (λ e. absurd (omega (arith, number-here s number i x below younger f v q e .1))) (λ y. y)
           (held-in x below younger q (v .holds q m (omega arith) (omega arith)));
     }
 
 -- the label of each node is the set of the states whose hosts' numbers lie from the node's number up to that behind the last node
 -- below it
-pub labels-from-hosts : (k i : ℕ) (F : Tree) (label : ℕ → ℕ → ℕ) → Fits k F → ByNumber (labels F) (hostFrom i F) label
+pub labels-from-hosts : (i : ℕ) (F : Tree) (label : ℕ → ℕ → ℕ) → Nested F → ByNumber (labels F) (hostFrom i F) label
     → relabelled label i F ≡ F
-labels-from-hosts k i F label w law = label-by-hosts k (labels F) (hostFrom i F) label law i F w
+labels-from-hosts i F label w law = label-by-hosts (labels F) (hostFrom i F) label law i F w
     (record { some-of = λ q h. h; hosts = λ q h. refl; holds = λ q h from to. h })
 
 -- A TREE FROM NUMBERS
-
--- each active set is from 1 to k
-abbrev pub Active : ℕ → Tree → Type 0
-Active k nil = Unit {0}
-Active k (node x below younger) = (1 ≤ x .active) × (x .active ≤ k) × Active k below × Active k younger
-
-pub fits-active : (k : ℕ) (F : Tree) → Fits k F → Active k F
-fits-active k nil w = tt
-fits-active k (node x below younger) (f, down, on) = (f .from-one, f .up-to, fits-active k below down, fits-active k younger on)
 
 module _ (s : ℕ) (number : ℕ → ℕ) (label : ℕ → ℕ → ℕ) (law : ByNumber s number label) where
   -- siblings with the labels of their numbers hold the states with their numbers

@@ -13,8 +13,8 @@ use Rattle.history.specs.Forest.{nil, node, size}
 use Rattle.history.specs.Tree.{Node, Tree}
 use Rattle.history.specs.Record.{marks}
 use Rattle.history.specs.RecordChecks.{activeFits, marksFollow, marksFit}
-use Rattle.history.proofs.Conditions.{Fits}
-use Rattle.history.proofs.HostLabels.{relabelled, Active}
+use Rattle.history.proofs.Conditions.{Active}
+use Rattle.history.proofs.HostLabels.{relabelled}
 use Rattle.history.proofs.RecordOfTree.{Shallower}
 
 -- marks do not depend on labels
@@ -33,26 +33,26 @@ active-in k d a low high h = let e : (16 * d + a) % 16 ≡ a = omega arith in
     rw e (and-both (leb 1 a) (leb a k) (le-leb 1 a low) (le-leb a k high))
 
 -- the marks of siblings and of all below them, behind a mark of at least their parent's depth d
-follow-in : (k d e : ℕ) (F : Tree) (left : List ℕ) → Fits k F → k < 16 → d ≤ e
+follow-in : (k d e : ℕ) (F : Tree) (left : List ℕ) → Active k F → k < 16 → d ≤ e
     → ((c : ℕ) → d ≤ c → marksFollow k c left ≡ true) → marksFollow k e (marks (suc d) F ++ left) ≡ true
 unfolding marks marksFollow
 follow-in k d e nil left w h l rest = rest e l
-follow-in k d e (node x below younger) left (f, down, on) h l rest =
-    let depth : (16 * suc d + x .active) / 16 ≡ suc d = omega (arith, f .up-to) in
+follow-in k d e (node x below younger) left (low, high, down, on) h l rest =
+    let depth : (16 * suc d + x .active) / 16 ≡ suc d = omega arith in
     rw (depth, append-assoc (marks (suc (suc d)) below) (marks (suc d) younger) left)
     (and-both (leb 1 (suc d) && leb (suc d) (suc e)) _
     (and-both (leb 1 (suc d)) _ (le-leb 1 (suc d) (omega arith)) (le-leb (suc d) (suc e) (omega arith)))
-    (and-both (activeFits k (16 * suc d + x .active)) _ (active-in k (suc d) (x .active) (f .from-one) (f .up-to) h)
+    (and-both (activeFits k (16 * suc d + x .active)) _ (active-in k (suc d) (x .active) low high h)
     (follow-in k (suc d) (suc d) below (marks (suc d) younger ++ left) down h (omega arith)
     (λ c g. follow-in k d c younger left on h (omega arith) rest))))
 
 -- the marks of a root and of all below it
-pub marks-in : (k : ℕ) (x : Node) (below : Tree) → Fits k (node x below nil) → k < 16 → marksFit k (marks 0 (node x below nil)) ≡ true
+pub marks-in : (k : ℕ) (x : Node) (below : Tree) → Active k (node x below nil) → k < 16 → marksFit k (marks 0 (node x below nil)) ≡ true
 unfolding marks marksFit marksFollow
-marks-in k x below (f, down, on) h =
-    let depth : (16 * 0 + x .active) / 16 ≡ 0 = omega (arith, f .up-to) in
+marks-in k x below (low, high, down, on) h =
+    let depth : (16 * 0 + x .active) / 16 ≡ 0 = omega arith in
     and-both (eqb ((16 * 0 + x .active) / 16) 0) _ (eq-eqb ((16 * 0 + x .active) / 16) 0 depth)
-    (and-both (activeFits k (16 * 0 + x .active)) _ (active-in k 0 (x .active) (f .from-one) (f .up-to) h)
+    (and-both (activeFits k (16 * 0 + x .active)) _ (active-in k 0 (x .active) low high h)
     (follow-in k 0 0 below [] down h (omega arith) (λ c g. refl)))
 
 -- MARKS THAT PASS ARE THOSE OF A TREE

@@ -12,7 +12,8 @@ use Rattle.history.specs.Forest.{sameNumbers}
 use Rattle.history.specs.Tree.{Tree, isTree}
 use Rattle.history.specs.Record.{recordOf, decoded, isRecord, readTree}
 use Rattle.history.proofs.Names.{same-self, same-equal}
-use Rattle.history.proofs.RecordOfTree.{decoded-record}
+use Rattle.history.proofs.Conditions.{NestedTree}
+use Rattle.history.proofs.RecordOfTree.{decoded-nested, decoded-record}
 
 -- a yes: the bytes are the record of the tree that they decode to
 pub is-record-out : (n k : ℕ) (bytes : List ℕ) → isRecord n k bytes ≡ true
@@ -52,6 +53,6 @@ unfolding readTree
 tree-accepted n k T t h = rw (is-record-in n k T t h, decoded-record n k T t h)
 
 -- trees with one record are the same tree
-pub record-injective : (n k : ℕ) (T U : Tree) → isTree n k T ≡ true → isTree n k U ≡ true → k < 16
+pub record-injective : (n k : ℕ) (T U : Tree) → NestedTree n k T → NestedTree n k U → k < 16
     → recordOf n T ≡ recordOf n U → T ≡ U
-record-injective n k T U t u h e = sym (decoded-record n k T t h) ∙ ap (decoded n) e ∙ decoded-record n k U u h
+record-injective n k T U t u h e = sym (decoded-nested n k T t h) ∙ ap (decoded n) e ∙ decoded-nested n k U u h

@@ -19,9 +19,9 @@ use Rattle.history.specs.Forest.{nil, node, size}
 use Rattle.history.specs.Tree.{Node, Tree, isTree}
 use Rattle.history.specs.Record.{host, members, rank, marks, recordOf, hostedIn, decoded, isRecord, readTree}
 use Rattle.history.specs.RecordChecks.{hostsBelow, isHost, allHost, marksFit, bodyFits, recordChecks}
-use Rattle.history.proofs.Conditions.{IsTree, tree-out, tree-in}
+use Rattle.history.proofs.Conditions.{Active, fits-active, IsTree, tree-out, tree-in}
 use Rattle.history.proofs.Hosts.{host-to, each-hosts}
-use Rattle.history.proofs.HostLabels.{relabelled, ByNumber, Active, relabelled-host, relabelled-fits}
+use Rattle.history.proofs.HostLabels.{relabelled, ByNumber, relabelled-host, relabelled-fits}
 use Rattle.history.proofs.Members.{rank-all, rank-onto, rank-lt, length-members, map-at-rank, map-members, map-ranks}
 use Rattle.history.proofs.RecordOfTree.{length-marks, hosted-law, root-states, record-length}
 use Rattle.history.proofs.Marks.{marks-relabelled, marks-in, marks-out}
@@ -91,7 +91,7 @@ body-in n k x below t h =
     ∙ ap (λ (c : ℕ). (hostsBelow c hosts && allHost c hosts) && marksFit k (marks 0 T)) (length-marks 0 T)
     ∙ and-both (hostsBelow (size T) hosts && allHost (size T) hosts) _
     (and-both (hostsBelow (size T) hosts) _ (below-in (size T) hosts low) (all-host-in (size T) hosts each))
-    (marks-in k x below (t .fits) h)
+    (marks-in k x below (fits-active k T (t .fits)) h)
   where
     T : Tree
     T = node x below nil

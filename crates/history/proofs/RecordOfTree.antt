@@ -19,9 +19,9 @@ use Rattle.table.proofs.BitSet.{member-lt, member-collect}
 use Rattle.history.specs.Forest.{nil, node, size}
 use Rattle.history.specs.Tree.{Node, Tree, labels, isTree}
 use Rattle.history.specs.Record.{host, members, marks, recordOf, rank, hostedIn, planted, decoded}
-use Rattle.history.proofs.Conditions.{tree-out}
+use Rattle.history.proofs.Conditions.{Active, NestedTree, tree-nested, tree-out}
 use Rattle.history.proofs.Hosts.{size-labels}
-use Rattle.history.proofs.HostLabels.{relabelled, size-relabelled, ByNumber, labels-from-hosts, Active, fits-active}
+use Rattle.history.proofs.HostLabels.{relabelled, size-relabelled, ByNumber, labels-from-hosts}
 use Rattle.history.proofs.Members.{length-members, map-at-rank}
 
 -- PLANTING THE MARKS
@@ -110,23 +110,26 @@ pub root-states : (x : Node) (below : Tree) → labels (node x below nil) ≡ x 
 unfolding labels
 root-states x below = or-zero-r (x .label)
 
--- decoding a tree's record gives the tree
-pub decoded-record : (n k : ℕ) (T : Tree) → isTree n k T ≡ true → k < 16 → decoded n (recordOf n T) ≡ T
+-- decoding a tree's record gives the tree, where the labels are nested
+pub decoded-nested : (n k : ℕ) (T : Tree) → NestedTree n k T → k < 16 → decoded n (recordOf n T) ≡ T
 unfolding recordOf planted host
-decoded-record n k nil t h = decoded-parts n 0 [] [] (omega (arith, ones-le 0 0 (omega arith)))
-decoded-record n k (node x below nil) t h =
+decoded-nested n k nil w h = decoded-parts n 0 [] [] (omega (arith, ones-le 0 0 (omega arith)))
+decoded-nested n k (node x below nil) w h =
     let T : Tree = node x below nil in
-    let w = tree-out n k T t in
     let s : ℕ = x .label in
     let small : s < 2 ^ n = rw (root-states x below) at (w .states) in
     let hosts : List ℕ = map (host T) (members n s) in
     let many : length hosts ≡ ones s = length-map (members n s) (host T) ∙ length-members n s small in
     let law = hosted-law n s hosts (host T) small (λ q m. map-at-rank (host T) n s q (member-lt n s q small m) m) in
     decoded-parts n s hosts (marks 0 T) many
-    ∙ ap (λ (p : Tree × List ℕ). p .0) (planted-marks k h (hostedIn n s hosts) 0 0 T (fits-active k T (w .fits)))
-    ∙ labels-from-hosts k 0 T (hostedIn n s hosts) (w .fits)
+    ∙ ap (λ (p : Tree × List ℕ). p .0) (planted-marks k h (hostedIn n s hosts) 0 0 T (w .active))
+    ∙ labels-from-hosts 0 T (hostedIn n s hosts) (w .nested)
     (subst (λ (a : ℕ). ByNumber a (host T) (hostedIn n s hosts)) (sym (root-states x below)) law)
-decoded-record n k (node x below (node y other younger)) t h = absurd (tree-out n k (node x below (node y other younger)) t .one-root)
+decoded-nested n k (node x below (node y other younger)) w h = absurd (w .one-root)
+
+-- as in every tree
+pub decoded-record : (n k : ℕ) (T : Tree) → isTree n k T ≡ true → k < 16 → decoded n (recordOf n T) ≡ T
+decoded-record n k T t h = decoded-nested n k T (tree-nested n k T (tree-out n k T t)) h
 
 -- THE LENGTH OF A RECORD
 

@@ -21,7 +21,7 @@ use Rattle.table.proofs.BitSet.{member-lt, set-ext}
 use Rattle.history.specs.Forest.{nil, node, size}
 use Rattle.history.specs.Tree.{Tree, labels, isTree}
 use Rattle.history.specs.Record.{host, members, marks, recordOf}
-use Rattle.history.proofs.Conditions.{Fits, IsTree, tree-out}
+use Rattle.history.proofs.Conditions.{Active, fits-active, IsTree, tree-nested, tree-out}
 use Rattle.history.proofs.Hosts.{host-to, each-hosts, size-labels}
 use Rattle.history.proofs.Members.{map-members}
 use Rattle.history.proofs.RecordOfTree.{length-marks, root-states}
@@ -52,11 +52,11 @@ treeCode n T = (positional 9 (hostDigit T) n * 4 + nodeDigit T 0) * 2 ^ 35 + pos
 MarkFits : ℕ → Type 0
 MarkFits m = (m / 16 < maxStates) × (1 ≤ m % 16) × (m % 16 ≤ maxSets)
 
-every-mark : (k d : ℕ) (F : Tree) → Fits k F → k ≤ maxSets → d + size F ≤ maxStates → Every MarkFits (marks d F)
+every-mark : (k d : ℕ) (F : Tree) → Active k F → k ≤ maxSets → d + size F ≤ maxStates → Every MarkFits (marks d F)
 unfolding marks size MarkFits
 every-mark k d nil w h l = tt
-every-mark k d (node x below younger) (f, down, on) h l = (
-  (omega (arith, f .up-to), omega (arith, f .from-one, f .up-to), omega (arith, f .up-to)),
+every-mark k d (node x below younger) (low, high, down, on) h l = (
+  (omega arith, omega arith, omega arith),
   every-append MarkFits (marks (suc d) below) (marks d younger) (every-mark k (suc d) below down h (omega arith))
       (every-mark k d younger on h (omega arith)),
 )
@@ -82,7 +82,7 @@ module _ (n k : ℕ) (T : Tree) (t : IsTree n k T) (hn : n ≤ maxStates) (hk : 
   host-digit-lt q = ⊎-elim (λ h. rw h (omega (arith, host-to 0 T q h, few))) (λ h. rw h (omega arith)) (look (member (labels T) q))
 
   all-marks : Every MarkFits (marks 0 T)
-  all-marks = every-mark k 0 T (t .fits) hk (omega (arith, few))
+  all-marks = every-mark k 0 T (fits-active k T (t .fits)) hk (omega (arith, few))
 
   node-digit-lt : (i : ℕ) → nodeDigit T i < 32
   unfolding nodeDigit markDigit
@@ -94,11 +94,11 @@ module _ (n k : ℕ) (T : Tree) (t : IsTree n k T) (hn : n ≤ maxStates) (hk : 
 
   root-digit-lt : nodeDigit T 0 < 4
   unfolding nodeDigit markDigit marks
-  root-digit-lt = go T (t .fits)
+  root-digit-lt = go T (fits-active k T (t .fits))
     where
-      go : (F : Tree) → Fits k F → nodeDigit F 0 < 4
+      go : (F : Tree) → Active k F → nodeDigit F 0 < 4
       go nil w = omega arith
-      go (node x below younger) (f, down, on) = omega (arith, f .up-to)
+      go (node x below younger) (low, high, down, on) = omega arith
 
   hosts-lt : positional 9 (hostDigit T) n < 9 ^ 8
   hosts-lt = omega (arith, positional-lt 9 (hostDigit T) n (λ q _. host-digit-lt q), pow-le-pow-right {n = 9} (omega arith) hn)
@@ -165,7 +165,7 @@ pub code-injective : (n k : ℕ) (T U : Tree) → isTree n k T ≡ true → isTr
     → treeCode n T ≡ treeCode n U → T ≡ U
 unfolding treeCode nodeDigit
 code-injective n k T U t u hn hk e =
-    record-injective n k T U t u (omega arith) (same-record n k T U wt wu (set-ext _ _ (λ q. bool-ext _ _ (held-too n k T U wt wu hosts q)
+    record-injective n k T U (tree-nested n k T wt) (tree-nested n k U wu) (omega arith) (same-record n k T U wt wu (set-ext _ _ (λ q. bool-ext _ _ (held-too n k T U wt wu hosts q)
     (held-too n k U T wu wt (λ q l. sym (hosts q l)) q))) (same-host n k T U wt wu hosts) nodes)
   where
     wt : IsTree n k T

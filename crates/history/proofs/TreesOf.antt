@@ -7,7 +7,7 @@ use Rattle.table.specs.Table.{WellFormed}
 use Rattle.history.specs.Forest.{size}
 use Rattle.history.specs.Tree.{Tree, isTree, isTreeOf, startTree}
 use Rattle.history.specs.Letter.{nextTree}
-use Rattle.history.proofs.Conditions.{OneRoot, IsTree, tree-out, tree-in}
+use Rattle.history.proofs.Conditions.{OneRoot, IsTree, NestedTree, tree-nested, tree-out, tree-in}
 use Rattle.history.proofs.StepsJoined.{nextTree-step}
 use Rattle.history.proofs.TreesKept.{step-fits, start-fits, few-nodes}
 
@@ -29,6 +29,10 @@ module _ (R : Rule) (T : Tree) where
 
   pub of-few : isTreeOf R T ≡ true → size T ≤ R .states
   of-few h = few-nodes (R .states) (R .sets) T (sym of-tree ∙ h)
+
+  -- what their records need
+  pub of-nested : isTreeOf R T ≡ true → NestedTree (R .states) (R .sets) T
+  of-nested h = tree-nested (R .states) (R .sets) T (of-out h)
 
 module _ (R : Rule) (well : WellFormed R) (sets : 1 ≤ R .sets) where
   -- the next tree of a tree is a tree

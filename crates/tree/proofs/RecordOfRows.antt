@@ -5,7 +5,7 @@ use mathlib.Core.Bool.{Bool, true, false, not, _&&_, cond}
 use mathlib.Core.List.{List, [], _∷_, _++_, map, map-map, map-append, append-assoc, append-nil}
 use Prim.Native.Nat.{ℕ, zero, suc, _+_, _^_, _≤_, _<_}
 use native.Mathlib.Omega.{arith}
-use lib.ListN.{getD, take, List·getD-map}
+use lib.ListN.{getD, take, length-take, List·getD-map}
 use lib.Pow.{pow-pos, pow-mono}
 use lib.Seq.{getD-take}
 use Rattle.table.specs.Limits.{maxStates}
@@ -14,17 +14,17 @@ use Rattle.table.specs.Table.{Every}
 use Rattle.table.proofs.BitSet.{member-none}
 use Rattle.table.proofs.Logic.{look, clash, never}
 use Rattle.history.specs.Forest.{nil, node, size}
-use Rattle.history.specs.Tree.{Node, Tree, labels, isTree}
+use Rattle.history.specs.Tree.{Node, Tree, labels}
 use Rattle.history.specs.Record.{hostFrom, host, marks, recordOf}
 use Rattle.tree.specs.Rows.{rowsFrom, rowsOf, withoutOld, AreRows}
 use Rattle.tree.specs.Pass.{blankRow}
 use Rattle.tree.specs.RecordRows.{hostRow, markOf, hostBytes, markBytes, rowsRecord, Recordable}
 use Rattle.tree.specs.declared.rows.Row.{Row}
-use Rattle.history.proofs.Conditions.{Fits, IsTree, tree-out}
+use Rattle.history.proofs.Conditions.{Nested, Active, NestedTree}
 use Rattle.history.proofs.Hosts.{held-here, held-younger, held-in, host-below, host-here, host-younger}
 use Rattle.history.proofs.Members.{map-members}
 use Rattle.history.proofs.RecordOfTree.{root-states}
-use Rattle.history.proofs.TreesKept.{few-nodes}
+use Rattle.tree.proofs.TreeRows.{rows-are-nodes}
 
 -- HOSTS
 
@@ -55,15 +55,15 @@ module _ (i d : ℕ) (x : Node) (below : Tree) (rest : List Row) (q : ℕ) where
   unfolding hostRow
   row-without m = ap (λ (a : Bool). cond (a && not (member (labels below) q)) i (hostRow (suc i) rest q)) m
 
-module _ (k q : ℕ) where
+module _ (q : ℕ) where
   -- siblings that do not hold a state: neither they nor the nodes below them host it
-  host-elsewhere : (i d : ℕ) (F : Tree) (rest : List Row) → Fits k F → member (labels F) q ≡ false
+  host-elsewhere : (i d : ℕ) (F : Tree) (rest : List Row) → Nested F → member (labels F) q ≡ false
       → hostRow i (rowsFrom d F ++ rest) q ≡ hostRow (i + size F) rest q
   unfolding rowsFrom size
   host-elsewhere i d nil rest w h = let e : i + 0 ≡ i = omega arith in rw e
   host-elsewhere i d (node x below younger) rest (f, down, on) h =
       let out : member (x .label) q ≡ false = never _ (λ m. clash h (held-here x below younger q m)) in
-      let none : member (labels below) q ≡ false = never _ (λ m. clash out (f .inside .0 q m)) in
+      let none : member (labels below) q ≡ false = never _ (λ m. clash out (f .within q m)) in
       let other : member (labels younger) q ≡ false = never _ (λ m. clash h (held-younger x below younger q m)) in
       let last : suc i + size below + size younger ≡ i + suc (size below + size younger) = omega arith in
       rw (append-assoc (rowsFrom (suc d) below) (rowsFrom d younger) rest) (row-without i d x below _ q out
@@ -71,7 +71,7 @@ module _ (k q : ℕ) where
       ∙ host-elsewhere (suc i + size below) d younger rest on other ∙ ap (λ (c : ℕ). hostRow c rest q) last)
 
   -- siblings that hold it
-  host-among : (i d : ℕ) (F : Tree) (rest : List Row) → Fits k F → member (labels F) q ≡ true
+  host-among : (i d : ℕ) (F : Tree) (rest : List Row) → Nested F → member (labels F) q ≡ true
       → hostRow i (rowsFrom d F ++ rest) q ≡ hostFrom i F q
   unfolding rowsFrom labels
   host-among i d nil rest w h = clash (member-none q) h
@@ -79,7 +79,7 @@ module _ (k q : ℕ) where
       let next : suc i + size below ≡ suc (i + size below) = omega arith in
       rw (append-assoc (rowsFrom (suc d) below) (rowsFrom d younger) rest) (
       ⊎-elim (λ b. row-below i d x below _ q b ∙ host-among (suc i) (suc d) below (rowsFrom d younger ++ rest) down b
-      ∙ sym (host-below i x below younger q (f .inside .0 q b) b))
+      ∙ sym (host-below i x below younger q (f .within q b) b))
       (λ b. ⊎-elim (λ m. row-hosts i d x below _ q m b ∙ sym (host-here i x below younger q m b))
       (λ m. row-without i d x below _ q m ∙ host-elsewhere (suc i) (suc d) below (rowsFrom d younger ++ rest) down b
       ∙ ap (λ (c : ℕ). hostRow c (rowsFrom d younger ++ rest) q) next
@@ -97,13 +97,13 @@ marks-of-rows d (node x below younger) =
     rw (map-append markOf (rowsFrom (suc d) below) (rowsFrom d younger), marks-of-rows (suc d) below, marks-of-rows d younger)
 
 -- marks are bytes
-marks-small : (k d : ℕ) (F : Tree) (left : List ℕ) → Fits k F → k < 16 → d + size F ≤ 16 → Every (λ m. m < 256) left
+marks-small : (k d : ℕ) (F : Tree) (left : List ℕ) → Active k F → k < 16 → d + size F ≤ 16 → Every (λ m. m < 256) left
     → Every (λ m. m < 256) (marks d F ++ left)
 unfolding marks size
 marks-small k d nil left w h few rest = rest
-marks-small k d (node x below younger) left (f, down, on) h few rest =
+marks-small k d (node x below younger) left (low, high, down, on) h few rest =
     rw (append-assoc (marks (suc d) below) (marks d younger) left) (
-      omega (arith, f .up-to),
+      omega arith,
       marks-small k (suc d) below (marks d younger ++ left) down h (omega arith) (marks-small k d younger left on h (omega arith) rest),
     )
 
@@ -129,7 +129,7 @@ record-without-old n (x ∷ l) = ap₂ (λ (u v : List ℕ). x .label ∷ (u ++ 
 
 -- THE RECORD OF A TREE
 
-tree-record : (n k : ℕ) (T : Tree) → IsTree n k T → rowsRecord n (rowsOf T) ≡ recordOf n T
+tree-record : (n k : ℕ) (T : Tree) → NestedTree n k T → rowsRecord n (rowsOf T) ≡ recordOf n T
 unfolding rowsRecord rowsOf rowsFrom recordOf hostBytes markBytes host
 tree-record n k nil w = refl
 tree-record n k (node x below nil) w = ap₂ (λ (u v : List ℕ). x .label ∷ (u ++ v))
@@ -140,20 +140,20 @@ tree-record n k (node x below nil) w = ap₂ (λ (u v : List ℕ). x .label ∷ 
 
     hosts : (q : ℕ) → member (x .label) q ≡ true → hostRow 0 (rowsFrom 0 T) q ≡ hostFrom 0 T q
     hosts q m = ap (λ (l : List Row). hostRow 0 l q) (sym (append-nil (rowsFrom 0 T)))
-        ∙ host-among k q 0 0 T [] (w .fits) (rw (root-states x below) m)
+        ∙ host-among q 0 0 T [] (w .nested) (rw (root-states x below) m)
 tree-record n k (node x below (node y other younger)) w = absurd (w .one-root)
 
 -- the root's label is a byte
-root-small : (n k : ℕ) (T : Tree) → IsTree n k T → getD (rowsOf T) 0 blankRow .label < 2 ^ n
+root-small : (n k : ℕ) (T : Tree) → NestedTree n k T → getD (rowsOf T) 0 blankRow .label < 2 ^ n
 unfolding rowsOf rowsFrom
 root-small n k nil w = pow-pos n
 root-small n k (node x below nil) w = rw (root-states x below) at (w .states)
 root-small n k (node x below (node y other younger)) w = absurd (w .one-root)
 
-module _ (n k : ℕ) (T : Tree) (t : isTree n k T ≡ true) where
+module _ (n k : ℕ) (T : Tree) (t : NestedTree n k T) where
   -- what is written for a tree's rows is its record
   pub record-of-rows : (l : List Row) → AreRows l T → rowsRecord n l ≡ recordOf n T
-  record-of-rows l e = sym (record-without-old n l) ∙ ap (rowsRecord n) e ∙ tree-record n k T (tree-out n k T t)
+  record-of-rows l e = sym (record-without-old n l) ∙ ap (rowsRecord n) e ∙ tree-record n k T t
 
   module _ (count : ℕ) (rows : List Row) (are : AreRows (take count rows) T) where
     mark-at : (i : ℕ) → i < count → markOf (getD rows i blankRow) ≡ getD (marks 0 T) i 0
@@ -171,9 +171,10 @@ module _ (n k : ℕ) (T : Tree) (t : isTree n k T ≡ true) where
     rows-recordable states few h = record {
       states = states;
       few = few;
-      root = λ l. omega (arith, root-at l, root-small n k T (tree-out n k T t), pow-mono {i = n} {j = 8} states);
+      root = λ l. omega (arith, root-at l, root-small n k T t, pow-mono {i = n} {j = 8} states);
       marks = λ i l. rw (mark-at i l) (byte-at (marks 0 T) bytes i);
     }
       where
         bytes : Every (λ m. m < 256) (marks 0 T)
-        bytes = rw (append-nil (marks 0 T)) at (marks-small k 0 T [] (tree-out n k T t .fits) h (omega (arith, few-nodes n k T t)) tt)
+        bytes = rw (append-nil (marks 0 T)) at (marks-small k 0 T [] (t .active) h
+            (omega (arith, rows-are-nodes (take count rows) T are, length-take count rows)) tt)

@@ -24,10 +24,10 @@ use Rattle.tree.specs.PackedRows.{rowsIn}
 use Rattle.tree.specs.RecordRows.{blankBehind, deeper, rowsOfMarks}
 use Rattle.tree.specs.RecordCode.{checkedTree, treeBeside, Checks}
 use Rattle.tree.specs.declared.record.Count.the-variants.{Nodes}
-use Rattle.history.proofs.HostLabels.{relabelled, ByNumber, labels-relabelled, labels-from-hosts, Active, fits-active}
+use Rattle.history.proofs.HostLabels.{relabelled, ByNumber, labels-relabelled, labels-from-hosts}
 use Rattle.history.proofs.RecordOfTree.{Shallower, length-marks, hosted-law, root-states}
 use Rattle.history.proofs.Members.{length-members, map-at-rank}
-use Rattle.history.proofs.Conditions.{IsTree, tree-out}
+use Rattle.history.proofs.Conditions.{Active, NestedTree, tree-nested, tree-out}
 use Rattle.history.proofs.QuestionNine.{is-record-out}
 use Rattle.history.proofs.RecordChecks.{checks-exact, read-by-checks}
 use Rattle.history.proofs.TreesKept.{few-nodes}
@@ -111,7 +111,7 @@ record Parts (n : ℕ) (T : Tree) (s : ℕ) (hosts left : List ℕ) : Type 0 whe
   rows : rowsOfMarks (hostedIn n s hosts) 0 left ≡ rowsOf T
 
 -- the map, the hosts and the marks of a tree's record
-live-parts : (n k : ℕ) (x : Node) (below : Tree) → IsTree n k (node x below nil) → k < 16
+live-parts : (n k : ℕ) (x : Node) (below : Tree) → NestedTree n k (node x below nil) → k < 16
     → Parts n (node x below nil) (x .label) (map (host (node x below nil)) (members n (x .label))) (marks 0 (node x below nil))
 unfolding host rowsOf
 live-parts n k x below t h = record { small = small; many = many; nodes = length-marks 0 T; rows = rows }
@@ -132,8 +132,8 @@ live-parts n k x below t h = record { small = small; many = many; nodes = length
     law = hosted-law n (x .label) hosts (host T) small (λ q m. map-at-rank (host T) n (x .label) q (member-lt n (x .label) q small m) m)
 
     rows : rowsOfMarks (hostedIn n (x .label) hosts) 0 (marks 0 T) ≡ rowsFrom 0 T
-    rows = rows-all k h (x .label) (host T) (hostedIn n (x .label) hosts) law 0 0 T (fits-active k T (t .fits))
-        ∙ ap (rowsFrom 0) (labels-from-hosts k 0 T (hostedIn n (x .label) hosts) (t .fits)
+    rows = rows-all k h (x .label) (host T) (hostedIn n (x .label) hosts) law 0 0 T (t .active)
+        ∙ ap (rowsFrom 0) (labels-from-hosts 0 T (hostedIn n (x .label) hosts) (t .nested)
         (subst (λ (a : ℕ). ByNumber a (host T) (hostedIn n (x .label) hosts)) (sym (root-states x below)) law))
 
 -- the dead tree's record
@@ -145,18 +145,18 @@ unfolding size rowsOf rowsFrom rowsOfMarks
 dead-parts n = record { small = pow-pos n; many = sym no-states; nodes = refl; rows = refl }
 
 -- so for the bytes of a record: the map in front, then the hosts, then the marks
-record-parts : (n k : ℕ) (T : Tree) → isTree n k T ≡ true → k < 16 → let bytes = recordOf n T in let s = getD bytes 0 0 in
+record-parts : (n k : ℕ) (T : Tree) → NestedTree n k T → k < 16 → let bytes = recordOf n T in let s = getD bytes 0 0 in
     (1 + ones s ≤ length bytes) × Parts n T s (take (ones s) (drop 1 bytes)) (drop (1 + ones s) bytes)
 unfolding recordOf
 record-parts n k nil t h = rw no-states (omega arith, dead-parts n)
 record-parts n k (node x below nil) t h =
     let T : Tree = node x below nil in
     let hosts : List ℕ = map (host T) (members n (x .label)) in
-    let P = live-parts n k x below (tree-out n k T t) h in
+    let P = live-parts n k x below t h in
     let front : take (ones (x .label)) (hosts ++ marks 0 T) ≡ hosts = take-at hosts (marks 0 T) (ones (x .label)) (P .many) in
     let behind : drop (ones (x .label)) (hosts ++ marks 0 T) ≡ marks 0 T = drop-at hosts (marks 0 T) (ones (x .label)) (P .many) in
     rw (one-add (ones (x .label)), front, behind) (omega (arith, length-append hosts (marks 0 T), P .many), P)
-record-parts n k (node x below (node y other younger)) t h = absurd (tree-out n k (node x below (node y other younger)) t .one-root)
+record-parts n k (node x below (node y other younger)) t h = absurd (t .one-root)
 
 -- THE CHECK'S ANSWER
 
@@ -171,7 +171,7 @@ module _ (n k : ℕ) (bytes : List ℕ) (h : k < 16) where
 
     parts : (1 + ones states ≤ length bytes)
         × Parts n (decoded n bytes) states (take (ones states) (drop 1 bytes)) (drop (1 + ones states) bytes)
-    parts = let (t, e) = is-record in rw e at (record-parts n k (decoded n bytes) t h)
+    parts = let (t, e) = is-record in rw e at (record-parts n k (decoded n bytes) (tree-nested n k _ (tree-out n k _ t)) h)
 
     pub passed-long : 1 + ones states ≤ length bytes
     passed-long = parts .0

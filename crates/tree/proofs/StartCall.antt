@@ -1,6 +1,5 @@
 -- The starting record: what the call answers, and what it leaves in the buffer.
-use mathlib.Core.Path.{_≡_, refl, sym, _∙_, ap}
-use mathlib.Core.Bool.{true}
+use mathlib.Core.Path.{_≡_, refl, _∙_, ap}
 use mathlib.Core.List.{List}
 use Prim.Native.Nat.{ℕ, _≤_, _<_}
 use native.Mathlib.Omega.{arith}
@@ -12,7 +11,7 @@ use Rattle.table.specs.Storing.{stored}
 use Rattle.table.specs.Table.{WellFormed, readRule}
 use Rattle.table.specs.declared.header.Header.{Header}
 use Rattle.table.proofs.GridReading.{RuleRead}
-use Rattle.history.specs.Tree.{labels, isTree, startTree}
+use Rattle.history.specs.Tree.{labels, startTree}
 use Rattle.history.specs.Record.{recordOf}
 use Rattle.tree.specs.PackedRows.{rowsIn}
 use Rattle.tree.specs.Rows.{rowsFrom, rowsOf, HoldsTree}
@@ -21,7 +20,8 @@ use Rattle.tree.specs.TreeCalls.{recordRoom, startOutcome, startAnswer, 
 use Rattle.tree.specs.declared.calls.StartAnswer.{StartAnswer}
 use Rattle.tree.specs.declared.rows.Row.{Row}
 use Rattle.tree.specs.declared.rows.Tree.{Tree as CodeTree}
-use Rattle.history.proofs.TreesOf.{of-tree, start-is-tree}
+use Rattle.history.proofs.Conditions.{NestedTree}
+use Rattle.history.proofs.TreesOf.{of-nested, start-is-tree}
 use Rattle.tree.proofs.TreeRows.{has-are, has-nodes, has-long}
 use Rattle.tree.proofs.RecordOfRows.{record-of-rows, rows-recordable}
 
@@ -56,8 +56,8 @@ module _ (table before : List ℕ) (header : Header) (cells : Grid) (v : RuleRea
     held : HoldsTree (v .rule) (startTree (v .rule)) x
     held = start-holds (v .rule) x (v .well) (v .range .some-set) (rw (v .numbers) at made)
 
-    fits : isTree (v .rule .states) (v .rule .sets) (startTree (v .rule)) ≡ true
-    fits = sym (of-tree (v .rule) (startTree (v .rule))) ∙ held .fits
+    nested : NestedTree (v .rule .states) (v .rule .sets) (startTree (v .rule))
+    nested = of-nested (v .rule) (startTree (v .rule)) (held .fits)
 
     abbrev rows : List Row
     rows = take (x .count) (rowsIn (x .rows))
@@ -66,7 +66,7 @@ module _ (table before : List ℕ) (header : Header) (cells : Grid) (v : RuleRea
     pub start-recordable : Recordable (header .states) (x .count) (rowsIn (x .rows)) × (length (x .rows) ≡ places)
     unfolding startRows
     start-recordable = (
-      rw (v .numbers) (rows-recordable (v .rule .states) (v .rule .sets) (startTree (v .rule)) fits (x .count) (rowsIn (x .rows))
+      rw (v .numbers) (rows-recordable (v .rule .states) (v .rule .sets) (startTree (v .rule)) nested (x .count) (rowsIn (x .rows))
           (held .are) (v .range .states) (omega (arith, made .count)) (omega (arith, v .range .sets))),
       has-long (startRows (header .start)) x made (omega arith),
     )
@@ -79,5 +79,5 @@ module _ (table before : List ℕ) (header : Header) (cells : Grid) (v : RuleRea
     start-done h written after e f =
         let same : rowsRecord (header .states) rows ≡ recordOf (v .rule .states) (startTree (v .rule)) =
         ap (λ (x : Header). rowsRecord (x .states) rows) (v .numbers)
-        ∙ record-of-rows (v .rule .states) (v .rule .sets) (startTree (v .rule)) fits rows (held .are) in
+        ∙ record-of-rows (v .rule .states) (v .rule .sets) (startTree (v .rule)) nested rows (held .are) in
         rw (v .reads, le-leb _ _ h, e, f, same) (refl, refl)

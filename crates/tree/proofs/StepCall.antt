@@ -34,9 +34,10 @@ use Rattle.tree.specs.declared.record.Count.the-variants.{Nodes, Refused
 use Rattle.tree.specs.declared.record.Checked.{Checked}
 use Rattle.tree.specs.declared.rows.Row.{Row}
 use Rattle.tree.specs.declared.rows.Stepped.{Stepped}
+use Rattle.history.proofs.Conditions.{NestedTree}
 use Rattle.history.proofs.QuestionNine.{record-accepted}
 use Rattle.history.proofs.TreesKept.{few-nodes}
-use Rattle.history.proofs.TreesOf.{of-tree, of-few, next-is-tree}
+use Rattle.history.proofs.TreesOf.{of-tree, of-few, of-nested, next-is-tree}
 use Rattle.tree.proofs.TreeRows.{rows-size, has-are, has-nodes, has-long}
 use Rattle.tree.proofs.RowsOfRecord.{limits-yes}
 use Rattle.tree.proofs.PassLoop.{two-sides}
@@ -160,14 +161,13 @@ module _ (table : List ℕ) (a : ℕ) (bytes before : List ℕ) (header : Header
         next-again = step-again table′ (header .sets) 0 (take count (rowsIn words)) sides after r step (v .rule) a (w .tree) (v .well)
             (v .range .states) (v .range .sets) sets tree-fits of-rule (w .are) (v .range .some-set) (omega arith)
 
-        next-fits : isTree (v .rule .states) (v .rule .sets) (nextTree (v .rule) a (w .tree)) ≡ true
-        next-fits = sym (of-tree (v .rule) (nextTree (v .rule) a (w .tree)))
-            ∙ next-is-tree (v .rule) (v .well) (v .range .some-set) a (w .tree) tree-fits
+        next-nested : NestedTree (v .rule .states) (v .rule .sets) (nextTree (v .rule) a (w .tree))
+        next-nested = of-nested (v .rule) _ (next-is-tree (v .rule) (v .well) (v .range .some-set) a (w .tree) tree-fits)
 
         -- its rows can be recorded
         pub step-recordable : Recordable (header .states) (r .count) (rowsIn (getD after 1 [])) × (length (getD after 1 []) ≡ places)
         step-recordable = (
-          rw (v .numbers) (rows-recordable (v .rule .states) (v .rule .sets) (nextTree (v .rule) a (w .tree)) next-fits
+          rw (v .numbers) (rows-recordable (v .rule .states) (v .rule .sets) (nextTree (v .rule) a (w .tree)) next-nested
               (r .count) (rowsIn (getD after 1 [])) (step-taken .are) (v .range .states) (next-again .few) (omega (arith, v .range .sets))),
           next-again .arrays .long 1 (omega arith),
         )
@@ -182,6 +182,6 @@ module _ (table : List ℕ) (a : ℕ) (bytes before : List ℕ) (header : Header
             let l : List Row = rowsOn after 1 (r .count) in
             let same : rowsRecord (header .states) l ≡ recordOf (v .rule .states) (nextTree (v .rule) a (w .tree)) =
             ap (λ (x : Header). rowsRecord (x .states) l) (v .numbers)
-            ∙ record-of-rows (v .rule .states) (v .rule .sets) (nextTree (v .rule) a (w .tree)) next-fits l (step-taken .are) in
+            ∙ record-of-rows (v .rule .states) (v .rule .sets) (nextTree (v .rule) a (w .tree)) next-nested l (step-taken .are) in
             let reads = rw (v .numbers) at (w .reads) in
             rw (v .reads, lt-ltb _ _ below, reads, le-leb _ _ h, e, f, same, step-taken .accepting, step-taken .stable) (refl, refl)

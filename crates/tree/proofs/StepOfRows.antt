@@ -27,8 +27,8 @@ use Rattle.tree.specs.Pass.{blankRow, SetsFit, steppedRows}
 use Rattle.tree.specs.Sides.{rowsOn, Steppable, Stepping}
 use Rattle.tree.specs.declared.rows.Row.{Row}
 use Rattle.tree.specs.declared.rows.Stepped.{Stepped}
-use Rattle.history.proofs.Conditions.{Fits, OneRoot}
-use Rattle.history.proofs.TreesOf.{of-out, of-root, of-few, next-is-tree}
+use Rattle.history.proofs.Conditions.{Fits, Active, OneRoot}
+use Rattle.history.proofs.TreesOf.{of-out, of-root, of-few, of-nested, next-is-tree}
 use Rattle.history.proofs.StepsJoined.{plainNode, survivors-steps}
 use Rattle.tree.proofs.TreeRows.{rows-size, rows-are-nodes}
 use Rattle.tree.proofs.GrownRows.{Gives, grown-rows, grown-olds}
@@ -82,11 +82,11 @@ actives-append k [] r hl hr i h = hr i h
 actives-append k (x ∷ l) r hl hr zero h = hl 0 (omega arith)
 actives-append k (x ∷ l) r hl hr (suc i) h = actives-append k l r (λ i h. hl (suc i) (omega arith)) hr i (omega arith)
 
-actives-from : (k d : ℕ) (T : Tree) → Fits k T → ActiveSets k (rowsFrom d T)
+actives-from : (k d : ℕ) (T : Tree) → Active k T → ActiveSets k (rowsFrom d T)
 unfolding rowsFrom
 actives-from k d nil fits i h = absurd (omega arith)
-actives-from k d (node x below younger) (own, down, on) zero h = (own .from-one, own .up-to)
-actives-from k d (node x below younger) (own, down, on) (suc i) h =
+actives-from k d (node x below younger) (low, high, down, on) zero h = (low, high)
+actives-from k d (node x below younger) (low, high, down, on) (suc i) h =
     actives-append k (rowsFrom (suc d) below) (rowsFrom d younger) (actives-from k (suc d) below down) (actives-from k d younger on)
     i (omega arith)
 
@@ -97,7 +97,7 @@ with-old k (x ∷ rows) h (suc i) less = with-old k rows (λ i less. h (suc i) (
 
 active-sets : (R : Rule) (rows : List Row) (T : Tree) → isTreeOf R T ≡ true → AreRows rows T → ActiveSets (R .sets) rows
 unfolding rowsOf
-active-sets R rows T tree are = with-old (R .sets) rows (rw are (actives-from (R .sets) 0 T (of-out R T tree .fits)))
+active-sets R rows T tree are = with-old (R .sets) rows (rw are (actives-from (R .sets) 0 T (of-nested R T tree .active)))
 
 -- so the table has images for them
 pub sets-fit : (R : Rule) (rows : List Row) (T : Tree) → R .sets ≤ maxSets → isTreeOf R T ≡ true → AreRows rows T → SetsFit rows

@@ -15,7 +15,7 @@ use Rattle.table.specs.Rule.{Rule}
 use Rattle.table.proofs.Logic.{never, clash, and-both, and-in, bool-ext}
 use Rattle.history.specs.Tree.{Tree}
 use Rattle.history.proofs.QuestionNine.{record-injective}
-use Rattle.history.proofs.TreesOf.{of-tree}
+use Rattle.history.proofs.TreesOf.{of-nested}
 use Rattle.tree.specs.Rows.{withoutOld}
 use Rattle.tree.specs.Pass.{blankRow}
 use Rattle.tree.specs.RecordRows.{places}
@@ -126,8 +126,8 @@ pub same-rows-same : (R : Rule) (T U : Tree) (x y : CodeTree) → R .sets ≤ ma
     → sameTrees x y ≡ true → T ≡ U
 same-rows-same R T U x y sets held other e =
     let rows = take (x .count) (rowsIn (x .rows)) in
-    let t = sym (of-tree R T) ∙ held .fits in
-    let u = sym (of-tree R U) ∙ other .fits in
+    let t = of-nested R T (held .fits) in
+    let u = of-nested R U (other .fits) in
     record-injective (R .states) (R .sets) T U t u (omega arith)
     (sym (record-of-rows (R .states) (R .sets) T t rows (held .are))
     ∙ record-of-rows (R .states) (R .sets) U u rows (same-rows-out rows (take (y .count) (rowsIn (y .rows))) e ∙ other .are))
