@@ -3,25 +3,21 @@
 -- go back to the entry for the verdict.
 use mathlib.Core.Logic.{_↔_}
 use mathlib.Core.List.{List}
-use Prim.Native.Nat.{ℕ, _≤_}
+use Prim.Native.Nat.{ℕ, _+_, _*_, _≤_}
 use native.Mathlib.Omega.{arith}
+use lib.ListN.{length}
 use Rattle.table.specs.Rule.{Rule}
 use Rattle.history.specs.Rounds.{roundTree, FirstRepeat}
 use Rattle.history.specs.Verdict.{Witness, FirstWitness}
-use Rattle.history.proofs.TreesOfWalk.{same-round}
+use Rattle.history.proofs.WitnessByPosition.{accepts-late, witness-lasts, lasts-witness}
 
 module _ (R : Rule) (u v : List ℕ) (entry period : ℕ) (F : FirstRepeat (roundTree R u v) entry period) where
   moved : (from to : ℕ) → entry ≤ from → entry ≤ to → (w : List ℕ) → Witness R u v from period w → Witness R u v to period w
   moved from to h k w W =
-      let (s, low, high, same) = same-round R u v entry period F to (W .round) k (omega (arith, W .there .from)) in
-      record {
-        stays = λ r i l. let (s, low, high, same) = same-round R u v entry period F from r h (omega (arith, l .from)) in
-            rw (same i) (W .stays s i (record { from = low; upto = high; within = l .within }));
-        round = s;
-        place = W .place;
-        there = record { from = low; upto = high; within = W .there .within };
-        accepts = rw (same (W .place)) at (W .accepts);
-      }
+      let filled : 1 ≤ length v = omega (arith, W .there .within) in
+      let L = witness-lasts R u v filled entry period F from h w W in
+      let (q, behind, accepts) = accepts-late L (length u + to * length v) in
+      lasts-witness R u v filled entry period F to k w (length u + from * length v) (L .stays) q behind accepts
 
   -- a witness over p rounds from the entry is one over p rounds from any later round, and back
   pub any-rounds : (start : ℕ) → entry ≤ start → (w : List ℕ) → Witness R u v entry period w ↔ Witness R u v start period w

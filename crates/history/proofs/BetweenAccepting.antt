@@ -25,6 +25,7 @@ use Rattle.word.proofs.Pigeonhole.{pigeonhole}
 use Rattle.history.specs.Tree.{labels}
 use Rattle.history.specs.Letter.{nextSet}
 use Rattle.history.proofs.LocalStep.{Branch, newLabel, sproutOf, accepts, stepBranch}
+use Rattle.history.proofs.Stretches.{stretch}
 use Rattle.history.proofs.OneNode.{successors-out, successorsIn-out, step-accepting, step-quiet, label-from, below-from, accepted-from}
 
 -- THE ACTIVE SETS
@@ -58,11 +59,6 @@ every-set k a s low high l = go (decLt s a)
         (suc s - a, omega arith, omega arith, climbs k (suc s - a) a (omega arith) ∙ e)
 
 -- PATHS
-
--- the first d letters of an endless word
-unfoldable pub stretch : (ℕ → ℕ) → ℕ → List ℕ
-stretch letter zero = []
-stretch letter (suc d) = stretch letter d ++ (letter d ∷ [])
 
 -- a transition of a set, and its bit
 takes-set : (grid : Grid) (i a q r : ℕ) → edgeIn grid i a q r ≡ true → member (cellAt grid a q r) (pred i) ≡ true

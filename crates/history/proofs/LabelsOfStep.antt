@@ -1,14 +1,14 @@
 -- Which states are at the top of a forest after one letter: those that its states lead to and those of the sprout, but
 -- for what older nodes hold. The trees' other laws rest on this.
-use mathlib.Core.Path.{_≡_, refl}
-use mathlib.Core.Bool.{Bool, true, false, not, _&&_, _||_}
+use mathlib.Core.Path.{_≡_, refl, _∙_}
+use mathlib.Core.Bool.{Bool, true, false, not, _&&_, _||_, and-true, or-false}
 use Prim.Native.Nat.{ℕ, _<_, _^_}
 use borrow.Author.Tests.{eqb-true}
 use lib.Bits.{bitOr, or-zero-r}
 use lib.Dec.{eqb}
 use Rattle.table.specs.BitSet.{member, minus, Subset}
 use Rattle.table.specs.Rule.{Rule, edge, edgeIn, successors, successorsIn}
-use Rattle.table.proofs.BitSet.{member-none, member-union, member-minus, image-in, image-out, image-lt, image-none, image-union}
+use Rattle.table.proofs.BitSet.{member-none, member-union, member-minus, set-ext, image-in, image-out, image-lt, image-none, image-union}
 use Rattle.table.proofs.Edges.{edgeIn-edge}
 use Rattle.history.specs.Forest.{nil, node}
 use Rattle.history.specs.Tree.{Node, Tree, labels}
@@ -85,3 +85,7 @@ labels-step R a older sprout (node x below younger) q =
       labels-step R a (bitOr older (minus (successors R a (x .label)) older)) sprout younger q,
     )
     (turns (member older q) (member (successors R a (x .label)) q) (member (successors R a (labels younger)) q) (member sprout q))
+
+-- of a whole tree: the successors of its states
+pub labels-next : (R : Rule) (a : ℕ) (T : Tree) → labels (step R a 0 0 T) ≡ successors R a (labels T)
+labels-next R a T = set-ext _ _ (λ q. labels-step R a 0 0 T q ∙ simp (member-none, or-false, and-true))

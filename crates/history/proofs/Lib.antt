@@ -9,9 +9,14 @@ pub mod FirstRepeats
 pub mod TreeCode
 pub mod Positional
 -- Trees along a walk: positions, rounds, witnesses.
+pub mod Stretches
+pub mod RoundPositions
 pub mod TreesOfWalk
+pub mod WitnessByPosition
 pub mod SameSquares
 pub mod SameAlong
+pub mod AroundLoop
+pub mod StatesReached
 pub mod StatesOfTrees
 pub mod AnyRounds
 pub mod NameOrder

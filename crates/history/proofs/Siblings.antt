@@ -44,7 +44,8 @@ use Rattle.history.proofs.OneNode.{
   place-same,
 }
 use Rattle.history.proofs.BranchFits.{label-inside, branch-fits, name-fits}
-use Rattle.history.proofs.BetweenAccepting.{stretch, Return, loops-back}
+use Rattle.history.proofs.Stretches.{stretch}
+use Rattle.history.proofs.BetweenAccepting.{Return, loops-back}
 use Rattle.history.proofs.Descent.{level, Home, kept-name}
 
 -- a node that survives has a label

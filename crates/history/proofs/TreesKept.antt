@@ -13,7 +13,7 @@ use Rattle.table.specs.BitSet.{member, minus, Subset, collect}
 use Rattle.table.specs.Rule.{Rule, successors, successorsIn}
 use Rattle.table.specs.Table.{WellFormed, startFits}
 use Rattle.table.proofs.Logic.{clash, never, and-both, and-in, not-in, or-in, or-r}
-use Rattle.table.proofs.BitSet.{member-none, member-union, member-minus, member-lt, lt-member}
+use Rattle.table.proofs.BitSet.{member-none, member-union, member-minus}
 use Rattle.history.specs.Forest.{nil, node, size}
 use Rattle.history.specs.Tree.{Node, Tree, labels, isTree, startTree}
 use Rattle.history.specs.Letter.{nextSet, nextTree, byNumber, acceptingMap, stableMap}
@@ -21,7 +21,7 @@ use Rattle.history.proofs.LocalStep.{settled, settle, newLabel, sproutO
 use Rattle.history.proofs.SetFacts.{nothing-minus, subset-proper, none-proper}
 use Rattle.history.proofs.Hosts.{size-labels}
 use Rattle.history.proofs.Conditions.{Fits, OneRoot, IsTree, tree-out}
-use Rattle.history.proofs.LabelsOfStep.{successors-subset, successorsIn-subset, successors-lt, labels-step}
+use Rattle.history.proofs.LabelsOfStep.{successors-subset, successorsIn-subset, successors-lt, labels-step, labels-next}
 use Rattle.history.proofs.StepsJoined.{nextTree-step}
 
 -- ONE LETTER
@@ -109,10 +109,7 @@ module _ (R : Rule) (a : ℕ) where
 
   -- the states after a letter are states of the rule
   labels-lt : (T : Tree) → labels (step R a 0 0 T) < 2 ^ R .states
-  labels-lt T = lt-member (R .states) (labels (step R a 0 0 T)) (λ q m.
-      let (from, _) = and-in (member (successors R a (labels T)) q || member 0 q) _ (sym (labels-step R a 0 0 T q) ∙ m) in
-      ⊎-elim (member-lt (R .states) (successors R a (labels T)) q (successors-lt R a (labels T)))
-      (λ h. clash (member-none q) h) (or-in (member (successors R a (labels T)) q) _ from))
+  labels-lt T = rw (labels-next R a T) (successors-lt R a (labels T))
 
 -- THE TREES
 

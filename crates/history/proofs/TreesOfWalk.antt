@@ -2,46 +2,27 @@
 -- each round, and that from the entry on they repeat, letter by letter.
 use mathlib.Core.Path.{_≡_, refl, sym, _∙_, ap}
 use mathlib.Core.List.{List, [], _∷_, _++_, append-assoc}
-use Prim.Native.Nat.{ℕ, zero, suc, _+_, _*_, _-_, _/_, _%_, _≤_, _<_}
+use Prim.Native.Nat.{ℕ, zero, suc, _+_, _*_, _-_, _≤_, _<_}
 use native.Mathlib.Omega.{arith}
-use native.Mathlib.Nat.{add-zero, mul-le-mul-left, mul-le-mul-right, div-add-mod', mod-lt}
-use native.Mathlib.Decide.{decLe}
+use native.Mathlib.Nat.{add-zero, add-suc}
 use native.Mathlib.Numerals.{add-one}
-use lib.ListN.{length, getD, take, length-append}
+use lib.ListN.{length, take}
 use lib.Seq.{length-take-le, getD-take}
 use Rattle.table.specs.Rule.{Rule}
 use Rattle.word.specs.Walk.{letterAt, rounds}
 use Rattle.word.proofs.Paths.{rounds-add, rounds-one}
-use Rattle.word.proofs.Positions.{letter-round, length-rounds, Reads, reads-lead}
+use Rattle.word.proofs.Positions.{letter-round, Reads, reads-lead}
 use Rattle.history.specs.Tree.{Tree, startTree}
 use Rattle.history.specs.Letter.{nextTree}
 use Rattle.history.specs.Rounds.{readLetters, roundTree, treeInRound, FirstRepeat}
-use Rattle.history.specs.Verdict.{LetterPlace}
 use Rattle.history.proofs.FirstRepeats.{periodic}
+use Rattle.history.proofs.Stretches.{length-lead}
+use Rattle.history.proofs.RoundPositions.{letters-back}
 
 -- the tree after p letters of the walk
 unfoldable pub treeAt : Rule → List ℕ → List ℕ → ℕ → Tree
 treeAt R u v zero = startTree R
 treeAt R u v (suc p) = nextTree R (letterAt u v p) (treeAt R u v p)
-
--- a position behind the prefix, as a place in a round
-pub record RoundPlace (u v : List ℕ) (p : ℕ) : Type 0 where
-  pub round : ℕ
-  pub place : ℕ
-  pub within : place < length v
-  pub position : p ≡ length u + round * length v + place
-
--- a place of the rounds e+1 to e+p with the letter and the tree of a position
-pub record SamePlace (R : Rule) (u v : List ℕ) (entry period p : ℕ) : Type 0 where
-  pub round : ℕ
-  pub place : ℕ
-  pub there : LetterPlace v entry period round place
-  pub letter : letterAt u v p ≡ getD v place 0
-  pub tree : treeAt R u v p ≡ treeInRound R u v round place
-
--- the letters up to the end of a round
-pub length-lead : (u v : List ℕ) (r : ℕ) → length (u ++ rounds r v) ≡ length u + r * length v
-length-lead u v r = length-append u (rounds r v) ∙ ap (length u +_) (length-rounds r v)
 
 -- reading letters, and then more
 pub read-append : (R : Rule) (w w′ : List ℕ) (T : Tree) → readLetters R (w ++ w′) T ≡ readLetters R w′ (readLetters R w T)
@@ -50,19 +31,11 @@ read-append R [] w′ T = refl
 read-append R (a ∷ w) w′ T = read-append R w w′ (nextTree R a T)
 
 -- the first of the letters that the walk has from a position on, and those behind it
-pub reads-next : (u v : List ℕ) (p a : ℕ) (w : List ℕ) → Reads u v p (a ∷ w) → (letterAt u v p ≡ a) × Reads u v (suc p) w
+reads-next : (u v : List ℕ) (p a : ℕ) (w : List ℕ) → Reads u v p (a ∷ w) → (letterAt u v p ≡ a) × Reads u v (suc p) w
 reads-next u v p a w reads = (
   rw add-zero at (reads 0 (omega arith)),
   λ q h. let e : suc p + q ≡ p + suc q = omega arith in rw e (reads (suc q) (omega arith)),
 )
-
--- a position from the end of round e on is in a later round
-late-round : (e r i m : ℕ) → i < m → e * m ≤ r * m + i → e ≤ r
-late-round e r i m h l = go (decLe e r)
-  where
-    go : Dec (e ≤ r) → e ≤ r
-    go (yes k) = k
-    go (no k) = absurd (omega (arith, mul-le-mul-right {m = suc r} {n = e} m (omega arith)))
 
 module _ (R : Rule) (u v : List ℕ) where
   -- BY ROUNDS
@@ -80,29 +53,10 @@ module _ (R : Rule) (u v : List ℕ) where
   unfolding treeInRound readLetters
   in-round-zero r = refl
 
-  module _ (entry period : ℕ) (F : FirstRepeat (roundTree R u v) entry period) where
-    -- from the entry on the trees repeat, round by round
-    pub round-periodic : (d r : ℕ) → entry ≤ r → roundTree R u v r ≡ roundTree R u v (r + d * period)
-    round-periodic d r h = periodic (roundTree R u v) (readLetters R v) round-next entry period F d r h
-
-    -- and letter by letter
-    pub in-round-periodic : (d r i : ℕ) → entry ≤ r → treeInRound R u v r i ≡ treeInRound R u v (r + d * period) i
-    unfolding treeInRound
-    in-round-periodic d r i h = ap (readLetters R (take i v)) (round-periodic d r h)
-
-    -- so each later round is one of any p rounds from the entry on
-    pub same-round : (start r : ℕ) → entry ≤ start → entry ≤ r
-        → (s : ℕ) × (start ≤ s) × (s < start + period) × ((i : ℕ) → treeInRound R u v r i ≡ treeInRound R u v s i)
-    same-round start r from late =
-        let d : ℕ = (r + start * period - start) / period in
-        let o : ℕ = (r + start * period - start) % period in
-        let e : r + start * period ≡ start + o + d * period =
-        omega (arith, div-add-mod' (r + start * period - start) period, mul-le-mul-left start (F .positive)) in (
-          start + o,
-          omega arith,
-          omega (arith, mod-lt (r + start * period - start) (F .positive)),
-          λ i. in-round-periodic start r i late ∙ ap (λ x. treeInRound R u v x i) e ∙ sym (in-round-periodic d (start + o) i (omega arith)),
-        )
+  -- from the entry on the trees repeat, round by round
+  pub round-periodic : (entry period : ℕ) → FirstRepeat (roundTree R u v) entry period
+      → (d r : ℕ) → entry ≤ r → roundTree R u v r ≡ roundTree R u v (r + d * period)
+  round-periodic entry period F d r h = periodic (roundTree R u v) (readLetters R v) round-next entry period F d r h
 
   -- BY POSITION
 
@@ -134,36 +88,19 @@ module _ (R : Rule) (u v : List ℕ) where
             let l′ : q < i = omega (arith, length-take-le i v h) in
             letter-round u v r q (omega arith) ∙ sym (getD-take i v q 0 l′)
 
-    pub round-place : (p : ℕ) → length u ≤ p → RoundPlace u v p
-    round-place p h = record {
-      round = (p - length u) / length v;
-      place = (p - length u) % length v;
-      within = mod-lt (p - length u) filled;
-      position = omega (arith, div-add-mod' (p - length u) (length v));
-    }
-
-    -- from the end of round e on the trees repeat position by position
+    -- from the end of round e on the trees repeat position by position: the trees at round ends do, and the letters
     module _ (entry period : ℕ) (F : FirstRepeat (roundTree R u v) entry period) where
-      entered : (p : ℕ) → length u + entry * length v ≤ p → (x : RoundPlace u v p) → entry ≤ x .round
-      entered p h x = late-round entry (x .round) (x .place) (length v) (x .within) (omega (arith, x .position))
+      behind : (d q : ℕ) → treeAt R u v (length u + (entry + d * period) * length v + q) ≡ treeAt R u v (length u + entry * length v + q)
+      unfolding treeAt
+      behind d zero = rw (add-zero, add-zero, tree-at-round (entry + d * period), tree-at-round entry)
+          (sym (round-periodic entry period F d entry (omega arith)))
+      behind d (suc q) =
+          let e : length u + (entry + d * period) * length v + q ≡ length u + entry * length v + q + d * period * length v = omega arith in
+          rw (add-suc, add-suc, behind d q, e, letters-back u v (d * period) (length u + entry * length v + q) (omega arith))
 
       pub walk-periodic : (d p : ℕ) → length u + entry * length v ≤ p → treeAt R u v (p + d * (period * length v)) ≡ treeAt R u v p
       walk-periodic d p h =
-          let x = round-place p (omega arith) in
-          let e : p + d * (period * length v) ≡ length u + (x .round + d * period) * length v + x .place = omega (arith, x .position) in
-          ap (treeAt R u v) e ∙ tree-in-round (x .round + d * period) (x .place) (omega (arith, x .within))
-          ∙ sym (in-round-periodic entry period F d (x .round) (x .place) (entered p h x))
-          ∙ sym (tree-in-round (x .round) (x .place) (omega (arith, x .within))) ∙ ap (treeAt R u v) (sym (x .position))
-
-      -- and each position has the letter and the tree of a place of the rounds e+1 to e+p
-      pub same-place : (p : ℕ) → length u + entry * length v ≤ p → SamePlace R u v entry period p
-      same-place p h =
-          let x = round-place p (omega arith) in
-          let (s, from, upto, same) = same-round entry period F entry (x .round) (omega arith) (entered p h x) in
-          record {
-            round = s;
-            place = x .place;
-            there = record { from = from; upto = upto; within = x .within };
-            letter = ap (letterAt u v) (x .position) ∙ letter-round u v (x .round) (x .place) (x .within);
-            tree = ap (treeAt R u v) (x .position) ∙ tree-in-round (x .round) (x .place) (omega (arith, x .within)) ∙ same (x .place);
-          }
+          let q : ℕ = p - (length u + entry * length v) in
+          let e : p + d * (period * length v) ≡ length u + (entry + d * period) * length v + q = omega arith in
+          let e′ : length u + entry * length v + q ≡ p = omega arith in
+          ap (treeAt R u v) e ∙ behind d q ∙ ap (treeAt R u v) e′

@@ -1,0 +1,91 @@
+-- A loop of a walk, letter by letter: the run that goes around it for ever, from the end of some round on, and the ways into it.
+use mathlib.Core.Path.{_≡_, sym, _∙_, ap}
+use mathlib.Core.Bool.{true}
+use mathlib.Core.List.{List, _++_, append-assoc}
+use Prim.Native.Nat.{ℕ, suc, _+_, _*_, _%_, _≤_, _<_}
+use native.Mathlib.Omega.{arith}
+use native.Mathlib.Nat.{zero-mod, suc-mod, mod-self, mod-lt, mod-eq-of-lt, add-mod-right, mul-pos}
+use native.Mathlib.Decide.{decLt}
+use lib.Bits.{bitOr}
+use lib.ListN.{length, getD}
+use Rattle.table.specs.BitSet.{member}
+use Rattle.table.specs.Rule.{Rule, edge, edgeIn}
+use Rattle.table.proofs.Edges.{member-edgeIn}
+use Rattle.word.specs.Walk.{letterAt, rounds}
+use Rattle.word.specs.Loop.{Leads}
+use Rattle.word.proofs.Paths.{rounds-add, leads-append, leads-repeat}
+use Rattle.word.proofs.Periods.{Periodic}
+use Rattle.word.proofs.Positions.{letter-cycle, letter-unrolled, length-rounds}
+use Rattle.word.proofs.Traces.{Trace, place-of, leads-trace}
+use Rattle.history.proofs.Stretches.{length-lead}
+
+-- THE WAYS INTO IT
+
+-- a path to a loop, and some turns of the loop
+pub leads-into : (R : Rule) (u v : List ℕ) (i j s c t d : ℕ) → Leads R (u ++ rounds i v) s c t → Leads R (rounds j v) t d t
+    → (k : ℕ) → 1 ≤ k → Leads R (u ++ rounds (i + k * j) v) s (bitOr c d) t
+leads-into R u v i j s c t d lead loop k h =
+    rw (rounds-add i (k * j) v, ← append-assoc u (rounds i v) (rounds (k * j) v))
+    (leads-append R (u ++ rounds i v) (rounds (k * j) v) s c t d t lead (leads-repeat R v t d j k h loop))
+
+-- AROUND IT
+
+-- the next place of a loop of m places; its end is its beginning
+next-place : (m : ℕ) (state : ℕ → ℕ) → 0 < m → state m ≡ state 0 → (d : ℕ) → state (suc d % m) ≡ state (suc (d % m))
+next-place m state positive back d = ap state (suc-mod d m) ∙ go (decLt (suc (d % m)) m)
+  where
+    go : Dec (suc (d % m) < m) → state (suc (d % m) % m) ≡ state (suc (d % m))
+    go (yes l) = ap state (mod-eq-of-lt l)
+    go (no l) = let e : suc (d % m) ≡ m = omega (arith, mod-lt d positive) in rw (e, mod-self) (sym back)
+
+-- the states of a run over some letters that begins in a state, returns after a period, and takes these sets
+pub record Around (R : Rule) (letter : ℕ → ℕ) (period begin sets : ℕ) : Type 0 where
+  pub state : ℕ → ℕ
+  pub begins : state 0 ≡ begin
+  pub moves : (d : ℕ) → edge (R .grid) (letter d) (state d) (state (suc d)) ≡ true
+  pub takes : (i : ℕ) → member sets i ≡ true → (d : ℕ) × (edgeIn (R .grid) (suc i) (letter d) (state d) (state (suc d)) ≡ true)
+  pub back : Periodic period state
+
+module _ (u v : List ℕ) (filled : 1 ≤ length v) (turns : ℕ) (positive : 1 ≤ turns) (r : ℕ) where
+  -- the letters of one turn
+  turn : List ℕ
+  turn = rounds turns v
+
+  turn-filled : 0 < length turn
+  unfolding turn
+  turn-filled = rw length-rounds (mul-pos positive filled)
+
+  letter : (d : ℕ) → letterAt u v (length u + r * length v + d) ≡ getD turn (d % length turn) 0
+  unfolding turn
+  letter d =
+      sym (letter-unrolled u v r turns positive filled (length u + r * length v + d))
+      ∙ ap (λ x. letterAt (u ++ rounds r v) (rounds turns v) (x + d)) (sym (length-lead u v r))
+      ∙ letter-cycle (u ++ rounds r v) (rounds turns v) d
+
+  -- from the end of any round on the run can go around
+  pub around : (R : Rule) (begin sets : ℕ) → Leads R (rounds turns v) begin sets begin
+      → Around R (λ d. letterAt u v (length u + r * length v + d)) (turns * length v) begin sets
+  unfolding turn
+  around R begin sets loop = record {
+    state = state;
+    begins = ap (trace .state) (zero-mod (length turn)) ∙ trace .enters;
+    moves = moves;
+    takes = λ i h.
+        let (q, l, in-set) = place-of R turn (trace .state) i (rw (trace .sets) at h) in
+        let e : q % length turn ≡ q = mod-eq-of-lt l in
+        let now : state q ≡ trace .state q = ap (trace .state) e in
+        (q, member-edgeIn (R .grid) i _ _ _ (moves q) (rw (letter q, next q, now, e) in-set));
+    back = rw (← length-rounds turns v) (λ d. ap (trace .state) (add-mod-right d (length turn)));
+  }
+    where
+      trace : Trace R turn begin sets begin
+      trace = leads-trace R (rounds turns v) begin sets begin loop
+
+      state : ℕ → ℕ
+      state d = trace .state (d % length turn)
+
+      next : (d : ℕ) → state (suc d) ≡ trace .state (suc (d % length turn))
+      next = next-place (length turn) (trace .state) turn-filled (trace .leaves ∙ sym (trace .enters))
+
+      moves : (d : ℕ) → edge (R .grid) (letterAt u v (length u + r * length v + d)) (state d) (state (suc d)) ≡ true
+      moves d = rw (letter d, next d) (trace .moves (d % length turn) (mod-lt d turn-filled))
