@@ -4,8 +4,7 @@ use mathlib.Core.Path.{_≡_, sym, _∙_, ap, ap₂}
 use mathlib.Core.Logic.{_↔_}
 use mathlib.Core.Bool.{_&&_, _||_, and-comm, or-comm}
 use mathlib.Core.List.{List, _++_, append-nil}
-use Prim.Native.Nat.{ℕ, zero, suc, _≤_, _<_}
-use native.Mathlib.Omega.{arith}
+use Prim.Native.Nat.{ℕ, zero, suc, _≤_}
 use Rattle.table.specs.Rule.{Rule}
 use Rattle.word.specs.Walk.{rounds}
 use Rattle.word.proofs.Paths.{rounds-one}
@@ -13,6 +12,7 @@ use Rattle.history.specs.Tree.{Tree}
 use Rattle.history.specs.Rounds.{readLetters, roundTree, FirstRepeat}
 use Rattle.history.specs.Verdict.{Witness, FirstWitness}
 use Rattle.history.specs.Following.{stableThrough, acceptingOnce}
+use Rattle.history.proofs.FirstRepeats.{repeat-after-one}
 use Rattle.history.proofs.TreesOfWalk.{read-append, round-next}
 use Rattle.history.proofs.FollowingLaws.{stable-append, accepting-append}
 use Rattle.history.proofs.CycleVerdict.{witness-through}
@@ -45,22 +45,9 @@ module _ (R : Rule) (u head rest : List ℕ) where
     again : t 1 ≡ t 2
     again = sym (cut-rest 0) ∙ ap (readLetters R rest) meet ∙ cut-rest 1
 
-    -- and the first repeat is that of t(0) or of t(1)
-    pub repeat-first : t 0 ≡ t 1 → FirstRepeat t 0 1
-    repeat-first same = record { positive = omega arith; back = same; first = λ i j l h e. omega arith }
-
+    -- and the first repeat is that of t(1), if it is not that of t(0)
     pub repeat-second : (t 0 ≡ t 1 → ⊥) → FirstRepeat t 1 1
-    repeat-second differ = record { positive = omega arith; back = again; first = earlier }
-      where
-        earlier : (i j : ℕ) → i < j → j < 2 → t i ≡ t j → ⊥
-        earlier zero (suc zero) l h e = differ e
-        earlier zero (suc (suc j)) l h e = omega arith
-        earlier zero zero l h e = omega arith
-        earlier (suc i) j l h e = omega arith
-
-    -- at the cut it is the first tree's
-    pub cut-repeat : FirstRepeat s 0 1
-    cut-repeat = record { positive = omega arith; back = meet; first = λ i j l h e. omega arith }
+    repeat-second differ = repeat-after-one t differ again
 
     -- the names that are stable through the tail from t(1) on, and accepting once, are those from the cut on
     module _ (w : List ℕ) where

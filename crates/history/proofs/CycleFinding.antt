@@ -1,27 +1,26 @@
--- Finding the period in constant memory. Brent's search holds one tree, t(power − 1), and reads on from it: after lam rounds
--- that tree has not come back; where it does, the distance is the period. If it has not come back after `power` rounds, the tree
--- reached is held instead, and the power doubled.
+-- Finding the period of a sequence in constant memory. Brent's search holds one value, t(power − 1), and goes on from it: after lam
+-- places that value has not come back; where it does, the distance is the period. If it has not come back after `power` places, the
+-- value reached is held instead, and the power doubled.
 use mathlib.Core.Path.{_≡_, sym}
 use Prim.Native.Nat.{ℕ, suc, _+_, _*_, _-_, _^_, _≤_, _<_, max}
 use native.Mathlib.Omega.{arith}
 use native.Mathlib.Decide.{decLe, ℕ-discrete}
-use Rattle.history.specs.Tree.{Tree}
 use Rattle.history.specs.Rounds.{FirstRepeat}
 use Rattle.history.proofs.FirstRepeats.{periodic, repeat-only, brent}
 
--- Brent's search at the head of its loop: it holds t(power − 1) and has read lam rounds from there
-pub record BrentSoFar (t : ℕ → Tree) (power lam : ℕ) : Type 0 where
+-- Brent's search at the head of its loop: it holds t(power − 1) and has gone lam places on from there
+pub record BrentSoFar {A : Type 0} (t : ℕ → A) (power lam : ℕ) : Type 0 where
   pub short : lam < power
-  -- the tree that is held has not come back
+  -- the value that is held has not come back
   pub apart : (m : ℕ) → 1 ≤ m → m ≤ lam → t (power - 1) ≡ t (power - 1 + m) → ⊥
   -- the power is at most twice the larger of entry and period
   pub bounded : (entry period : ℕ) → FirstRepeat t entry period → power ≤ 2 * max entry period
 
--- t(half − 1) was held before, and had not come back after `half` rounds: a period as short as that begins later
-abbrev pub Skips : (ℕ → Tree) → ℕ → Type 0
+-- t(half − 1) was held before, and had not come back after `half` places: a period as short as that begins later
+abbrev pub Skips : {A : Type 0} → (ℕ → A) → ℕ → Type 0
 Skips t half = (entry period : ℕ) → FirstRepeat t entry period → period ≤ half → half ≤ entry
 
-module _ (t : ℕ → Tree) where
+module _ {A : Type 0} (t : ℕ → A) where
   -- at the start t(0) is held
   pub brent-start : BrentSoFar t 1 0
   brent-start = record {
@@ -34,8 +33,8 @@ module _ (t : ℕ → Tree) where
   pub none-skips : Skips t 0
   none-skips entry period F short = omega arith
 
-  -- one round more, and the tree has still not come back
-  unseen : (i l : ℕ) → ((m : ℕ) → 1 ≤ m → m ≤ l → t i ≡ t (i + m) → ⊥) → (t i ≡ t (i + (l + 1)) → ⊥)
+  -- one place more, and the value has still not come back
+  pub unseen : (i l : ℕ) → ((m : ℕ) → 1 ≤ m → m ≤ l → t i ≡ t (i + m) → ⊥) → (t i ≡ t (i + (l + 1)) → ⊥)
       → (m : ℕ) → 1 ≤ m → m ≤ l + 1 → t i ≡ t (i + m) → ⊥
   unseen i l before new m low high same = go (ℕ-discrete m (l + 1))
     where
@@ -48,7 +47,7 @@ module _ (t : ℕ → Tree) where
   brent-more power lam B new more =
       record { short = omega (arith, B .short); apart = unseen (power - 1) lam (B .apart) new; bounded = B .bounded }
 
-module _ (t : ℕ → Tree) (f : Tree → Tree) (next : (r : ℕ) → t (suc r) ≡ f (t r)) where
+module _ {A : Type 0} (t : ℕ → A) (f : A → A) (next : (r : ℕ) → t (suc r) ≡ f (t r)) where
   -- a period no longer than a power after which t(power − 1) has not come back begins later
   pub reset-skips : (power lam : ℕ) → BrentSoFar t power lam → (t (power - 1) ≡ t (power - 1 + (lam + 1)) → ⊥) → lam + 1 ≡ power
       → Skips t power
@@ -70,7 +69,7 @@ module _ (t : ℕ → Tree) (f : Tree → Tree) (next : (r : ℕ) → t (suc r) 
       go (yes h) = omega (arith, reset-skips power lam B new full entry period F h)
       go (no h) = omega arith
 
-  -- then the tree reached is held
+  -- then the value reached is held
   pub brent-reset : (power lam : ℕ) → BrentSoFar t power lam → (t (power - 1) ≡ t (power - 1 + (lam + 1)) → ⊥) → lam + 1 ≡ power
       → BrentSoFar t (power + power) 0
   brent-reset power lam B new full = record {
@@ -80,7 +79,7 @@ module _ (t : ℕ → Tree) (f : Tree → Tree) (next : (r : ℕ) → t (suc r) 
   }
 
   module _ (entry period : ℕ) (F : FirstRepeat t entry period) where
-    -- where the tree comes back, the distance is the period, and the tree is on the cycle
+    -- where the value comes back, the distance is the period, and the value is on the cycle
     pub brent-found : (power lam : ℕ) → BrentSoFar t power lam → t (power - 1) ≡ t (power - 1 + (lam + 1))
         → (lam + 1 ≡ period) × (entry ≤ power - 1)
     brent-found power lam B same = (

@@ -1,5 +1,5 @@
--- The first repeat of a sequence of trees, each of which determines the next: it is there if there are finitely many
--- trees; it is unique; from the entry on everything repeats with the period, and nothing else repeats. So whoever finds
+-- The first repeat of a sequence, each value of which determines the next: it is there if there are finitely many
+-- values; it is unique; from the entry on everything repeats with the period, and nothing else repeats. So whoever finds
 -- a repeat in constant memory, by Brent's search, finds this one.
 use mathlib.Core.Path.{_≡_, sym, _∙_, ap, subst}
 use mathlib.Core.Logic.{_⊎_, inl, inr, ⊎-elim}
@@ -8,7 +8,6 @@ use native.Mathlib.Omega.{arith}
 use native.Mathlib.Nat.{mod-lt, div-add-mod', mul-le-mul-right, add-suc, add-zero}
 use native.Mathlib.Decide.{decLe, decLt, ℕ-discrete, map-dec}
 use Rattle.word.proofs.Pigeonhole.{pigeonhole}
-use Rattle.history.specs.Tree.{Tree}
 use Rattle.history.specs.Rounds.{FirstRepeat}
 
 -- THE FIRST NUMBER WITH A PROPERTY
@@ -35,28 +34,39 @@ first-below P d (suc n) = go (first-below P d n) (d n)
 
 -- THERE IS A FIRST REPEAT
 
-module _ (t : ℕ → Tree) (code : Tree → ℕ) (injective : (i j : ℕ) → code (t i) ≡ code (t j) → t i ≡ t j) where
-  same-tree : (i j : ℕ) → Dec (t i ≡ t j)
-  same-tree i j = map-dec (injective i j) (ap code) (ℕ-discrete (code (t i)) (code (t j)))
+-- at once, or one place later
+pub repeat-at-once : {A : Type 0} (t : ℕ → A) → t 0 ≡ t 1 → FirstRepeat t 0 1
+repeat-at-once t same = record { positive = omega arith; back = same; first = λ i j l h e. omega arith }
 
-  -- is the tree at place j an earlier one?
+pub repeat-after-one : {A : Type 0} (t : ℕ → A) → (t 0 ≡ t 1 → ⊥) → t 1 ≡ t 2 → FirstRepeat t 1 1
+repeat-after-one t differ same = record { positive = omega arith; back = same; first = earlier }
+  where
+    earlier : (i j : ℕ) → i < j → j < 2 → t i ≡ t j → ⊥
+    earlier zero (suc zero) l h e = differ e
+    earlier zero (suc (suc j)) l h e = omega arith
+    earlier zero zero l h e = omega arith
+    earlier (suc i) j l h e = omega arith
+
+-- where values can be compared
+module _ {A : Type 0} (t : ℕ → A) (same? : (i j : ℕ) → Dec (t i ≡ t j)) where
+  -- is the value at place j an earlier one?
   Seen : ℕ → Type 0
   Seen j = First (λ i. t i ≡ t j) j
 
   seen : (j : ℕ) → Dec (Seen j)
   unfolding Seen
-  seen j =
-      ⊎-elim (λ f. yes f) (λ none. no (λ f. none (f .at) (f .below) (f .holds))) (first-below (λ i. t i ≡ t j) (λ i. same-tree i j) j)
+  seen j = ⊎-elim (λ f. yes f) (λ none. no (λ f. none (f .at) (f .below) (f .holds))) (first-below (λ i. t i ≡ t j) (λ i. same? i j) j)
 
   meet : (i j : ℕ) → i < j → t i ≡ t j → Seen j
   unfolding Seen
-  meet i j l e = ⊎-elim (λ f. f) (λ none. absurd (none i l e)) (first-below (λ i. t i ≡ t j) (λ i. same-tree i j) j)
+  meet i j l e = ⊎-elim (λ f. f) (λ none. absurd (none i l e)) (first-below (λ i. t i ≡ t j) (λ i. same? i j) j)
 
-  -- if the codes of trees stay below a bound, the first repeat comes by then
-  pub repeats : (bound : ℕ) → ((i : ℕ) → code (t i) < bound)
-      → (entry : ℕ) × (period : ℕ) × FirstRepeat t entry period × (entry + period ≤ bound)
+  -- the first repeat comes by some place, or the values up to there are all different
+  pub repeat-or-none : (bound : ℕ) → ((entry : ℕ) × (period : ℕ) × FirstRepeat t entry period × (entry + period ≤ bound))
+      ⊎ ((i j : ℕ) → i < j → j ≤ bound → t i ≡ t j → ⊥)
   unfolding Seen
-  repeats bound below = go (first-below Seen seen (suc bound)) (pigeonhole bound (λ i. code (t i)) (λ i _. below i))
+  repeat-or-none bound = ⊎-elim (λ f. inl (found f (f .holds))) (λ none. inr (λ i j l k e. none j (omega arith) (meet i j l e)))
+      (first-below Seen seen (suc bound))
     where
       found : (f : First Seen (suc bound)) → (s : First (λ i. t i ≡ t (f .at)) (f .at))
           → (entry : ℕ) × (period : ℕ) × FirstRepeat t entry period × (entry + period ≤ bound)
@@ -72,15 +82,17 @@ module _ (t : ℕ → Tree) (code : Tree → ℕ) (injective : (i j : ℕ) → c
             omega (arith, f .below),
           )
 
-      go : First Seen (suc bound) ⊎ ((j : ℕ) → j < suc bound → Seen j → ⊥)
-          → ((i : ℕ) × (j : ℕ) × (i < j) × (j ≤ bound) × (code (t i) ≡ code (t j)))
-          → (entry : ℕ) × (period : ℕ) × FirstRepeat t entry period × (entry + period ≤ bound)
-      go (inl f) _ = found f (f .holds)
-      go (inr none) (i, j, l, k, e) = absurd (none j (omega arith) (meet i j l (injective i j e)))
+-- if values have numbers below a bound, no two the same, it comes by then
+pub repeats : {A : Type 0} (t : ℕ → A) (code : A → ℕ) → ((i j : ℕ) → code (t i) ≡ code (t j) → t i ≡ t j)
+    → (bound : ℕ) → ((i : ℕ) → code (t i) < bound)
+    → (entry : ℕ) × (period : ℕ) × FirstRepeat t entry period × (entry + period ≤ bound)
+repeats t code injective bound below = ⊎-elim (λ found. found)
+    (λ none. let (i, j, l, k, e) = pigeonhole bound (λ i. code (t i)) (λ i _. below i) in absurd (none i j l k (injective i j e)))
+    (repeat-or-none t (λ i j. map-dec (injective i j) (ap code) (ℕ-discrete (code (t i)) (code (t j)))) bound)
 
 -- IT IS UNIQUE
 
-pub repeat-unique : (t : ℕ → Tree) (e p e′ p′ : ℕ) → FirstRepeat t e p → FirstRepeat t e′ p′ → (e ≡ e′) × (p ≡ p′)
+pub repeat-unique : {A : Type 0} (t : ℕ → A) (e p e′ p′ : ℕ) → FirstRepeat t e p → FirstRepeat t e′ p′ → (e ≡ e′) × (p ≡ p′)
 repeat-unique t e p e′ p′ F G = go (decLt (e + p) (e′ + p′)) (decLt (e′ + p′) (e + p)) (decLt e e′) (decLt e′ e)
   where
     go : Dec (e + p < e′ + p′) → Dec (e′ + p′ < e + p) → Dec (e < e′) → Dec (e′ < e) → (e ≡ e′) × (p ≡ p′)
@@ -96,8 +108,8 @@ repeat-unique t e p e′ p′ F G = go (decLt (e + p) (e′ + p′)) (decLt (e�
 
 -- WHAT REPEATS
 
-module _ (t : ℕ → Tree) (f : Tree → Tree) (next : (r : ℕ) → t (suc r) ≡ f (t r)) where
-  -- equal trees have equal trees behind them
+module _ {A : Type 0} (t : ℕ → A) (f : A → A) (next : (r : ℕ) → t (suc r) ≡ f (t r)) where
+  -- equal values have equal values behind them
   pub same-after : (i j d : ℕ) → t i ≡ t j → t (i + d) ≡ t (j + d)
   same-after i j zero e = rw (add-zero, add-zero) e
   same-after i j (suc d) e = simp (add-suc, next) (ap f (same-after i j d e))
@@ -149,7 +161,7 @@ module _ (t : ℕ → Tree) (f : Tree → Tree) (next : (r : ℕ) → t (suc r) 
             (d - c, omega arith, omega arith)
         go (no h) = absurd (omega (arith, mul-le-mul-right {m = d} {n = c} period (omega arith)))
 
-    -- and nothing else: equal trees stand from the entry on, full periods apart
+    -- and nothing else: equal values stand from the entry on, full periods apart
     pub repeat-only : (i j : ℕ) → i < j → t i ≡ t j → (entry ≤ i) × ((d : ℕ) × (1 ≤ d) × (j ≡ i + d * period))
     repeat-only i j l e = go (decLe entry i) (decLt j (entry + period))
       where
@@ -174,12 +186,12 @@ module _ (t : ℕ → Tree) (f : Tree → Tree) (next : (r : ℕ) → t (suc r) 
 
     -- SEARCH
 
-    -- no tree comes back sooner than after a period
+    -- no value comes back sooner than after a period
     pub period-first : (i l : ℕ) → 1 ≤ l → t i ≡ t (i + l) → period ≤ l
     period-first i l p e =
         let (_, s) = repeat-only i (i + l) (omega arith) e in omega (arith, s .2, mul-le-mul-right {m = 1} {n = s .0} period (s .1))
 
-    -- Brent: where a tree comes back for the first time, the distance is the period
+    -- Brent: where a value comes back for the first time, the distance is the period
     pub brent : (i l : ℕ) → 1 ≤ l → t i ≡ t (i + l) → ((m : ℕ) → 1 ≤ m → m < l → t i ≡ t (i + m) → ⊥) → period ≡ l
     brent i l p e least = go (decLt period l)
       where

@@ -22,7 +22,7 @@ unfoldable pub treeInRound : Rule → List ℕ → List ℕ → ℕ → ℕ → 
 treeInRound R u v r i = readLetters R (take i v) (roundTree R u v r)
 
 -- "The period p and entry e: t(e+p) is the first tree equal to an earlier one, t(e)."
-pub record FirstRepeat (t : ℕ → Tree) (entry period : ℕ) : Type 0 where
+pub record FirstRepeat {A : Type 0} (t : ℕ → A) (entry period : ℕ) : Type 0 where
   pub positive : 1 ≤ period
   pub back : t entry ≡ t (entry + period)
   pub first : (i j : ℕ) → i < j → j < entry + period → t i ≡ t j → ⊥

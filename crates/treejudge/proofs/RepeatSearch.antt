@@ -20,7 +20,8 @@ use Rattle.history.specs.Following.{acceptedMap}
 use Rattle.history.proofs.TreesOfWalk.{round-next}
 use Rattle.history.proofs.RepeatExists.{repeat-exists}
 use Rattle.history.proofs.CycleVerdict.{member-node, verdict-yes, verdict-no}
-use Rattle.history.proofs.CutCycle.{cut-round, cut-rest, repeat-first, repeat-second, cut-repeat, cut-first, cut-none}
+use Rattle.history.proofs.FirstRepeats.{repeat-at-once}
+use Rattle.history.proofs.CutCycle.{cut-round, cut-rest, repeat-second, cut-first, cut-none}
 use Rattle.word.specs.WalkTables.{Tables, Tabled}
 use Rattle.tree.specs.Rows.{HoldsTree}
 use Rattle.treejudge.specs.Reading.{Reads, ReadsTo}
@@ -135,7 +136,7 @@ module _ (R : Rule) (u head rest : List ℕ) (tables : Tables) (k : ℕ) (first 
                 → RepeatOf R u (head ++ rest) (record { tree = cut; accepted = again .accepted; entry = entry; period = 1 })
             repeat-at entry F late =
                 let h = A .holds in
-                let G = cut-repeat R u head rest meet in
+                let G = repeat-at-once s meet in
                 let node : (j : ℕ) → member (again .accepted) j ≡ true → j < size (s 0) =
                 λ j m. member-node R (u ++ head) (rest ++ head) 0 1 G 0 (omega arith) j (rw accepted-is at m) in
                 record {
@@ -154,7 +155,7 @@ module _ (R : Rule) (u head rest : List ℕ) (tables : Tables) (k : ℕ) (first 
             repeat-told : (still : Bool)
                 → still ≡ sameTrees first (treeOf second)
                 → RepeatOf R u (head ++ rest) (record { tree = cut; accepted = again .accepted; entry = cond (not still) 1 0; period = 1 })
-            repeat-told true is = repeat-at 0 (repeat-first R u head rest meet
+            repeat-told true is = repeat-at 0 (repeat-at-once t
                 (same-rows-same R (t 0) (t 1) first _ (A .holds .limits .sets) (A .tree) second-holds (sym is))) (omega arith)
             repeat-told false is = repeat-at 1 (repeat-second R u head rest meet
                 (λ e. clash (sym is) (same-trees-same R (t 1) first _ (rw e at (A .tree)) second-holds))) (omega arith)
