@@ -1,10 +1,11 @@
--- A loop of a walk, letter by letter: the run that goes around it for ever, from the end of some round on, and the ways into it.
+-- A loop of a walk, letter by letter: the ways into it, and the run that goes around it for ever beside the trees of the walk, from the
+-- end of some round on. The loop may be one of another rule than the trees.
 use mathlib.Core.Path.{_≡_, sym, _∙_, ap}
 use mathlib.Core.Bool.{true}
 use mathlib.Core.List.{List, _++_, append-assoc}
 use Prim.Native.Nat.{ℕ, suc, _+_, _*_, _%_, _≤_, _<_}
 use native.Mathlib.Omega.{arith}
-use native.Mathlib.Nat.{zero-mod, suc-mod, mod-self, mod-lt, mod-eq-of-lt, add-mod-right, mul-pos}
+use native.Mathlib.Nat.{zero-mod, suc-mod, mod-self, mod-lt, mod-eq-of-lt, add-mul-mod-self-right, mul-pos, mul-le-mul-right}
 use native.Mathlib.Decide.{decLt}
 use lib.Bits.{bitOr}
 use lib.ListN.{length, getD}
@@ -17,7 +18,9 @@ use Rattle.word.proofs.Paths.{rounds-add, leads-append, leads-repeat}
 use Rattle.word.proofs.Periods.{Periodic}
 use Rattle.word.proofs.Positions.{letter-cycle, letter-unrolled, length-rounds}
 use Rattle.word.proofs.Traces.{Trace, place-of, leads-trace}
+use Rattle.history.specs.Rounds.{roundTree, FirstRepeat}
 use Rattle.history.proofs.Stretches.{length-lead}
+use Rattle.history.proofs.TreesOfWalk.{treeAt, walk-periodic}
 
 -- THE WAYS INTO IT
 
@@ -38,13 +41,19 @@ next-place m state positive back d = ap state (suc-mod d m) ∙ go (decLt (suc (
     go (yes l) = ap state (mod-eq-of-lt l)
     go (no l) = let e : suc (d % m) ≡ m = omega (arith, mod-lt d positive) in rw (e, mod-self) (sym back)
 
--- the states of a run over some letters that begins in a state, returns after a period, and takes these sets
-pub record Around (R : Rule) (letter : ℕ → ℕ) (period begin sets : ℕ) : Type 0 where
+-- from the end of round r on: the letters of the walk, the trees of R, and the states of a run of S around a loop that begins in a state
+-- and takes some sets. All return after one period.
+pub record Around (R S : Rule) (u v : List ℕ) (r begin sets : ℕ) : Type 0 where
+  pub period : ℕ
+  pub positive : 0 < period
+  pub letter-back : Periodic period (λ d. letterAt u v (length u + r * length v + d))
+  pub tree-back : Periodic period (λ d. treeAt R u v (length u + r * length v + d))
   pub state : ℕ → ℕ
+  pub state-back : Periodic period state
   pub begins : state 0 ≡ begin
-  pub moves : (d : ℕ) → edge (R .grid) (letter d) (state d) (state (suc d)) ≡ true
-  pub takes : (i : ℕ) → member sets i ≡ true → (d : ℕ) × (edgeIn (R .grid) (suc i) (letter d) (state d) (state (suc d)) ≡ true)
-  pub back : Periodic period state
+  pub moves : (d : ℕ) → edge (S .grid) (letterAt u v (length u + r * length v + d)) (state d) (state (suc d)) ≡ true
+  pub takes : (i : ℕ) → member sets i ≡ true
+      → (d : ℕ) × (edgeIn (S .grid) (suc i) (letterAt u v (length u + r * length v + d)) (state d) (state (suc d)) ≡ true)
 
 module _ (u v : List ℕ) (filled : 1 ≤ length v) (turns : ℕ) (positive : 1 ≤ turns) (r : ℕ) where
   -- the letters of one turn
@@ -62,24 +71,32 @@ module _ (u v : List ℕ) (filled : 1 ≤ length v) (turns : ℕ) (positive : 1 
       ∙ ap (λ x. letterAt (u ++ rounds r v) (rounds turns v) (x + d)) (sym (length-lead u v r))
       ∙ letter-cycle (u ++ rounds r v) (rounds turns v) d
 
-  -- from the end of any round on the run can go around
-  pub around : (R : Rule) (begin sets : ℕ) → Leads R (rounds turns v) begin sets begin
-      → Around R (λ d. letterAt u v (length u + r * length v + d)) (turns * length v) begin sets
+  -- the run around a loop, from the end of a round on from which the trees repeat: all return after p turns of the loop
+  pub around : (R S : Rule) (entry period : ℕ) → FirstRepeat (roundTree R u v) entry period → entry ≤ r
+      → (begin sets : ℕ) → Leads S (rounds turns v) begin sets begin → Around R S u v r begin sets
   unfolding turn
-  around R begin sets loop = record {
+  around R S entry period F late begin sets loop = record {
+    period = period * length turn;
+    positive = mul-pos (F .positive) turn-filled;
+    letter-back = λ d. rw (letter (d + period * length turn), letter d, add-mul-mod-self-right);
+    tree-back = λ d.
+        let from = length u + r * length v in
+        let e : from + (d + period * length turn) ≡ from + d + turns * (period * length v) = rw length-rounds (omega arith) in
+        ap (treeAt R u v) e ∙ walk-periodic R u v filled entry period F turns (from + d)
+        (omega (arith, mul-le-mul-right (length v) late));
     state = state;
+    state-back = λ d. ap (trace .state) (add-mul-mod-self-right d period (length turn));
     begins = ap (trace .state) (zero-mod (length turn)) ∙ trace .enters;
     moves = moves;
     takes = λ i h.
-        let (q, l, in-set) = place-of R turn (trace .state) i (rw (trace .sets) at h) in
+        let (q, l, in-set) = place-of S turn (trace .state) i (rw (trace .sets) at h) in
         let e : q % length turn ≡ q = mod-eq-of-lt l in
         let now : state q ≡ trace .state q = ap (trace .state) e in
-        (q, member-edgeIn (R .grid) i _ _ _ (moves q) (rw (letter q, next q, now, e) in-set));
-    back = rw (← length-rounds turns v) (λ d. ap (trace .state) (add-mod-right d (length turn)));
+        (q, member-edgeIn (S .grid) i _ _ _ (moves q) (rw (letter q, next q, now, e) in-set));
   }
     where
-      trace : Trace R turn begin sets begin
-      trace = leads-trace R (rounds turns v) begin sets begin loop
+      trace : Trace S turn begin sets begin
+      trace = leads-trace S (rounds turns v) begin sets begin loop
 
       state : ℕ → ℕ
       state d = trace .state (d % length turn)
@@ -87,5 +104,5 @@ module _ (u v : List ℕ) (filled : 1 ≤ length v) (turns : ℕ) (positive : 1 
       next : (d : ℕ) → state (suc d) ≡ trace .state (suc (d % length turn))
       next = next-place (length turn) (trace .state) turn-filled (trace .leaves ∙ sym (trace .enters))
 
-      moves : (d : ℕ) → edge (R .grid) (letterAt u v (length u + r * length v + d)) (state d) (state (suc d)) ≡ true
+      moves : (d : ℕ) → edge (S .grid) (letterAt u v (length u + r * length v + d)) (state d) (state (suc d)) ≡ true
       moves d = rw (letter d, next d) (trace .moves (d % length turn) (mod-lt d turn-filled))

@@ -13,19 +13,20 @@ use native.Mathlib.Numerals.{add-one}
 use native.Mathlib.Decide.{decLt, ℕ-discrete}
 use borrow.Author.Tests.{lt-ltb, le-ltb}
 use lib.Bits.{bitOr}
+use lib.ListN.{length}
 use Rattle.table.specs.BitSet.{member, Subset}
 use Rattle.table.specs.Rule.{Grid, Rule, edge, edgeIn, cellAt, successors}
 use Rattle.table.proofs.Logic.{look, clash, or-l, or-r}
 use Rattle.table.proofs.BitSet.{member-none, member-union}
 use Rattle.table.proofs.Edges.{edgeIn-edge, edgeIn-member}
-use Rattle.word.specs.Walk.{rounds}
+use Rattle.word.specs.Walk.{letterAt, rounds}
 use Rattle.word.specs.Loop.{Leads}
-use Rattle.word.proofs.Paths.{leads-one, leads-append}
+use Rattle.word.proofs.Paths.{rounds-mul, leads-one, leads-append}
 use Rattle.word.proofs.Pigeonhole.{pigeonhole}
 use Rattle.history.specs.Tree.{labels}
 use Rattle.history.specs.Letter.{nextSet}
 use Rattle.history.proofs.LocalStep.{Branch, newLabel, sproutOf, accepts, stepBranch}
-use Rattle.history.proofs.Stretches.{stretch}
+use Rattle.history.proofs.Stretches.{stretch, stretch-rounds}
 use Rattle.history.proofs.OneNode.{successors-out, successorsIn-out, step-accepting, step-quiet, label-from, below-from, accepted-from}
 
 -- THE ACTIVE SETS
@@ -263,3 +264,13 @@ module _ (R : Rule) (letter : ℕ → ℕ) (node : ℕ → Branch) (older : ℕ 
                 subst (λ x. member (p .sets) (pred x) ≡ true) e (p .takes j from (omega arith));
           },
         )
+
+-- OVER THE ROUNDS OF A WALK
+
+-- a return over j times p rounds, from the end of a round on, is a path over tails
+pub return-rounds : (R : Rule) (u v : List ℕ) (r j p label : ℕ) → 1 ≤ length v → 1 ≤ j * p
+    → (x : Return R label (stretch (λ d. letterAt u v (length u + r * length v + d)) (j * (p * length v))))
+    → Leads R (rounds (x .turns * (j * p)) v) (x .state) (x .sets) (x .state)
+return-rounds R u v r j p label filled positive x =
+    let e : j * (p * length v) ≡ j * p * length v = omega arith in
+    rw (rounds-mul, ← stretch-rounds u v filled r (j * p) positive, ← e) (x .path)

@@ -13,7 +13,6 @@ use Rattle.table.specs.Table.{WellFormed}
 use Rattle.table.proofs.BitSet.{member-lt}
 use Rattle.word.specs.Walk.{letterAt}
 use Rattle.word.specs.Loop.{Loop}
-use Rattle.word.proofs.Paths.{rounds-mul}
 use Rattle.history.specs.Tree.{labels}
 use Rattle.history.specs.Rounds.{roundTree, FirstRepeat}
 use Rattle.history.specs.Verdict.{Witness}
@@ -21,8 +20,8 @@ use Rattle.history.proofs.Conditions.{IsTree}
 use Rattle.history.proofs.StableNames.{stable-local}
 use Rattle.history.proofs.AcceptingNames.{accepting-local}
 use Rattle.history.proofs.LocalStep.{step, keptAmong}
-use Rattle.history.proofs.Stretches.{stretch, stretch-lead, stretch-rounds}
-use Rattle.history.proofs.BetweenAccepting.{Return}
+use Rattle.history.proofs.Stretches.{stretch, stretch-lead}
+use Rattle.history.proofs.BetweenAccepting.{Return, return-rounds}
 use Rattle.history.proofs.Siblings.{name-returns}
 use Rattle.history.proofs.TreesOfWalk.{treeAt, walk-periodic}
 use Rattle.history.proofs.WitnessByPosition.{Lasts, witness-lasts}
@@ -61,7 +60,6 @@ module _ (R : Rule) (well : WellFormed R) (sets : 1 ≤ R .sets) (u v : List ℕ
   witness-loop =
       let x = returns in
       let (s, c, starts, path) = state-reached R well sets u v begin (x .state) (x .held) in
-      let e : suc (R .sets) * (period * length v) ≡ suc (R .sets) * period * length v = omega arith in
       let many = mul-pos {m = suc (R .sets)} (omega arith) (F .positive) in
       record {
         origin = s;
@@ -73,6 +71,6 @@ module _ (R : Rule) (well : WellFormed R) (sets : 1 ≤ R .sets) (u v : List ℕ
         starts = starts;
         positive = mul-pos (x .positive) many;
         leads = rw (stretch-lead u v filled entry) at path;
-        loops = rw (rounds-mul, ← stretch-rounds u v filled entry (suc (R .sets) * period) many, ← e) (x .path);
+        loops = return-rounds R u v entry (suc (R .sets)) period _ filled many x;
         every = x .every;
       }
