@@ -1,4 +1,5 @@
--- The conditions on trees as statements: what the tests `nodesFit` and `isTree` say, and that they say it.
+-- The conditions on trees as statements: what the tests `nodesFit` and `isTree` say, and that they say it; and what of it the laws of
+-- records need.
 use mathlib.Core.Path.{_≡_, refl}
 use mathlib.Core.Bool.{true, false, not, _&&_}
 use Prim.Native.Nat.{ℕ, _≤_, _<_, _^_}
@@ -106,17 +107,6 @@ pub record IsTree (n k : ℕ) (T : Tree) : Type 0 where
   pub states : labels T < 2 ^ n
   pub fits : Fits k T
 
--- what the laws of records ask of it: the labels are nested, strictly or not
-pub record NestedTree (n k : ℕ) (T : Tree) : Type 0 where
-  pub one-root : OneRoot T
-  pub states : labels T < 2 ^ n
-  pub active : Active k T
-  pub nested : Nested T
-
-pub tree-nested : (n k : ℕ) (T : Tree) → IsTree n k T → NestedTree n k T
-tree-nested n k T t =
-    record { one-root = t .one-root; states = t .states; active = fits-active k T (t .fits); nested = fits-nested k T (t .fits) }
-
 -- from the test to the statement
 pub tree-out : (n k : ℕ) (T : Tree) → isTree n k T ≡ true → IsTree n k T
 unfolding isTree labels
@@ -133,3 +123,14 @@ tree-in n k nil t = refl
 tree-in n k (node x below nil) t =
     and-both (ltb (x .label) (2 ^ n)) _ (lt-ltb (x .label) (2 ^ n) (rw or-zero-r at (t .states))) (fits-in k (node x below nil) (t .fits))
 tree-in n k (node x below (node y other younger)) t = absurd (t .one-root)
+
+-- what the laws of records ask of a tree: its labels are nested, strictly or not
+pub record NestedTree (n k : ℕ) (T : Tree) : Type 0 where
+  pub one-root : OneRoot T
+  pub states : labels T < 2 ^ n
+  pub active : Active k T
+  pub nested : Nested T
+
+pub tree-nested : (n k : ℕ) (T : Tree) → IsTree n k T → NestedTree n k T
+tree-nested n k T t =
+    record { one-root = t .one-root; states = t .states; active = fits-active k T (t .fits); nested = fits-nested k T (t .fits) }
