@@ -1,7 +1,7 @@
 -- The judge on a read table: what its calls need, and that its verdict is right for every rule that the table holds.
 use mathlib.Core.Path.{_≡_, sym, _∙_}
 use mathlib.Core.List.{List}
-use Prim.Native.Nat.{ℕ, _^_, _≤_, _<_}
+use Prim.Native.Nat.{ℕ, _≤_, _<_}
 use native.Mathlib.Omega.{arith}
 use lib.ListN.{getD}
 use Rattle.table.specs.Limits.{maxStates, maxLetters, maxSets}
@@ -16,7 +16,7 @@ use Rattle.word.specs.WalkTables.{Tables, Tabled, tablesAfter}
 use Rattle.word.proofs.WalkTables.{tables-for}
 use Rattle.word.proofs.Verdicts.{decides-same}
 use Rattle.plain.specs.Ways.{ways, AreWays}
-use Rattle.plain.specs.Letters.{statesAfter, rowAfter}
+use Rattle.plain.specs.Letters.{statesAfter, ownRow, rowAfter}
 use Rattle.plain.specs.Rounds.{widened}
 use Rattle.plain.specs.Search.{SomeLoop}
 use Rattle.plain.specs.Walks.{Walks}
@@ -60,7 +60,7 @@ module _ {R : Rule} {header : Header} {tables : Tables} {u v : List ℕ} (w : Wa
 
   -- what is found is a loop of the rule, and a loop is found
   pub verdict-right : (verdict from : ℕ) (tail wide : List ℕ) → from ≡ statesAfter tables u (header .start)
-      → ((s : ℕ) → s < header .states → getD tail s 0 ≡ rowAfter tables v (2 ^ s))
+      → ((s : ℕ) → s < header .states → getD tail s 0 ≡ rowAfter tables v (ownRow s))
       → AreWays (header .states) (widened (header .states) (ways tail)) wide
       → Decides verdict (SomeLoop (ways wide) (header .states) (header .sets) from) → Decides verdict (Loop R u v)
   unfolding ways
@@ -75,7 +75,7 @@ module _ {R : Rule} {header : Header} {tables : Tables} {u v : List ℕ} (w : Wa
             (states-in R (w .limits .well) (w .limits .states) tables u (R .start) origin c t (w .lead) m p);
       }
 
-      row : (s : ℕ) → s < R .states → getD tail s 0 ≡ rowAfter tables v (2 ^ s)
+      row : (s : ℕ) → s < R .states → getD tail s 0 ≡ rowAfter tables v (ownRow s)
       row = rw (w .numbers) at rows
 
       one : TailWays R v (ways tail)

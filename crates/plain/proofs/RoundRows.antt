@@ -1,63 +1,52 @@
 -- The rows of one or more tails (specs/Rounds.antt), as the code makes them: products keep maps or drop them, and the rows have
 -- the ways that may pass one state after the other.
-use mathlib.Core.Path.{_≡_, sym, _∙_, ap, ap₂}
+use mathlib.Core.Path.{_≡_, _∙_, ap, ap₂}
 use mathlib.Core.Bool.{Bool, _&&_, _||_}
 use mathlib.Core.List.{List}
-use Prim.Native.Nat.{ℕ, suc, _+_, _*_, _/_, _%_, _^_, _≤_, _<_}
+use Prim.Native.Nat.{ℕ, suc, _+_, _*_, _≤_, _<_}
 use native.Mathlib.Numerals.{add-one}
 use native.Mathlib.Omega.{arith}
-use lib.Bits.{bitAnd}
 use lib.ListN.{getD}
-use Rattle.table.specs.Lookup.{mapOf}
-use Rattle.table.specs.Limits.{maxStates, maxSets}
+use Rattle.table.specs.Lanes.{laneWidth, mapOf, chosenLanes, eachLane, lanesWith, inLanes}
+use Rattle.table.specs.Limits.{maxSets}
 use Rattle.table.specs.BitSet.{member}
 use Rattle.table.proofs.BitSet.{member-none, member-union}
-use Rattle.plain.specs.Ways.{Ways, joined, packed, marks, ways, AreWays, Changed}
+use Rattle.table.proofs.LaneLaws.{map-lt, map-none, map-union, kept-in, chosen-kept, lanes-with-state, in-lanes-member}
+use Rattle.plain.specs.Ways.{Ways, joined, ways, AreWays, Changed}
 use Rattle.plain.specs.Rounds.{passing, widened, continued}
-use Rattle.plain.proofs.RowLaws.{map-zero, map-none, map-union, packed-at, packed-times, packed-marks, mark, column, kept, kept-le}
 
 -- ONE ROW
 
 -- what stands in a continued row: what the row has, and what the two rows have one behind the other
-continued-at : (row m behind i t : ℕ) → m < maxStates → i ≤ maxSets
+continued-at : (row m behind i t : ℕ) → m < laneWidth → i ≤ maxSets
     → member (mapOf (continued row m behind) i) t
     ≡ (member (mapOf row i) t || joined (λ i. member (mapOf row i) m) (λ i. member (mapOf behind i) t) i)
-unfolding continued joined marks packed
+unfolding continued joined
 continued-at row m behind i t m-lt h = ap (λ (x : ℕ). member x t) (map-union row _ i) ∙ member-union (mapOf row i) _ t
     ∙ ap (λ (b : Bool). member (mapOf row i) t || b)
     (ap (λ (x : ℕ). member x t) (map-union _ _ i) ∙ member-union _ _ t ∙ ap₂ (λ (a b : Bool). a || b) first second)
   where
     way : ℕ
-    way = bitAnd (row / 2 ^ m) (marks (suc maxSets))
+    way = lanesWith row m (eachLane (suc maxSets))
 
-    bits : ℕ → ℕ
-    bits = mark (row / 2 ^ m)
+    to : ℕ → Bool
+    to i = member (mapOf row i) m
 
-    are : way ≡ packed (suc maxSets) bits
-    are = packed-marks (row / 2 ^ m) (suc maxSets)
+    are : way ≡ chosenLanes (suc maxSets) to
+    are = lanes-with-state row m (suc maxSets) m-lt
 
-    low : ℕ
-    low = behind % 2 ^ maxStates
+    first : member (mapOf (behind * mapOf way 0) i) t ≡ (member (mapOf row 0) m && member (mapOf behind i) t)
+    first = ap (λ (x : ℕ). member (mapOf x i) t) (ap (λ (x : ℕ). behind * mapOf x 0) are ∙ chosen-kept behind (suc maxSets) to 0 (omega arith))
+        ∙ kept-in (λ x. member (mapOf x i) t) (ap (λ (x : ℕ). member x t) (map-none i) ∙ member-none t) behind (to 0)
 
-    lowest : way % 2 ≡ bits 0
-    lowest = rw are (omega arith)
-
-    first : member (mapOf (behind * (way % 2)) i) t ≡ (member (mapOf row 0) m && member (mapOf behind i) t)
-    first = ap (λ (x : ℕ). member (mapOf (behind * x) i) t) lowest
-        ∙ kept behind (bits 0) (omega arith) (λ x. member (mapOf x i) t) (ap (λ (x : ℕ). member x t) (map-none i) ∙ member-none t)
-        ∙ ap (λ (b : Bool). b && member (mapOf behind i) t) (column row m 0 m-lt)
-
-    second : member (mapOf (low * way) i) t ≡ (member (mapOf row i) m && member (mapOf behind 0) t)
-    second = ap (λ (x : ℕ). member (mapOf x i) t) (ap (λ (x : ℕ). low * x) are ∙ packed-times low (suc maxSets) bits)
-        ∙ ap (λ (x : ℕ). member x t) (packed-at (suc maxSets) (λ i. low * bits i) i
-        (λ j. omega (arith, kept-le low (bits j) (omega arith))) (omega arith))
-        ∙ kept low (bits i) (omega arith) (λ x. member x t) (member-none t)
-        ∙ ap₂ (λ (a b : Bool). a && b) (column row m i m-lt) (ap (λ (x : ℕ). member x t) (sym (map-zero behind)))
+    second : member (mapOf (inLanes (mapOf behind 0) way) i) t ≡ (member (mapOf row i) m && member (mapOf behind 0) t)
+    second = ap (λ (x : ℕ). member (mapOf (inLanes (mapOf behind 0) x) i) t) are
+        ∙ in-lanes-member (mapOf behind 0) (suc maxSets) to i t (map-lt behind 0) (omega arith)
 
 -- ALL ROWS
 
 -- one state more that may be passed
-pub through-ways : (m n behind : ℕ) (before after : List ℕ) → m < maxStates → behind ≡ continued (getD before m 0) m (getD before m 0)
+pub through-ways : (m n behind : ℕ) (before after : List ℕ) → m < laneWidth → behind ≡ continued (getD before m 0) m (getD before m 0)
     → Changed (λ row. continued row m behind) n before after → AreWays n (passing m (ways before)) after
 unfolding passing ways joined
 through-ways m n behind before after m-lt own changed s t i s-lt h =

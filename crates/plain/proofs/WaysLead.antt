@@ -1,26 +1,29 @@
 -- Letters read by their tables lead where the paths of the rule lead: the states after the lead-in, and the rows of a tail.
-use mathlib.Core.Path.{_≡_, refl, sym, _∙_, subst}
+use mathlib.Core.Path.{_≡_, refl, sym, _∙_, ap, subst}
 use mathlib.Core.Logic.{_⊎_, ⊎-elim, inl, inr}
-use mathlib.Core.Bool.{true}
+use mathlib.Core.Bool.{Bool, true, _&&_}
 use mathlib.Core.List.{List, [], _∷_}
-use Prim.Native.Nat.{ℕ, zero, suc, _+_, _*_, _^_, _≤_, _<_}
+use Prim.Native.Nat.{ℕ, zero, suc, _^_, _≤_, _<_}
 use native.Mathlib.Omega.{arith}
 use borrow.Author.Tests.{eqb-true, eq-eqb}
 use lib.Bits.{bitOr}
+use lib.Dec.{eqb}
 use lib.ListN.{getD}
-use Rattle.table.specs.Limits.{maxStates, maxSets}
+use lib.Pow.{pow-lt}
+use Rattle.table.specs.Limits.{maxSets}
 use Rattle.table.specs.BitSet.{member}
-use Rattle.table.specs.Lookup.{mapOf, LetterTable, lookUp}
+use Rattle.table.specs.Lanes.{laneWidth, mapOf}
+use Rattle.table.specs.Lookup.{LetterTable, lookUp}
 use Rattle.table.specs.Rule.{Rule, cellAt, edge, edgeIn, successors, successorsIn}
 use Rattle.table.specs.Table.{Every, WellFormed}
-use Rattle.table.proofs.BitSet.{member-none, member-single, member-union, member-lt, image-in, image-out}
+use Rattle.table.proofs.BitSet.{member-none, member-single, member-union, image-in, image-out}
 use Rattle.table.proofs.Edges.{edge-inside, edgeIn-edge, edgeIn-member, member-edgeIn}
-use Rattle.table.proofs.Logic.{clash, or-l, or-r, or-in}
+use Rattle.table.proofs.LaneLaws.{in-lane-member}
+use Rattle.table.proofs.Logic.{clash, and-in, or-l, or-r, or-in}
 use Rattle.table.proofs.LookupTable.{look-up-successors, look-up-successors-in}
 use Rattle.word.specs.Loop.{Leads}
 use Rattle.word.specs.WalkTables.{Tables, Tabled}
-use Rattle.plain.specs.Letters.{over, statesAfter, extended, rowAfter}
-use Rattle.plain.proofs.RowLaws.{map-member}
+use Rattle.plain.specs.Letters.{over, statesAfter, ownRow, extended, rowAfter}
 use Rattle.plain.proofs.LetterLaws.{onward-in, onward-out, extended-at}
 use Rattle.plain.proofs.WayLaws.{Takes, takes-union, takes-apart}
 
@@ -29,17 +32,18 @@ abbrev Behind : ℕ → ℕ → ℕ → ℕ → Type 0
 Behind row q c i = (member (mapOf row i) q ≡ true) ⊎ ((member (mapOf row 0) q ≡ true) × Takes c i)
 
 -- the row of no letter: its state by relation 0
-own-out : (s i t : ℕ) → s < maxStates → member (mapOf (2 ^ s) i) t ≡ true → (s ≡ t) × (i ≡ 0)
-own-out s i t s-lt m =
-    let t-lt : t < maxStates = member-lt maxStates (mapOf (2 ^ s) i) t (omega arith) m in
-    let e : s ≡ maxStates * i + t = eqb-true _ _ (sym (member-single s (maxStates * i + t)) ∙ sym (map-member (2 ^ s) i t t-lt) ∙ m) in
-    (omega arith, omega arith)
+own-at : (s i t : ℕ) → s < laneWidth → member (mapOf (ownRow s) i) t ≡ (eqb i 0 && eqb s t)
+unfolding ownRow
+own-at s i t s-lt = in-lane-member (2 ^ s) 0 i t (pow-lt s-lt) ∙ ap (λ (b : Bool). eqb i 0 && b) (member-single s t)
 
-own-in : (s : ℕ) → s < maxStates → member (mapOf (2 ^ s) 0) s ≡ true
-own-in s s-lt = let e : s ≡ maxStates * 0 + s = omega arith in
-    map-member (2 ^ s) 0 s s-lt ∙ member-single s (maxStates * 0 + s) ∙ eq-eqb s (maxStates * 0 + s) e
+own-out : (s i t : ℕ) → s < laneWidth → member (mapOf (ownRow s) i) t ≡ true → (s ≡ t) × (i ≡ 0)
+own-out s i t s-lt m = let (lowest, same) = and-in (eqb i 0) (eqb s t) (sym (own-at s i t s-lt) ∙ m) in
+    (eqb-true s t same, eqb-true i 0 lowest)
 
-module _ (R : Rule) (well : WellFormed R) (states : R .states ≤ maxStates) (tables : Tables) where
+own-in : (s : ℕ) → s < laneWidth → member (mapOf (ownRow s) 0) s ≡ true
+own-in s s-lt = own-at s 0 s s-lt ∙ eq-eqb s s refl
+
+module _ (R : Rule) (well : WellFormed R) (states : R .states ≤ laneWidth) (tables : Tables) where
   -- ONE LETTER
 
   module _ (a : ℕ) (tabled : Tabled R tables a) where
@@ -56,7 +60,7 @@ module _ (R : Rule) (well : WellFormed R) (states : R .states ≤ maxStates) (ta
         (q, inside, e, tt)
     look-out (suc i) S r h m =
         let (q, _, _, inside, e) = image-out (R .states) (edgeIn (R .grid) (suc i) a) S r
-        (rw (tabled .entries, look-up-successors-in R well states (suc i) a S (omega arith) h) at m) in
+        (rw (tabled .entries, look-up-successors-in R well states (suc i) a S (omega arith) (omega arith)) at m) in
         (q, inside, edgeIn-edge (R .grid) (suc i) a q r e, edgeIn-member (R .grid) i a q r e)
 
     look-in : (i S q r : ℕ) → i ≤ maxSets → member S q ≡ true → edge (R .grid) a q r ≡ true → Takes (cellAt (R .grid) a q r) i
@@ -67,7 +71,7 @@ module _ (R : Rule) (well : WellFormed R) (states : R .states ≤ maxStates) (ta
         rw (tabled .entries, look-up-successors R well states a S) (image-in (R .states) (edge (R .grid) a) S q r q-lt r-lt m e)
     look-in (suc i) S q r h m e takes =
         let (_, q-lt, r-lt) = edge-inside R well a q r e in
-        rw (tabled .entries, look-up-successors-in R well states (suc i) a S (omega arith) h)
+        rw (tabled .entries, look-up-successors-in R well states (suc i) a S (omega arith) (omega arith))
         (image-in (R .states) (edgeIn (R .grid) (suc i) a) S q r q-lt r-lt m (member-edgeIn (R .grid) i a q r e takes))
 
     -- the ways of a row with the letter behind it: a way of the row, and a transition behind it
@@ -144,14 +148,14 @@ module _ (R : Rule) (well : WellFormed R) (states : R .states ≤ maxStates) (ta
           (takes-apart x d i (subst (λ c. Takes c i) z takes))
 
   -- the ways of the tail from one state
-  module _ (v : List ℕ) (fit : Every (Tabled R tables) v) (s : ℕ) (s-lt : s < maxStates) where
-    pub tail-out : (t i : ℕ) → i ≤ maxSets → member (mapOf (rowAfter tables v (2 ^ s)) i) t ≡ true
+  module _ (v : List ℕ) (fit : Every (Tabled R tables) v) (s : ℕ) (s-lt : s < laneWidth) where
+    pub tail-out : (t i : ℕ) → i ≤ maxSets → member (mapOf (rowAfter tables v (ownRow s)) i) t ≡ true
         → (c : ℕ) × Leads R v s c t × Takes c i
-    tail-out t i h m = let (q, c, p, either) = row-out v (2 ^ s) t i fit h m in go q c p either
+    tail-out t i h m = let (q, c, p, either) = row-out v (ownRow s) t i fit h m in go q c p either
       where
-        go : (q c : ℕ) → Leads R v q c t → Behind (2 ^ s) q c i → (c : ℕ) × Leads R v s c t × Takes c i
+        go : (q c : ℕ) → Leads R v q c t → Behind (ownRow s) q c i → (c : ℕ) × Leads R v s c t × Takes c i
         go q c p (inl k) = let (e, z) = own-out s i q s-lt k in (c, rw e p, rw z tt)
         go q c p (inr (k, takes)) = let (e, _) = own-out s 0 q s-lt k in (c, rw e p, takes)
 
-    pub tail-in : (c t i : ℕ) → i ≤ maxSets → Leads R v s c t → Takes c i → member (mapOf (rowAfter tables v (2 ^ s)) i) t ≡ true
-    tail-in c t i h p takes = row-in v (2 ^ s) s c t i fit h p (inr (own-in s s-lt, takes))
+    pub tail-in : (c t i : ℕ) → i ≤ maxSets → Leads R v s c t → Takes c i → member (mapOf (rowAfter tables v (ownRow s)) i) t ≡ true
+    tail-in c t i h p takes = row-in v (ownRow s) s c t i fit h p (inr (own-in s s-lt, takes))

@@ -1,9 +1,10 @@
 -- One or more tails, inside the plain judge: the ways that may pass some states between two tails.
 use mathlib.Core.Bool.{_||_}
-use Prim.Native.Nat.{ℕ, zero, suc, _*_, _/_, _%_, _^_}
-use lib.Bits.{bitAnd, bitOr}
-use Rattle.table.specs.Limits.{maxStates, maxSets}
-use Rattle.plain.specs.Ways.{Ways, joined, marks}
+use Prim.Native.Nat.{ℕ, zero, suc, _*_}
+use lib.Bits.{bitOr}
+use Rattle.table.specs.Lanes.{mapOf, eachLane, lanesWith, inLanes}
+use Rattle.table.specs.Limits.{maxSets}
+use Rattle.plain.specs.Ways.{Ways, joined}
 
 -- the ways W, and those that pass state m, once or over and over
 unfoldable pub passing : ℕ → Ways → Ways
@@ -16,7 +17,7 @@ widened (suc m) W s t i = passing m (widened m W) s t i
 
 -- a row, and its ways to m with one of the row `behind` behind them
 unfoldable pub continued : ℕ → ℕ → ℕ → ℕ
-continued row m behind = bitOr row (bitOr (behind * (way % 2)) (behind % 2 ^ maxStates * way))
+continued row m behind = bitOr row (bitOr (behind * mapOf way 0) (inLanes (mapOf behind 0) way))
   where
     way : ℕ
-    way = bitAnd (row / 2 ^ m) (marks (suc maxSets))
+    way = lanesWith row m (eachLane (suc maxSets))

@@ -7,14 +7,14 @@ use mathlib.Core.List.{List}
 use Prim.Native.Nat.{ℕ, zero, suc, _*_, _/_, _%_, _^_, _≤_, _<_}
 use lib.Bits.{bitOr}
 use lib.ListN.{getD}
-use Rattle.table.specs.Limits.{maxStates}
 use Rattle.table.specs.BitSet.{member}
+use Rattle.table.specs.Lanes.{mapOf}
 use Rattle.plain.specs.Ways.{Ways}
 
 -- the states `from`, and those that the rows of the states below n lead to from them
 unfoldable pub reached : ℕ → List ℕ → ℕ → ℕ
 reached zero rows from = from
-reached (suc n) rows from = bitOr (reached n rows from) (getD rows n 0 % 2 ^ maxStates * (from / 2 ^ n % 2))
+reached (suc n) rows from = bitOr (reached n rows from) (mapOf (getD rows n 0) 0 * (from / 2 ^ n % 2))
 
 -- state t is one of the states `from`, or ways of one or more tails (W) lead to it from one of them
 abbrev pub Reaches : Ways → ℕ → ℕ → ℕ → Type 0

@@ -1,13 +1,13 @@
 -- Ways between two states, inside the plain judge. Relation 0 has the pairs of states with a way from the one to the other,
--- relation i those with a way that takes a transition of set i. A row has the ways from one state, in one number: for each
--- relation a map of the states that they lead to.
+-- relation i those with a way that takes a transition of set i. A row has the ways from one state. It is a word of lanes with the
+-- layout of a look-up's word (crates/table/specs/Lanes.antt): lane i has the map of the states that they lead to by relation i.
 use mathlib.Core.Path.{_≡_}
 use mathlib.Core.Bool.{Bool, _&&_, _||_}
 use mathlib.Core.List.{List}
-use Prim.Native.Nat.{ℕ, zero, suc, _+_, _*_, _^_, _≤_, _<_}
+use Prim.Native.Nat.{ℕ, _≤_, _<_}
 use lib.ListN.{length, getD}
-use Rattle.table.specs.Lookup.{mapOf}
-use Rattle.table.specs.Limits.{maxStates, maxSets}
+use Rattle.table.specs.Lanes.{mapOf}
+use Rattle.table.specs.Limits.{maxSets}
 use Rattle.table.specs.BitSet.{member}
 
 -- by the state that the ways come from, the state that they lead to, and the relation
@@ -17,15 +17,6 @@ Ways = ℕ → ℕ → ℕ → Bool
 -- one of the ways a, and one of the ways b behind it: one of the two takes the transition of set i
 unfoldable pub joined : (ℕ → Bool) → (ℕ → Bool) → ℕ → Bool
 joined a b i = (a 0 && b i) || (a i && b 0)
-
--- the row with the maps f 0, f 1, .., f (k−1)
-unfoldable pub packed : ℕ → (ℕ → ℕ) → ℕ
-packed zero f = 0
-packed (suc k) f = f 0 + 2 ^ maxStates * packed k (λ i. f (suc i))
-
--- the row with state 0 in each of k maps
-unfoldable pub marks : ℕ → ℕ
-marks k = packed k (λ i. 1)
 
 -- the ways of some rows
 unfoldable pub ways : List ℕ → Ways

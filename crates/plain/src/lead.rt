@@ -1,6 +1,6 @@
 // The lead-in: the map of the states that it leads to.
+use table::lanes::map_of;
 use table::lookup::look_up;
-use table::lookup::map_of;
 use word::tables::AllTables;
 ghost use mathlib.Core.Path.{_≡_};
 ghost use Prim.Native.Nat.{_<_};

@@ -1,27 +1,31 @@
 // "j further tails", one or more: the ways that they open between any two states.
-use crate::tail::RELATIONS;
 use crate::tail::Rows;
+use table::lanes::in_lanes;
+use table::lanes::lanes_to;
+use table::lanes::lanes_with;
+use table::lanes::map_of;
+use table::limits::SETS;
 ghost use mathlib.Core.Path.{_≡_};
 ghost use Prim.Native.Nat.{_<_, _≤_};
 ghost use lib.ListN.{length};
-ghost use Rattle.table.specs.Limits.{maxStates};
+ghost use Rattle.table.specs.Lanes.{laneWidth};
 ghost use Rattle.plain.specs.Ways.{AreWays, ways};
 ghost use Rattle.plain.specs.Rounds.{continued, passing, widened};
 
 // A row with more ways: each way to `middle`, and behind it a way of the row `behind`. The sets are those of both. No branch: a
-// product with 1 or 0 keeps a map or drops it, and one product does so for the maps of all relations.
+// product with 1 or 0 keeps a row or drops it, and one product puts a map into the lanes of all relations with a way.
 fn continued(row: u64, middle: usize, behind: u64) -> u64
-    requires { ⌜ middle < maxStates ⌝ }
+    requires { ⌜ middle < laneWidth ⌝ }
     ensures { λ r. ⌜ r ≡ continued row middle behind ⌝ }
 {
-    let way = (row >> middle) & RELATIONS;
-    row | ((behind * (way % 2)) | ((behind % 256) * way))
+    let way = lanes_with(row, middle, lanes_to(SETS));
+    row | ((behind * map_of(way, 0) as u64) | in_lanes(map_of(behind, 0), way))
 }
 
 // One more state that a way may pass between two tails, once or over and over.
 fn through_state(rows: &mut Rows, middle: usize, n: usize)
-    requires { ⌜ (n ≤ maxStates) × ((middle < n) × (length (now rows) ≡ maxStates)) ⌝ }
-    ensures { λ _. ⌜ (length (now (rows .exit)) ≡ maxStates)
+    requires { ⌜ (n ≤ laneWidth) × ((middle < n) × (length (now rows) ≡ laneWidth)) ⌝ }
+    ensures { λ _. ⌜ (length (now (rows .exit)) ≡ laneWidth)
         × AreWays n (passing middle (ways (now (rows .entry)))) (now (rows .exit)) ⌝ }
 {
     let own = rows[middle];
@@ -35,7 +39,7 @@ fn through_state(rows: &mut Rows, middle: usize, n: usize)
 
 // From the rows of one tail to those of one or more tails: between two tails a way may pass any state.
 pub fn widen_rows(rows: &mut Rows, n: usize)
-    requires { ⌜ (n ≤ maxStates) × (length (now rows) ≡ maxStates) ⌝ }
+    requires { ⌜ (n ≤ laneWidth) × (length (now rows) ≡ laneWidth) ⌝ }
     ensures { λ _. ⌜ AreWays n (widened n (ways (now (rows .entry)))) (now (rows .exit)) ⌝ }
 {
     let mut middle = 0usize;

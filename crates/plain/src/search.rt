@@ -1,24 +1,26 @@
 // The search for a loop: a state that the lead-in and some tails lead to, and from which one or more tails lead back to it, by
 // ways that take all sets.
-use crate::tail::RELATIONS;
 use crate::tail::Rows;
-use table::limits::SETS;
+use table::lanes::lanes_to;
+use table::lanes::lanes_with;
+use table::lanes::map_of;
 ghost use mathlib.Core.Path.{_≡_};
 ghost use Prim.Native.Nat.{_≤_};
-ghost use Rattle.table.specs.Limits.{maxSets, maxStates};
+ghost use Rattle.table.specs.Lanes.{laneWidth};
+ghost use Rattle.table.specs.Limits.{maxSets};
 ghost use Rattle.word.specs.Verdict.{Decides};
 ghost use Rattle.plain.specs.Ways.{ways};
 ghost use Rattle.plain.specs.Search.{SomeLoop, reached};
 
 // "u and i tails lead from a starting state to s": the states `from`, and those that one or more tails lead to from them.
 fn reached(wide: &Rows, from: u16, n: usize) -> u16
-    requires { ⌜ n ≤ maxStates ⌝ }
+    requires { ⌜ n ≤ laneWidth ⌝ }
     ensures { λ r. ⌜ r ≡ reached n (now (wide .entry)) from ⌝ }
 {
     let mut all = from;
     let mut state = 0usize;
     while state < n {
-        let next = (wide[state] % 256) as u16;
+        let next = map_of(wide[state], 0);
         all = all | (next * ((from >> state) % 2));
         state += 1;
     }
@@ -28,17 +30,17 @@ fn reached(wide: &Rows, from: u16, n: usize) -> u16
 // "j further tails lead from s back to s taking at least one transition of each set": is there such a state among those
 // reached? 1 for yes, 0 for no.
 pub fn some_loop(wide: &Rows, from: u16, n: usize, k: usize) -> u8
-    requires { ⌜ (n ≤ maxStates) × (k ≤ maxSets) ⌝ }
+    requires { ⌜ (n ≤ laneWidth) × (k ≤ maxSets) ⌝ }
     ensures { λ r. ⌜ Decides r (SomeLoop (ways (now (wide .entry))) n k from) ⌝ }
 {
     let all = reached(wide, from, n);
-    // the relations up to k
-    let full = RELATIONS >> (8 * (SETS - k));
+    // relation 0 and those of the k sets
+    let full = lanes_to(k);
     let mut state = 0usize;
     while state < n {
         let t = state;
         state += 1;
-        if (wide[t] >> t) & full != full {
+        if lanes_with(wide[t], t, full) != full {
             continue;
         }
         if (all >> t) % 2 == 1 {

@@ -1,25 +1,26 @@
 // One tail: the ways that it opens between any two states.
+use table::lanes::LANE_WIDTH;
+use table::lanes::in_lane;
+use table::lanes::in_lanes;
+use table::lanes::lanes_to;
+use table::lanes::lanes_with;
+use table::lanes::map_of;
 use table::limits::SETS;
-use table::limits::STATES;
 use table::lookup::LetterTable;
 use table::lookup::look_up;
-use table::lookup::map_of;
 use word::tables::AllTables;
 ghost use mathlib.Core.Path.{_≡_};
-ghost use Prim.Native.Nat.{ℕ, _^_, _<_, _≤_};
+ghost use Prim.Native.Nat.{ℕ, _<_, _≤_};
 ghost use lib.ListN.{getD, length};
-ghost use Rattle.table.specs.Limits.{maxLetters, maxStates};
+ghost use Rattle.table.specs.Lanes.{laneWidth};
+ghost use Rattle.table.specs.Limits.{maxLetters};
 ghost use Rattle.table.specs.Table.{Every};
 ghost use Rattle.table.specs.Tabulate.{tabulate};
 ghost use Rattle.plain.specs.Ways.{Changed};
-ghost use Rattle.plain.specs.Letters.{extended, onward, rowAfter};
+ghost use Rattle.plain.specs.Letters.{extended, onward, ownRow, rowAfter};
 
-// A row for each state that the ways come from. A row is one word, with a map of states for each relation, eight bits each: bit
-// 8·i + t stands where a way leads to t, for i = 0, and where one takes a transition of set i on it, for i from 1 to 4.
-pub type Rows = [u64; STATES];
-
-// Bit 8·i for each relation i.
-pub const RELATIONS: u64 = 4311810305;
+// A row for each state that the ways come from; specs/Ways.antt says what stands in a row.
+pub type Rows = [u64; LANE_WIDTH];
 
 // Where any transition of a letter leads to from some states; from none nowhere.
 fn onward(table: &LetterTable, states: u16) -> u16
@@ -38,16 +39,16 @@ fn extended(table: &LetterTable, row: u64) -> u64
 {
     let states = map_of(row, 0);
     let images = look_up(table, states);
-    // bit 8·i where the map for relation i has the lowest of the states
-    let full = (row >> u16::trailing_zeros(states) as usize) & RELATIONS;
-    if row == states as u64 * full {
-        return images | (map_of(images, 0) as u64 * full);
+    // the lanes that have the lowest of the states
+    let full = lanes_with(row, u16::trailing_zeros(states) as usize, lanes_to(SETS));
+    if row == in_lanes(states, full) {
+        return images | in_lanes(map_of(images, 0), full);
     }
     let mut all = images;
     let mut relation = 1usize;
     while relation <= SETS {
         let further = onward(table, map_of(row, relation));
-        all = all | ((further as u64) << (8 * relation));
+        all = all | in_lane(further, relation);
         relation += 1;
     }
     all
@@ -55,7 +56,7 @@ fn extended(table: &LetterTable, row: u64) -> u64
 
 // One letter more, for the first n rows.
 fn letter_rows(table: &LetterTable, rows: &mut Rows, n: usize)
-    requires { ⌜ (n ≤ maxStates) × (length (now rows) ≡ maxStates) ⌝ }
+    requires { ⌜ (n ≤ laneWidth) × (length (now rows) ≡ laneWidth) ⌝ }
     ensures { λ _. ⌜ Changed (extended (now (table .entry))) n (now (rows .entry)) (now (rows .exit)) ⌝ }
 {
     let mut state = 0usize;
@@ -67,12 +68,12 @@ fn letter_rows(table: &LetterTable, rows: &mut Rows, n: usize)
 
 // The rows of no letter: each state leads to itself, and no transition is taken.
 fn own_rows() -> Rows
-    ensures { λ r. ⌜ r ≡ tabulate maxStates (λ s. 2 ^ s) ⌝ }
+    ensures { λ r. ⌜ r ≡ tabulate laneWidth ownRow ⌝ }
 {
-    let mut rows = [0u64; STATES];
+    let mut rows = [0u64; LANE_WIDTH];
     let mut state = 0usize;
-    while state < STATES {
-        rows[state] = 1u64 << state;
+    while state < LANE_WIDTH {
+        rows[state] = in_lane(1u16 << state, 0);
         state += 1;
     }
     rows
@@ -80,8 +81,8 @@ fn own_rows() -> Rows
 
 // The rows of the tail v, from its first letter to its last, for the states below n.
 pub fn tail_rows(tables: &AllTables, v: &[u8], n: usize) -> Rows
-    requires { ⌜ (n ≤ maxStates) × Every (λ a. a < maxLetters) (now v) ⌝ }
-    ensures { λ r. ⌜ ((s : ℕ) → s < n → getD r s 0 ≡ rowAfter (now (tables .entry)) (now (v .entry)) (2 ^ s)) ⌝ }
+    requires { ⌜ (n ≤ laneWidth) × Every (λ a. a < maxLetters) (now v) ⌝ }
+    ensures { λ r. ⌜ ((s : ℕ) → s < n → getD r s 0 ≡ rowAfter (now (tables .entry)) (now (v .entry)) (ownRow s)) ⌝ }
 {
     let mut rows = own_rows();
     let mut at = 0usize;

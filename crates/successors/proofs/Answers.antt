@@ -7,7 +7,8 @@ use borrow.Author.Tests.{le-ltb, lt-ltb}
 use lib.Dec.{ltb}
 use lib.ListN.{getD}
 use Rattle.table.specs.Limits.{maxSets}
-use Rattle.table.specs.Lookup.{mapOf, LetterTable, letterTable, imagesBy, lookUp}
+use Rattle.table.specs.Lanes.{mapOf}
+use Rattle.table.specs.Lookup.{LetterTable, letterTable, imagesBy, lookUp}
 use Rattle.table.specs.Outcome.{Outcome, refused, accepted, numberOf}
 use Rattle.table.specs.Rule.{Grid, Rule, successors, successorsIn}
 use Rattle.table.specs.Table.{readRule}

@@ -1,4 +1,5 @@
 // The look-up of a set's successors as a call: for screens that show which accepting sets a letter can serve.
+use table::lanes::map_of;
 use table::limits::LETTERS;
 use table::limits::NO_TRANSITION;
 use table::limits::SETS;
@@ -6,13 +7,12 @@ use table::limits::STATES;
 use table::lookup::ENTRIES;
 use table::lookup::fill_table;
 use table::lookup::look_up;
-use table::lookup::map_of;
 use table::reader::Reading;
 use table::reader::read_rule;
 ghost use mathlib.Core.Path.{_≡_};
 ghost use Prim.Native.Nat.{ℕ, suc};
 ghost use Rattle.table.specs.Limits.{maxSets};
-ghost use Rattle.table.specs.Lookup.{mapOf};
+ghost use Rattle.table.specs.Lanes.{mapOf};
 ghost use Rattle.table.specs.Outcome.{refused};
 ghost use Rattle.table.specs.Tabulate.{tabulate};
 ghost use Rattle.successors.specs.SuccessorsCall.{successorsAnswer, successorsOutcome};

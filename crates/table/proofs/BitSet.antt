@@ -5,7 +5,7 @@ use mathlib.Core.Logic.{_⊎_, inl, inr, ⊎-elim}
 use mathlib.Core.Bool.{Bool, true, false, not, _&&_, _||_, cond, or-assoc}
 use Prim.Native.Nat.{ℕ, zero, suc, _+_, _*_, _-_, _/_, _%_, _^_, _≤_, _<_, min, max}
 use native.Mathlib.Omega.{arith}
-use native.Mathlib.Nat.{pow-suc, one-mul}
+use native.Mathlib.Nat.{mod-lt, pow-suc, one-mul}
 use native.Mathlib.Numerals.{one-add}
 use native.Mathlib.Decide.{decLt}
 use borrow.Author.Tests.{eqb-true, eqb-false, ltb-true, lt-ltb, le-ltb}
@@ -13,7 +13,7 @@ use lib.Arith.{bin-ind}
 use lib.Bits.{bitAnd, bitOr, bitXor, differ, and-step, or-step, xor-step, and-shr, or-shr, xor-shr, or-shifted-r, or-zero-r}
 use lib.Count.{ones, onesIn, ones-step}
 use lib.Dec.{eqb, ltb, eqb·zero-suc, eqb·suc-zero, eqb·suc-suc, leb·suc-suc}
-use lib.Pow.{shl-exact, shr-shr, field, mod-mod-pow}
+use lib.Pow.{pow-pos, shl-exact, shr-shr, field, mod-mod-pow}
 use Rattle.table.specs.BitSet.{member, minus, Subset, ProperSubset, collect, some}
 use Rattle.table.specs.Rule.{image}
 use Rattle.table.proofs.Logic.{look, clash, never, bool-ext, and-both, and-in, or-l, or-r, or-in}
@@ -50,6 +50,15 @@ lowest-in s h = eqb-true (s % 2) 1 (sym (member-zero s) ∙ h)
 
 lowest-out : (s : ℕ) → member s 0 ≡ false → s % 2 ≡ 0
 lowest-out s h = omega (arith, eqb-false (s % 2) 1 (sym (member-zero s) ∙ h))
+
+-- a place's digit: 1 for a member, otherwise 0
+pub bit-member : (s q : ℕ) → s / 2 ^ q % 2 ≡ cond (member s q) 1 0
+unfolding member
+bit-member s q = go (eqb (s / 2 ^ q % 2) 1) refl
+  where
+    go : (b : Bool) → eqb (s / 2 ^ q % 2) 1 ≡ b → s / 2 ^ q % 2 ≡ cond b 1 0
+    go true e = eqb-true (s / 2 ^ q % 2) 1 e
+    go false e = omega (arith, eqb-false (s / 2 ^ q % 2) 1 e)
 
 -- 1 shifted to place j of a word
 pub one-shifted : (width j : ℕ) → j < width → 1 * 2 ^ j % 2 ^ width ≡ 2 ^ j
@@ -164,6 +173,14 @@ member-mod n s q h =
     rw e (ap (λ (x : ℕ). eqb (x % 2) 1) (field s (suc (n - suc q)) q)
     ∙ ap (λ (x : ℕ). eqb (s / 2 ^ q % 2 ^ x % 2) 1) w ∙ ap (λ (x : ℕ). eqb x 1) (mod-mod-pow (s / 2 ^ q) (n - suc q) 1))
 
+-- and no others are
+pub member-below : (n s q : ℕ) → member (s % 2 ^ n) q ≡ (ltb q n && member s q)
+member-below n s q = go (decLt q n)
+  where
+    go : Dec (q < n) → member (s % 2 ^ n) q ≡ (ltb q n && member s q)
+    go (yes l) = rw (lt-ltb q n l) (member-mod n s q l)
+    go (no l) = rw (le-ltb q n (omega arith)) (never _ (λ m. l (member-lt n (s % 2 ^ n) q (mod-lt s (pow-pos n)) m)))
+
 -- COMPREHENSION
 
 -- the members of a comprehension
@@ -191,6 +208,11 @@ unfolding collect
 collect-ext zero f g h = refl
 collect-ext (suc n) f g h = ap₂ (λ (b : Bool) (c : ℕ). cond b 1 0 + 2 * c) (h 0 (omega arith))
     (collect-ext n (λ q. f (suc q)) (λ q. g (suc q)) (λ q l. h (suc q) (omega arith)))
+
+-- of a set's own members
+pub collect-members : (n s : ℕ) → s < 2 ^ n → collect n (member s) ≡ s
+collect-members n s h = set-ext-below n _ _ (collect-lt n (member s)) h (λ q l. member-collect n (member s) q
+    ∙ ap (λ (b : Bool). b && member s q) (lt-ltb q n l))
 
 -- comprehension of a union
 pub collect-union : (n : ℕ) (f g : ℕ → Bool) → bitOr (collect n f) (collect n g) ≡ collect n (λ q. f q || g q)

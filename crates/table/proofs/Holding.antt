@@ -83,14 +83,17 @@ image-wider n w E F le same within s = set-ext _ _ λ r. bool-ext _ _ (narrow r)
     widen : (r : ℕ) → member (image n E s) r ≡ true → member (image w F s) r ≡ true
     widen r h = let (q, q-in, r-in, m, e) = image-out n E s r h in image-in w F s q r (omega arith) (omega arith) m (same q r ∙ e)
 
-module _ (R : Rule) (well : WellFormed R) (small : R .states ≤ maxStates) where
-  -- the successors of a set, and those by transitions of one set, from the arrays
-  pub image-held : (a s : ℕ) → image maxStates (edge (held (R .grid)) a) s ≡ successors R a s
+-- at any width w from the number of states up
+module _ (R : Rule) (well : WellFormed R) (w : ℕ) (small : R .states ≤ w) where
+  -- the successors of a set, from the arrays
+  pub image-held : (a s : ℕ) → image w (edge (held (R .grid)) a) s ≡ successors R a s
   unfolding successors
-  image-held a = image-wider (R .states) maxStates (edge (R .grid) a) _ small (held-edge (R .grid) a)
+  image-held a = image-wider (R .states) w (edge (R .grid) a) _ small (held-edge (R .grid) a)
       (λ q r h. let inside = edge-inside R well a q r h in (inside .1, inside .2))
 
-  pub image-held-in : (i a s : ℕ) → image maxStates (edgeIn (held (R .grid)) i a) s ≡ successorsIn R i a s
+  -- and those by transitions of one set, by any relation that has these in the arrays
+  pub image-held-in : (i a s : ℕ) (F : ℕ → ℕ → Bool) → ((q r : ℕ) → F q r ≡ edgeIn (held (R .grid)) i a q r)
+      → image w F s ≡ successorsIn R i a s
   unfolding successorsIn
-  image-held-in i a = image-wider (R .states) maxStates (edgeIn (R .grid) i a) _ small (held-edgeIn (R .grid) i a)
-      (λ q r h. let inside = edge-inside R well a q r (edgeIn-edge (R .grid) i a q r h) in (inside .1, inside .2))
+  image-held-in i a s F same = image-wider (R .states) w (edgeIn (R .grid) i a) F small (λ q r. same q r ∙ held-edgeIn (R .grid) i a q r)
+      (λ q r h. let inside = edge-inside R well a q r (edgeIn-edge (R .grid) i a q r h) in (inside .1, inside .2)) s

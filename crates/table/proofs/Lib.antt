@@ -33,6 +33,7 @@ pub mod TableWriting
 pub mod WriteOutcome
 -- The look-up.
 pub mod Tabulate
+pub mod LaneLaws
 pub mod ByRelation
 pub mod LookupSteps
 pub mod LookupTable

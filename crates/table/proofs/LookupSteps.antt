@@ -2,7 +2,7 @@
 -- which it makes it (specs/LookupSteps.antt).
 use mathlib.Core.Path.{_≡_, refl, sym, _∙_, ap, ap₂}
 use mathlib.Core.Logic.{_⊎_, inl, inr, ⊎-elim}
-use mathlib.Core.Bool.{Bool, true, false, not, _&&_, cond}
+use mathlib.Core.Bool.{Bool, true, false, not, _&&_, cond, and-false}
 use mathlib.Core.List.{List, [], _∷_, _++_}
 use Prim.Native.Nat.{ℕ, zero, suc, _+_, _*_, _-_, _/_, _%_, _^_, _≤_, _<_}
 use native.Mathlib.Decide.{decLt, ℕ-discrete}
@@ -10,18 +10,19 @@ use native.Mathlib.Nat.{pow-suc}
 use native.Mathlib.Omega.{arith}
 use borrow.Author.Tests.{eqb-true, eq-eqb, lt-ltb}
 use lib.Bits.{bitOr, or-zero-l, or-zero-r}
-use lib.Dec.{eqb}
+use lib.Dec.{eqb, ltb}
 use lib.ListN.{length, getD, set, length-append, length-set, List·getD-append}
 use lib.Pow.{pow-add, pow-mono}
 use lib.Seq.{ext-getD, getD-append-add, getD-set-same, getD-set-other}
-use Rattle.table.specs.Limits.{maxStates, noTransition}
+use Rattle.table.specs.Limits.{noTransition}
 use Rattle.table.specs.BitSet.{member, collect, some}
+use Rattle.table.specs.Lanes.{laneWidth, setLanes}
 use Rattle.table.specs.Rule.{Grid, cellAt, edge, edgeIn, image}
 use Rattle.table.specs.Lookup.{relationsOf, relation, rowWord, squareWords, gridWords, images, LetterTable, letterTable}
 use Rattle.table.specs.Tabulate.{tabulate}
 use Rattle.table.specs.Lookup.{joinedWord, joinedTable}
 use Rattle.table.specs.LookupSteps.{StateAdded}
-use Rattle.table.proofs.BitSet.{member-zero, member-suc, member-none, member-single, union-assoc, union-above, member-collect, collect-ext}
+use Rattle.table.proofs.BitSet.{member-zero, member-suc, member-none, member-single, member-below, union-assoc, union-above, member-collect, collect-ext}
 use Rattle.table.proofs.BitSet.{some-in, some-out, image-none}
 use Rattle.table.proofs.ByRelation.{relations-ext, relations-none}
 use Rattle.table.proofs.Logic.{and-in, and-both, bool-ext}
@@ -35,14 +36,16 @@ relation-byte : (square : List (List ℕ)) (i q r : ℕ)
 unfolding relation edge edgeIn cellAt relationsOf
 relation-byte square zero q r = go (eqb (getD (getD square q []) r noTransition) noTransition) (getD (getD square q []) r noTransition)
   where
-    go : (b : Bool) (x : ℕ) → not b ≡ member (cond b 0 (1 + 2 * x)) 0
+    go : (b : Bool) (x : ℕ) → not b ≡ member (cond b 0 (1 + 2 * (x % 2 ^ setLanes))) 0
     go true x = sym (member-none 0)
-    go false x = let e : (1 + 2 * x) % 2 ≡ 1 = omega arith in sym (member-zero (1 + 2 * x) ∙ ap (λ (d : ℕ). eqb d 1) e)
+    go false x = let e : (1 + 2 * (x % 2 ^ setLanes)) % 2 ≡ 1 = omega arith in
+        sym (member-zero (1 + 2 * (x % 2 ^ setLanes)) ∙ ap (λ (d : ℕ). eqb d 1) e)
 relation-byte square (suc i) q r = go (eqb (getD (getD square q []) r noTransition) noTransition) (getD (getD square q []) r noTransition)
   where
-    go : (b : Bool) (x : ℕ) → (not b && member x i) ≡ member (cond b 0 (1 + 2 * x)) (suc i)
-    go true x = sym (member-none (suc i))
-    go false x = let e : (1 + 2 * x) / 2 ≡ x = omega arith in sym (member-suc (1 + 2 * x) i ∙ ap (λ (d : ℕ). member d i) e)
+    go : (b : Bool) (x : ℕ) → (ltb i setLanes && (not b && member x i)) ≡ member (cond b 0 (1 + 2 * (x % 2 ^ setLanes))) (suc i)
+    go true x = and-false (ltb i setLanes) ∙ sym (member-none (suc i))
+    go false x = let e : (1 + 2 * (x % 2 ^ setLanes)) / 2 ≡ x % 2 ^ setLanes = omega arith in
+        sym (member-suc (1 + 2 * (x % 2 ^ setLanes)) i ∙ ap (λ (d : ℕ). member d i) e ∙ member-below setLanes x i)
 
 -- THE IMAGES OF A SET
 
@@ -64,17 +67,17 @@ image-single n E q h = collect-ext n _ _ (λ r l. bool-ext _ _ (into r) (from r)
 -- of the empty set
 images-none : (square : List (List ℕ)) → images square 0 ≡ 0
 unfolding images
-images-none square = relations-ext _ _ (λ i r h l. ap (λ (x : ℕ). member x r) (image-none maxStates (relation square i)) ∙ member-none r)
+images-none square = relations-ext _ _ (λ i r h l. ap (λ (x : ℕ). member x r) (image-none laneWidth (relation square i)) ∙ member-none r)
     ∙ relations-none
 
 -- of one state
-images-single : (square : List (List ℕ)) (q : ℕ) → q < maxStates → images square (2 ^ q) ≡ rowWord (getD square q [])
+images-single : (square : List (List ℕ)) (q : ℕ) → q < laneWidth → images square (2 ^ q) ≡ rowWord (getD square q [])
 unfolding images rowWord
-images-single square q h = relations-ext _ _ (λ i r k l. ap (λ (x : ℕ). member x r) (image-single maxStates (relation square i) q h)
-    ∙ member-collect maxStates (relation square i q) r ∙ rw (lt-ltb r maxStates l) (relation-byte square i q r))
+images-single square q h = relations-ext _ _ (λ i r k l. ap (λ (x : ℕ). member x r) (image-single laneWidth (relation square i) q h)
+    ∙ member-collect laneWidth (relation square i q) r ∙ rw (lt-ltb r laneWidth l) (relation-byte square i q r))
 
 -- of a set with highest state q
-images-more : (square : List (List ℕ)) (q j : ℕ) → q < maxStates → j < 2 ^ q
+images-more : (square : List (List ℕ)) (q j : ℕ) → q < laneWidth → j < 2 ^ q
     → bitOr (images square j) (rowWord (getD square q [])) ≡ images square (2 ^ q + j)
 images-more square q j l h = ap (bitOr (images square j)) (sym (images-single square q l)) ∙ sym (images-union square j (2 ^ q))
     ∙ ap (images square) (union-above q j h)
@@ -101,7 +104,7 @@ joined-more (word ∷ words) (suc q) j h =
     (union-assoc (cond (eqb (j % 2) 1) word 0) (joinedWord words (j / 2)) (getD words q 0))
 
 -- the words of a letter's states give the images of each set
-joined-images : (square : List (List ℕ)) (q : ℕ) → q ≤ maxStates → (s : ℕ) → s < 2 ^ q → joinedWord (squareWords square) s ≡ images square s
+joined-images : (square : List (List ℕ)) (q : ℕ) → q ≤ laneWidth → (s : ℕ) → s < 2 ^ q → joinedWord (squareWords square) s ≡ images square s
 joined-images square zero h s small = let e : s ≡ 0 = omega arith in rw e (joined-none (squareWords square) ∙ sym (images-none square))
 joined-images square (suc q) h s small = go (decLt s (2 ^ q)) (joined-images square q (omega arith))
   where
@@ -119,8 +122,8 @@ joined-images square (suc q) h s small = go (decLt s (2 ^ q)) (joined-images squ
 pub joined-table : (square : List (List ℕ)) → joinedTable (squareWords square) ≡ letterTable square
 unfolding joinedTable letterTable
 joined-table square = ap₂ (λ (l r : LetterTable). l ++ r)
-    (tabulate-ext 16 _ _ (λ j h. joined-images square maxStates (omega arith) j (omega arith)))
-    (tabulate-ext 16 _ _ (λ j h. joined-images square maxStates (omega arith) (16 * j) (omega arith)))
+    (tabulate-ext 16 _ _ (λ j h. joined-images square laneWidth (omega arith) j (omega arith)))
+    (tabulate-ext 16 _ _ (λ j h. joined-images square laneWidth (omega arith) (16 * j) (omega arith)))
 
 -- of the letter a of the arrays, from the words that stand beside them
 pub table-made : (cells : Grid) {words : List (List ℕ)} → words ≡ gridWords cells → (a : ℕ) {table : LetterTable}

@@ -1,17 +1,17 @@
 -- The lowest standing bit of a map: its place, and the map without it. The map and its width are any.
 use mathlib.Core.Path.{_≡_, refl, sym, _∙_, ap}
-use mathlib.Core.Bool.{true, false, not, _&&_, _||_, and-false, and-true}
+use mathlib.Core.Bool.{true, false, not, _&&_, and-false, and-true}
 use Prim.Native.Nat.{ℕ, zero, suc, _-_, _/_, _%_, _^_, _≤_, _<_}
 use native.Mathlib.Omega.{arith}
 use native.Mathlib.Nat.{pow-suc}
-use native.Mathlib.Decide.{decLt, ℕ-discrete}
-use borrow.Author.Tests.{eqb-false, eq-eqb, ne-eqb}
+use native.Mathlib.Decide.{decLt}
+use borrow.Author.Tests.{eqb-false, ne-eqb}
 use lib.Arith.{bin-ind}
-use lib.Bits.{bitAnd, bitOr, and-step, and-self}
+use lib.Bits.{bitAnd, and-step, and-self}
 use lib.Count.{ones, ones-step, trailingZeros}
 use lib.Dec.{eqb, eqb·suc-suc, eqb·suc-zero}
 use Rattle.table.specs.BitSet.{member}
-use Rattle.table.proofs.BitSet.{member-zero, member-suc, member-union, member-single, set-ext}
+use Rattle.table.proofs.BitSet.{member-zero, member-suc}
 use Rattle.table.proofs.Logic.{and-in, not-in}
 
 -- bit 0 stands: it is the lowest
@@ -127,14 +127,3 @@ module _ (w i n : ℕ) (le : i ≤ w) (some : 0 < n) (small : n < 2 ^ i) where
   -- and each other one stays
   pub cleared-keeps : (q : ℕ) → member n q ≡ true → (q ≡ trailingZeros w n → ⊥) → member (bitAnd n (n - 1)) q ≡ true
   cleared-keeps q stands other = cleared-member w i n le some small q ∙ rw (stands, ne-eqb q (trailingZeros w n) other)
-
-  -- together with the lowest one they are the map
-  pub lowest-joined : n ≡ bitOr (2 ^ trailingZeros w n) (bitAnd n (n - 1))
-  lowest-joined = set-ext n _ (λ q.
-      rw (member-union (2 ^ trailingZeros w n) (bitAnd n (n - 1)) q, member-single (trailingZeros w n) q, cleared-member w i n le some small q)
-      (go q (ℕ-discrete q (trailingZeros w n))))
-    where
-      go : (q : ℕ) → Dec (q ≡ trailingZeros w n)
-          → member n q ≡ (eqb (trailingZeros w n) q || (member n q && not (eqb q (trailingZeros w n))))
-      go q (yes e) = rw (e, lowest-stands w i n le some small, eq-eqb (trailingZeros w n) (trailingZeros w n) refl)
-      go q (no e) = sym (rw (ne-eqb q (trailingZeros w n) e, ne-eqb (trailingZeros w n) q (λ z. e (sym z))) (and-true (member n q)))

@@ -1,45 +1,28 @@
 -- The word of a row (specs/Lookup.antt): each transition that is read adds its relations, and the words of the rows are held
 -- beside the rows.
 use mathlib.Core.Path.{_≡_, refl, sym, _∙_, ap, ap₂}
-use mathlib.Core.Bool.{Bool, true, false, _&&_, _||_, or-false, or-comm}
+use mathlib.Core.Bool.{Bool, true, false, _&&_, _||_, and-false, and-true, or-false}
 use mathlib.Core.List.{List, [], _∷_, map}
 use Prim.Native.Nat.{ℕ, zero, suc, _+_, _*_, _-_, _/_, _%_, _^_, _≤_, _<_}
 use native.Mathlib.Decide.{ℕ-discrete}
 use native.Mathlib.Omega.{arith}
 use borrow.Author.Tests.{eq-eqb, ne-eqb}
-use lib.Bits.{bitAnd, bitOr}
+use lib.Bits.{bitAnd, bitOr, and-le-l, or-zero-l, or-zero-r}
 use lib.Count.{trailingZeros}
-use lib.Dec.{eqb}
+use lib.Dec.{eqb, eqb·suc-zero}
 use lib.ListN.{length, getD, set, replicate, List·getD-map}
+use lib.Pow.{pow-lt}
 use lib.Seq.{getD-set-same, getD-set-other}
 use Rattle.table.specs.Limits.{maxStates, maxLetters, noTransition}
-use Rattle.table.specs.BitSet.{member, collect, some}
+use Rattle.table.specs.BitSet.{member}
 use Rattle.table.specs.Rule.{Grid}
 use Rattle.table.specs.Held.{blankRow, blankCells}
-use Rattle.table.specs.Lookup.{relationsOf, byRelation, rowWord, squareWords, gridWords}
-use Rattle.table.specs.LookupSteps.{spread}
-use Rattle.table.proofs.BitSet.{member-none, member-union, set-ext}
-use Rattle.table.proofs.ByRelation.{relations-ext, relations-none, relations-union}
+use Rattle.table.specs.Lanes.{laneWidth, setLanes, spread, inLane, withState}
+use Rattle.table.specs.Lookup.{relationsOf, rowWord, squareWords, gridWords}
+use Rattle.table.proofs.BitSet.{member-none, member-zero, member-suc, member-single}
+use Rattle.table.proofs.ByRelation.{relations-ext, relations-none, relations-union, relations-in, relations-in-one}
 use Rattle.table.proofs.Holding.{blank-row}
-use Rattle.table.proofs.Tests.{same-below}
-use Rattle.table.proofs.LowestBit.{lowest-inside, lowest-stands, lowest-joined, cleared-others}
-
--- THE RELATIONS OF ONE TRANSITION
-
--- the product and the mask
-pub spread-code : (relations : ℕ) → relations < 32 → bitAnd (relations * 270549121) 4311810305 ≡ spread 0 relations
-unfolding spread byRelation collect some member
-spread-code = same-below 32 (λ x. bitAnd (x * 270549121) 4311810305) (spread 0) refl
-
--- moved to place p
-spread-moved : (p relations : ℕ) → p < maxStates → relations < 32 → spread 0 relations * 2 ^ p % 2 ^ 64 ≡ spread p relations
-unfolding spread byRelation collect some member
-spread-moved p relations h few =
-    let x : ℕ = 32 * p + relations in
-    let place : x / 32 ≡ p = omega arith in
-    let which : x % 32 ≡ relations = omega arith in
-    rw (place, which) at
-    (same-below 256 (λ x. spread 0 (x % 32) * 2 ^ (x / 32) % 2 ^ 64) (λ x. spread (x / 32) (x % 32)) refl x (omega arith))
+use Rattle.table.proofs.LowestBit.{lowest-inside, lowest-stands, cleared-member, cleared-others}
 
 -- A ROW
 
@@ -52,84 +35,81 @@ word-empty : rowWord [] ≡ 0
 unfolding rowWord relationsOf
 word-empty = relations-ext _ _ (λ i r h l. member-none i) ∙ relations-none
 
--- with one transition more
-word-more : (row : List ℕ) (r x : ℕ) → r < length row → getD row r noTransition ≡ noTransition → x < noTransition
-    → bitOr (rowWord row) (spread r (1 + 2 * x)) ≡ rowWord (set row r x)
-unfolding rowWord spread relationsOf
-word-more row r x inside none small = relations-union _ _ ∙ relations-ext _ _ (λ i q h l. go i q (ℕ-discrete q r))
-  where
-    go : (i q : ℕ) → Dec (q ≡ r)
-        → (member (relationsOf (getD row q noTransition)) i || (eqb q r && member (1 + 2 * x) i))
-        ≡ member (relationsOf (getD (set row r x) q noTransition)) i
-    go i q (yes e) = rw (e, none, getD-set-same row r x noTransition inside, eq-eqb r r refl, ne-eqb x noTransition (λ z. omega arith), member-none i)
-    go i q (no e) = rw (getD-set-other row r q x noTransition e, ne-eqb q r e) (or-false _)
-
--- `made` is the word of the row with the bits that still stand, and the places of these are blank
+-- `made` is the word of the row with the bits that still stand in lane 0, and the places of these are blank
 pub record WordSoFar (row : List ℕ) (rest made : ℕ) : Type 0 where
   pub blank : (r : ℕ) → member rest r ≡ true → getD row r noTransition ≡ noTransition
-  pub is : made ≡ bitOr (rowWord row) rest
+  pub is : made ≡ bitOr (rowWord row) (inLane rest 0)
 
 -- at the start
-pub word-start : (standing : ℕ) → WordSoFar blankRow standing standing
-word-start standing = record {
+pub word-start : (standing made : ℕ) → made ≡ inLane standing 0 → WordSoFar blankRow standing made
+word-start standing made e = record {
   blank = λ r m. blank-row r;
-  is = set-ext standing _ (λ q. rw (word-blank, member-union 0 standing q, member-none q));
+  is = e ∙ sym (ap (λ (x : ℕ). bitOr x (inLane standing 0)) word-blank ∙ or-zero-l (inLane standing 0));
 }
 
--- the relations of a transition are relation 0 and those of its sets
-spread-zero : (p x : ℕ) → p < maxStates → x < 16 → spread p (1 + 2 * x) ≡ bitOr (2 ^ p) (spread p (2 * x))
-unfolding spread byRelation collect some member
-spread-zero p x h few =
-    let y : ℕ = 16 * p + x in
-    let place : y / 16 ≡ p = omega arith in
-    let which : y % 16 ≡ x = omega arith in
-    rw (place, which) at
-    (same-below 128 (λ y. spread (y / 16) (1 + 2 * (y % 16))) (λ y. bitOr (2 ^ (y / 16)) (spread (y / 16) (2 * (y % 16)))) refl y (omega arith))
+-- the transition of the lowest standing bit is there, with the sets x
+module _ {row : List ℕ} {rest made : ℕ} (v : WordSoFar row rest made) (room : laneWidth ≤ length row) (some : 0 < rest) (few : rest < 2 ^ laneWidth)
+    (width : ℕ) (wide : laneWidth ≤ width) (x : ℕ) (small : x < 2 ^ setLanes) where
+  abbrev r : ℕ
+  r = trailingZeros width rest
 
--- a union of four, in another order
-union-turned : (w p rest x : ℕ) → bitOr (bitOr w (bitOr p rest)) x ≡ bitOr (bitOr w (bitOr p x)) rest
-union-turned w p rest x = set-ext _ _ (λ q.
-    rw (
-      member-union (bitOr w (bitOr p rest)) x q,
-      member-union w (bitOr p rest) q,
-      member-union p rest q,
-      member-union (bitOr w (bitOr p x)) rest q,
-      member-union w (bitOr p x) q,
-      member-union p x q,
-    )
-    (go (member w q) (member p q) (member rest q) (member x q)))
-  where
-    go : (a b c d : Bool) → ((a || (b || c)) || d) ≡ ((a || (b || d)) || c)
-    go true b c d = refl
-    go false true c d = refl
-    go false false c d = or-comm c d
+  inside : r < laneWidth
+  inside = lowest-inside width laneWidth rest wide some few
 
--- the transition of the lowest standing bit is there
-pub word-take : {row : List ℕ} {rest made : ℕ} → WordSoFar row rest made → length row ≡ maxStates → rest < 2 ^ maxStates → 0 < rest
-    → (width : ℕ) → maxStates ≤ width → (x relations bits : ℕ) → x < 16 → relations ≡ 2 * x → bits ≡ spread 0 relations
-    → let r = trailingZeros width rest in
-    WordSoFar (set row r x) (bitAnd rest (rest - 1)) (bitOr made (bits * 2 ^ r % 2 ^ 64))
-word-take {row} {rest} {made} v size few some width wide x relations bits small are is = record {
-  blank = λ q m. let (stands, other) = cleared-others width maxStates rest wide some few q m in
-      getD-set-other row r q x noTransition other ∙ v .blank q stands;
-  is = ap₂ bitOr (v .is ∙ ap (bitOr (rowWord row)) (lowest-joined width maxStates rest wide some few)) moved
-      ∙ union-turned (rowWord row) (2 ^ r) (bitAnd rest (rest - 1)) (spread r (2 * x))
-      ∙ ap (λ (y : ℕ). bitOr y (bitAnd rest (rest - 1))) (ap (bitOr (rowWord row)) (sym (spread-zero r x inside small))
-      ∙ word-more row r x (omega (arith, size, inside)) (v .blank r (lowest-stands width maxStates rest wide some few)) (omega arith));
-}
-  where
-    r : ℕ
-    r = trailingZeros width rest
+  -- the bits that stand before and after it
+  abbrev before : ℕ → ℕ → Bool
+  before i q = (member (relationsOf (getD row q noTransition)) i || (eqb i 0 && member rest q)) || (member (2 * x) i && member (2 ^ r) q)
 
-    inside : r < maxStates
-    inside = lowest-inside width maxStates rest wide some few
+  abbrev after : ℕ → ℕ → Bool
+  after i q = member (relationsOf (getD (set row r x) q noTransition)) i || (eqb i 0 && member (bitAnd rest (rest - 1)) q)
 
-    moved : bits * 2 ^ r % 2 ^ 64 ≡ spread r (2 * x)
-    moved = ap (λ (y : ℕ). y * 2 ^ r % 2 ^ 64) (is ∙ ap (spread 0) are) ∙ spread-moved r (2 * x) inside (omega arith)
+  same : (i q : ℕ) → Dec (q ≡ r) → before i q ≡ after i q
+  unfolding relationsOf
+  same i q (yes e) = rw (
+    e,
+    v .blank r (lowest-stands width laneWidth rest wide some few),
+    getD-set-same row r x noTransition (omega (arith, inside)),
+    ne-eqb x noTransition (λ z. omega arith),
+    cleared-member width laneWidth rest wide some few r,
+    lowest-stands width laneWidth rest wide some few,
+    member-single r r,
+    eq-eqb r r refl,
+    member-none i,
+  ) (go i)
+    where
+      go : (i : ℕ) → ((eqb i 0 && true) || (member (2 * x) i && true)) ≡ (member (1 + 2 * (x % 2 ^ setLanes)) i || (eqb i 0 && false))
+      go zero = let e : (1 + 2 * (x % 2 ^ setLanes)) % 2 ≡ 1 = omega arith in
+          sym (ap (λ (b : Bool). b || false) (member-zero (1 + 2 * (x % 2 ^ setLanes)) ∙ ap (λ (d : ℕ). eqb d 1) e))
+      go (suc j) =
+          let half : 2 * x / 2 ≡ x = omega arith in
+          let half′ : (1 + 2 * (x % 2 ^ setLanes)) / 2 ≡ x = omega arith in
+          rw (eqb·suc-zero j, member-suc (2 * x) j, half, member-suc (1 + 2 * (x % 2 ^ setLanes)) j, half′, and-true (member x j)) (sym (or-false (member x j)))
+  same i q (no e) = rw (
+    getD-set-other row r q x noTransition e,
+    cleared-member width laneWidth rest wide some few q,
+    ne-eqb q r e,
+    member-single r q,
+    ne-eqb r q (λ z. e (sym z)),
+    and-true (member rest q),
+    and-false (member (2 * x) i),
+  ) (or-false _)
+
+  pub word-take : WordSoFar (set row r x) (bitAnd rest (rest - 1)) (withState made r (spread (2 * x)))
+  unfolding withState spread rowWord
+  word-take = record {
+    blank = λ q m. let (stands, other) = cleared-others width laneWidth rest wide some few q m in
+        getD-set-other row r q x noTransition other ∙ v .blank q stands;
+    is = ap₂ bitOr (v .is ∙ ap (bitOr (rowWord row)) (relations-in-one rest 0 few (omega arith)) ∙ relations-union _ _)
+        (relations-in (2 ^ r) (member (2 * x)) (pow-lt inside)) ∙ relations-union _ _
+        ∙ relations-ext before after (λ i q h l. same i q (ℕ-discrete q r))
+        ∙ sym (ap (bitOr (rowWord (set row r x))) (relations-in-one (bitAnd rest (rest - 1)) 0
+        (omega (arith, and-le-l rest (rest - 1))) (omega arith)) ∙ relations-union _ _);
+  }
 
 -- no bit stands any more
 pub word-done : {row : List ℕ} {rest made : ℕ} → WordSoFar row rest made → rest ≡ 0 → made ≡ rowWord row
-word-done {row} v z = v .is ∙ set-ext _ _ (λ q. rw (z, member-union (rowWord row) 0 q, member-none q) (or-false _))
+unfolding inLane
+word-done {row} v z = v .is ∙ rw z (or-zero-r (rowWord row))
 
 -- WORDS BESIDE ROWS
 

@@ -16,5 +16,6 @@ pub mod Held
 pub mod HeldRule
 pub mod Cursor
 pub mod Writing
+pub mod Lanes
 pub mod Lookup
 pub mod LookupSteps

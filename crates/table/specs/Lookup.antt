@@ -1,36 +1,26 @@
 -- The look-up of a set's successors inside the code: a letter has a table of the images of all sets of states within the
--- lowest four bits, then of those within the next four. Two entries give the images of any set, by all relations at once.
-use mathlib.Core.Bool.{Bool, cond}
+-- lowest four bits, then of those within the next four. Two entries give the images of any set, by all relations at once, in one word
+-- of lanes (Lanes.antt): lane i has the image under relation i.
+use mathlib.Core.Bool.{Bool, _&&_, cond}
 use mathlib.Core.List.{List, [], _∷_, _++_, map}
 use Prim.Native.Nat.{ℕ, zero, suc, _+_, _*_, _/_, _%_, _^_}
 use lib.Bits.{bitOr}
-use lib.Dec.{eqb}
+use lib.Dec.{eqb, ltb}
 use lib.ListN.{getD}
-use Rattle.table.specs.Limits.{maxStates, maxSets, noTransition}
-use Rattle.table.specs.BitSet.{member, collect}
+use Rattle.table.specs.Limits.{noTransition}
+use Rattle.table.specs.BitSet.{member}
+use Rattle.table.specs.Lanes.{laneWidth, setLanes, mapOf, byRelation}
 use Rattle.table.specs.Rule.{Grid, edge, edgeIn, image}
 use Rattle.table.specs.Tabulate.{tabulate}
 
--- the transitions of a letter's square: all of them at 0, those of set i at i
+-- the transitions of a letter's square: all of them at 0, those of set i at i, for each set that has a lane; none at a lane further on
 unfoldable pub relation : List (List ℕ) → ℕ → ℕ → ℕ → Bool
 relation square zero q r = edge (square ∷ []) 0 q r
-relation square (suc i) q r = edgeIn (square ∷ []) (suc i) 0 q r
+relation square (suc i) q r = ltb i setLanes && edgeIn (square ∷ []) (suc i) 0 q r
 
 -- the relations that a grid's byte stands in, as a map: 0 for all transitions, i for those of set i
 unfoldable pub relationsOf : ℕ → ℕ
-relationsOf x = cond (eqb x noTransition) 0 (1 + 2 * x)
-
--- a word of the code has a lane of eight bits for each relation, and room for so many
-abbrev pub lanes : ℕ
-lanes = 8
-
--- a map of states for each relation, in one number: bit 8·i + r stands where r is in the map for relation i
-unfoldable pub byRelation : (ℕ → ℕ → Bool) → ℕ
-byRelation f = collect (maxStates * suc maxSets) (λ b. f (b / maxStates) (b % maxStates))
-
--- the map for relation i in such a number
-abbrev pub mapOf : ℕ → ℕ → ℕ
-mapOf word i = word / 2 ^ (maxStates * i) % 2 ^ maxStates
+relationsOf x = cond (eqb x noTransition) 0 (1 + 2 * (x % 2 ^ setLanes))
 
 -- the images of a state alone, whose row this is: by each relation
 unfoldable pub rowWord : List ℕ → ℕ
@@ -45,7 +35,7 @@ gridWords cells = map squareWords cells
 
 -- the images of s: under all transitions, then by those of each set
 unfoldable pub images : List (List ℕ) → ℕ → ℕ
-images square s = byRelation (λ i r. member (image maxStates (relation square i) s) r)
+images square s = byRelation (λ i r. member (image laneWidth (relation square i) s) r)
 
 -- a letter's table: the images of some sets, one entry each
 abbrev pub LetterTable : Type 0

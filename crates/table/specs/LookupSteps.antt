@@ -1,18 +1,11 @@
 -- The steps by which the code makes a letter's look-up table. Only contracts of private functions cite these.
 use mathlib.Core.Path.{_≡_}
 use mathlib.Core.Logic.{_⊎_}
-use mathlib.Core.Bool.{_&&_}
 use mathlib.Core.List.{List}
 use Prim.Native.Nat.{ℕ, _+_, _%_, _^_, _≤_, _<_}
 use lib.Bits.{bitOr}
-use lib.Dec.{eqb}
 use lib.ListN.{length, getD}
-use Rattle.table.specs.BitSet.{member}
-use Rattle.table.specs.Lookup.{LetterTable, byRelation}
-
--- state p alone in the map for each member of `relations`, no state in the other maps
-unfoldable pub spread : ℕ → ℕ → ℕ
-spread p relations = byRelation (λ i r. eqb r p && member relations i)
+use Rattle.table.specs.Lookup.{LetterTable}
 
 -- a letter's table with the entries of the first c sets that have the highest state q in their half: the entry of the set without
 -- it, joined with its word. All other entries stay.

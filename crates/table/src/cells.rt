@@ -1,6 +1,9 @@
 // Reading the cells of a table (questions 4 and 5) into arrays of arrays, and each state's images into a word.
 use crate::cursor::Cursor;
 use crate::cursor::Next;
+use crate::lanes::in_lane;
+use crate::lanes::spread;
+use crate::lanes::with_state;
 use crate::limits::Cells;
 use crate::limits::NO_TRANSITION;
 use crate::limits::Row;
@@ -16,7 +19,6 @@ ghost use Rattle.table.specs.Limits.{maxLetters, maxSets, maxStates};
 ghost use Rattle.table.specs.Table.{readByte, readCell, readRow};
 ghost use Rattle.table.specs.Held.{blankCells, blankRow, blankSquare};
 ghost use Rattle.table.specs.Lookup.{gridWords, rowWord, squareWords};
-ghost use Rattle.table.specs.LookupSteps.{spread};
 ghost use Rattle.table.specs.Cursor.{byteRead, progress, readHeld, readSquare};
 
 // A cell byte with the cursor behind it, or the number of the question that it fails.
@@ -54,18 +56,9 @@ fn read_byte(s: &[u8], c: Cursor, width: usize) -> CellByte
     }
 }
 
-// The relations of a transition spread over a word: bit i to bit 8·i. The factor has the bits 0, 7, 14, 21 and 28; of the product
-// the bits 0, 8, 16, 24 and 32 are kept.
-fn spread(relations: u16) -> u64
-    requires { ⌜ relations < 32 ⌝ }
-    ensures { λ r. ⌜ r ≡ spread 0 relations ⌝ }
-{
-    (relations as u64 * 270549121) & 4311810305
-}
-
 // The set bytes of a cell, "as many set bytes as the map has standing bits, lowest bit first", into a blank row, and the row's word.
 // The count of ones on the cell map is the number of set bytes that follow, and is counted down; each takes its bit from the map.
-// Under relation 0 the word is the map itself. A refusal leaves a blank row.
+// In lane 0 the word has the map itself. A refusal leaves a blank row.
 fn read_row(s: &[u8], from: Cursor, map: u16, k: usize, row: &mut Row, word: &mut u64) -> Progress
     requires { ⌜ ((map < 2 ^ maxStates) × (k ≤ maxSets)) × (now row ≡ blankRow) ⌝ }
     ensures { λ r. ⌜ (progress (now (s .entry)) r (now (row .exit)) ≡ readRow k maxStates map (drop (from .at) (now (s .entry))))
@@ -74,7 +67,7 @@ fn read_row(s: &[u8], from: Cursor, map: u16, k: usize, row: &mut Row, word: &mu
     let mut at = from;
     let mut left = u16::count_ones(map);
     let mut rest = map as u64;
-    let mut made = map as u64;
+    let mut made = in_lane(map, 0);
     while 0 < left {
         let r = u64::trailing_zeros(rest) as usize;
         rest = rest & (rest - 1);
@@ -87,7 +80,7 @@ fn read_row(s: &[u8], from: Cursor, map: u16, k: usize, row: &mut Row, word: &mu
             }
             CellByte::Byte(sets, next) => {
                 row[r] = sets;
-                made = made | (spread(2 * widen(sets)) << r);
+                made = with_state(made, r, spread(2 * widen(sets)));
                 at = next;
             }
         }

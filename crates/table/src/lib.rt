@@ -3,6 +3,7 @@ mod cells;
 mod cursor;
 mod grid;
 pub mod header;
+pub mod lanes;
 pub mod limits;
 pub mod lookup;
 pub mod reader;

@@ -15,8 +15,7 @@ pub type Square = [Row; STATES];
 
 pub type Cells = [Square; LETTERS];
 
-// The images of each state alone, by letter and state: one word each, made while the state's cell is read. Bit 8·i + r stands where
-// the state has a transition to r under relation i (0: all transitions, i: those of set i).
+// The images of each state alone, by letter and state: one word of lanes each, made while the state's cell is read.
 pub type SquareWords = [u64; STATES];
 
 pub type Words = [SquareWords; LETTERS];

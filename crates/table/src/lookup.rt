@@ -4,11 +4,11 @@ use crate::limits::SquareWords;
 ghost use mathlib.Core.Path.{_≡_};
 ghost use Prim.Native.Nat.{_^_, _<_};
 ghost use lib.ListN.{length};
-ghost use Rattle.table.specs.Lookup.{imagesBy, joinedTable, lanes, mapOf};
+ghost use Rattle.table.specs.Lookup.{imagesBy, joinedTable};
 ghost use Rattle.table.specs.LookupSteps.{StateAdded};
 
 // The table of a letter: the images of the sets within the lowest four states, then of those within the next four. The images
-// of a set are one word: bit 8·i + r stands where r is in the image under relation i (0: all transitions, i: those of set i).
+// of a set are one word of lanes: lane i has the image under relation i (0: all transitions, i: those of set i).
 pub type LetterTable = [u64; ENTRIES];
 
 // Sixteen sets in each half.
@@ -20,14 +20,6 @@ pub fn look_up(table: &LetterTable, states: u16) -> u64
 {
     let s = states as usize;
     table[s % 16] | table[16 + s / 16 % 16]
-}
-
-// The map in a lane of such a word: lane 0 has it for all transitions, lane i for those of set i.
-pub fn map_of(word: u64, lane: usize) -> u16
-    requires { ⌜ lane < lanes ⌝ }
-    ensures { λ r. ⌜ r ≡ mapOf word lane ⌝ }
-{
-    ((word >> (8 * lane)) % 256) as u16
 }
 
 // The entries of the sets with highest state q in each half: q's images joined to the entry of the set without q.

@@ -5,7 +5,8 @@ use mathlib.Core.Path.{_≡_, refl, sym, _∙_, ap}
 use Prim.Native.Nat.{ℕ, _-_, _≤_, _<_}
 use lib.ListN.{length, drop}
 use Rattle.table.specs.Limits.{maxLetters}
-use Rattle.table.specs.Lookup.{mapOf, lookUp}
+use Rattle.table.specs.Lanes.{mapOf}
+use Rattle.table.specs.Lookup.{lookUp}
 use Rattle.table.proofs.Every.{every-at}
 use Rattle.plain.specs.Letters.{statesAfter}
 use Rattle.plain.proofs.LetterLaws.{over-done, over-more}

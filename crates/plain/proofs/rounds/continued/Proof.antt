@@ -1,29 +1,61 @@
 -- `continued` meets its contract: no product is too large.
 use borrow.Author.Needs.{needs}
 use native.Mathlib.Omega.{arith}
-use Prim.Native.Nat.{suc, _/_, _%_, _^_}
-use lib.Bits.{bitAnd}
+use mathlib.Core.Path.{_≡_, _∙_, ap}
+use Prim.Native.Nat.{ℕ, suc, _*_}
+use Rattle.table.specs.Lanes.{mapOf, eachLane, lanesWith, lanes}
 use Rattle.table.specs.Limits.{maxSets}
-use Rattle.plain.specs.Ways.{packed, marks}
+use Rattle.table.proofs.LaneLaws.{kept-le, chosen-kept, stands, lanes-with, lanes-with-le}
 use Rattle.plain.specs.Rounds.{continued}
-use Rattle.plain.proofs.RowLaws.{kept-le, kept-maps-lt}
 use Rattle.plain.proofs.rounds.continued.Statement.{statement}
 use Rattle.plain.proofs.rounds.continued.Tie as tie
 
-shr-way : tie.Need-shr-way
-shr-way c = search needs
+-- the relations with a way to the state
+way : (c : tie.After-lanes-with) → let args = c .before .before .args in
+    c .lanes-with .result ≡ lanesWith (args .row) (args .middle) (eachLane (suc maxSets))
+way c = c .lanes-with .ensures ∙ ap (lanesWith _ _) (c .before .lanes-to .ensures)
+
+lanes-to-requires : tie.Need-lanes-to-requires
+lanes-to-requires c κs = search needs
+
+lanes-with-requires : tie.Need-lanes-with-requires
+lanes-with-requires c κs = search needs
+
+map-of-requires : tie.Need-map-of-requires
+map-of-requires c κs = search needs
+
+cast-result : tie.Need-cast-result
+cast-result c = search needs
 
 mul-result : tie.Need-mul-result
-unfolding marks packed
-mul-result c = omega (arith, kept-le (c .args .behind) (bitAnd (c .args .row / 2 ^ c .args .middle) (marks (suc maxSets)) % 2) (omega arith))
+mul-result c =
+    let args = c .before .before .before .args in
+    let to = stands (args .row) (args .middle) in
+    let are = way (c .before) ∙ lanes-with (args .row) (args .middle) (suc maxSets) in
+    let bit = c .map-of .ensures ∙ ap (λ (x : ℕ). mapOf x 0) are in
+    omega (arith, ap (args .behind *_) bit ∙ chosen-kept (args .behind) (suc maxSets) to 0 (omega arith), kept-le (args .behind) (to 0))
 
-mul-result-2 : tie.Need-mul-result-2
-unfolding marks packed
-mul-result-2 c = omega (arith, kept-maps-lt (c .args .behind) (c .args .row / 2 ^ c .args .middle))
+map-of-requires-2 : tie.Need-map-of-requires-2
+map-of-requires-2 c κs = search needs
+
+in-lanes-requires : tie.Need-in-lanes-requires
+in-lanes-requires c κs = (omega (arith, c .map-of2 .ensures), rw (way (c .before .before)) (lanes-with-le _ _ (suc maxSets) lanes (omega arith)))
 
 returns : tie.Need-returns
-unfolding continued marks packed
-returns c = search needs
+unfolding continued
+returns c =
+    let bit = c .before .before in
+    rw (c .in-lanes .ensures, c .before .map-of2 .ensures, bit .map-of .ensures, way (bit .before))
 
 pub continued-spec : {M : Type 1} → statement M
-continued-spec = tie.close (tie.spec shr-way mul-result mul-result-2 returns)
+continued-spec =
+    tie.close
+    (tie.spec
+    lanes-to-requires
+    lanes-with-requires
+    map-of-requires
+    cast-result
+    mul-result
+    map-of-requires-2
+    in-lanes-requires
+    returns)

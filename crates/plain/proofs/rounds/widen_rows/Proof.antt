@@ -4,7 +4,7 @@ use native.Mathlib.Omega.{arith}
 use mathlib.Core.Path.{_≡_, refl}
 use Prim.Native.Nat.{_-_, _≤_}
 use lib.ListN.{length}
-use Rattle.table.specs.Limits.{maxStates}
+use Rattle.table.specs.Lanes.{laneWidth}
 use Rattle.plain.specs.Ways.{ways, AreWays}
 use Rattle.plain.specs.Rounds.{widened}
 use Rattle.plain.proofs.RoundRows.{widened-more}
@@ -12,7 +12,7 @@ use Rattle.plain.proofs.rounds.widen_rows.Statement.{statement}
 use Rattle.plain.proofs.rounds.widen_rows.Tie as tie
 
 abbrev Inv-loop : tie.InvT-loop
-Inv-loop rows₀ n middle₀ rows middle = (middle ≤ n) × (length rows ≡ maxStates) × AreWays n (widened middle (ways rows₀)) rows
+Inv-loop rows₀ n middle₀ rows middle = (middle ≤ n) × (length rows ≡ laneWidth) × AreWays n (widened middle (ways rows₀)) rows
 
 abbrev μ-loop : tie.MeasureT-loop
 μ-loop rows₀ n middle₀ rows middle = n - middle

@@ -1,12 +1,11 @@
 -- `reached` meets its contract. The loop has the states reached from the states that it has passed.
 use borrow.Author.Needs.{needs}
 use native.Mathlib.Omega.{arith}
+use native.Mathlib.Nat.{mul-le-mul-left}
 use mathlib.Core.Path.{_≡_, refl}
 use Prim.Native.Nat.{_-_, _/_, _%_, _^_, _≤_}
 use native.Mathlib.Numerals.{add-one}
-use lib.ListN.{getD}
 use Rattle.plain.specs.Search.{reached}
-use Rattle.plain.proofs.RowLaws.{kept-le}
 use Rattle.plain.proofs.search.reached.Statement.{statement}
 use Rattle.plain.proofs.search.reached.Tie as tie
 
@@ -20,14 +19,14 @@ loop-holds : tie.Need-loop-holds Inv-loop μ-loop
 unfolding reached
 loop-holds c = (omega arith, refl)
 
-mul-next : tie.Need-mul-next Inv-loop μ-loop
-mul-next c = search needs
+mul-map-of : tie.Need-mul-map-of Inv-loop μ-loop
+mul-map-of c = search needs
 
-element-copy-out-next : tie.Need-element-copy-out-next Inv-loop μ-loop
-element-copy-out-next c = search needs
+element-copy-out-map-of : tie.Need-element-copy-out-map-of Inv-loop μ-loop
+element-copy-out-map-of c = search needs
 
-cast-next : tie.Need-cast-next Inv-loop μ-loop
-cast-next c = search needs
+map-of-requires : tie.Need-map-of-requires Inv-loop μ-loop
+map-of-requires c κs = search needs
 
 cast-all : tie.Need-cast-all Inv-loop μ-loop
 cast-all c = search needs
@@ -37,9 +36,9 @@ shr-all c = search needs
 
 mul-all : tie.Need-mul-all Inv-loop μ-loop
 mul-all c =
-    let at = c .before .before in
-    let args = at .before .args in
-    omega (arith, kept-le (getD (args .wide .now) (at .loop .state) 0 % 256) (args .from / 2 ^ at .loop .state % 2) (omega arith))
+    let at = c .before .before .before in
+    let bit : at .before .args .from / 2 ^ at .loop .state % 2 ≤ 1 = omega arith in
+    omega (arith, c .map-of .ensures, mul-le-mul-left (c .map-of .result) bit)
 
 add-state : tie.Need-add-state Inv-loop μ-loop
 add-state c = search needs
@@ -50,8 +49,8 @@ loop-less c = search needs
 loop-again : tie.Need-loop-again Inv-loop μ-loop
 unfolding reached
 loop-again c =
-    let at = c .before .before in
-    (omega arith, rw (add-one, ← at .loop .inv .1))
+    let at = c .before .before .before in
+    (omega arith, rw (add-one, ← at .loop .inv .1, c .map-of .ensures))
 
 returns : tie.Need-returns Inv-loop μ-loop
 returns c =
@@ -65,9 +64,9 @@ reached-spec =
     Inv-loop
     μ-loop
     loop-holds
-    mul-next
-    element-copy-out-next
-    cast-next
+    mul-map-of
+    element-copy-out-map-of
+    map-of-requires
     cast-all
     shr-all
     mul-all

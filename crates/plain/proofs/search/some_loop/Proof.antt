@@ -7,16 +7,17 @@ use Prim.Native.Nat.{ℕ, suc, _-_, _≤_, _<_}
 use borrow.Author.Count.{below-more}
 use borrow.Author.Tests.{eqb-true, eq-eqb}
 use Rattle.table.specs.BitSet.{member}
-use Rattle.table.specs.Limits.{maxSets}
-use Rattle.plain.specs.Ways.{packed, marks, ways}
+use Rattle.table.specs.Lanes.{eachLane}
+use Rattle.table.proofs.LaneLaws.{each-out, each-in}
+use Rattle.plain.specs.Ways.{ways}
 use Rattle.plain.specs.Search.{LoopAt}
-use Rattle.plain.proofs.Searching.{marks-drop, full-out, full-in, reached-out, reached-in}
+use Rattle.plain.proofs.Searching.{reached-out, reached-in}
 use Rattle.plain.proofs.search.some_loop.Statement.{statement}
 use Rattle.plain.proofs.search.some_loop.Tie as tie
 
 abbrev Inv-loop : tie.InvT-loop
 Inv-loop wide from n k all full state₀ state =
-    (full ≡ marks (suc k)) × (state ≤ n) × ((t : ℕ) → t < state → LoopAt (ways wide) n k from t → ⊥)
+    (full ≡ eachLane (suc k)) × (state ≤ n) × ((t : ℕ) → t < state → LoopAt (ways wide) n k from t → ⊥)
 
 abbrev μ-loop : tie.MeasureT-loop
 μ-loop wide from n k all full state₀ state = n - state
@@ -24,32 +25,23 @@ abbrev μ-loop : tie.MeasureT-loop
 reached-requires : tie.Need-reached-requires Inv-loop μ-loop
 reached-requires c κs = search needs
 
-sub-full : tie.Need-sub-full Inv-loop μ-loop
-sub-full c = search needs
-
-mul-full : tie.Need-mul-full Inv-loop μ-loop
-mul-full c = search needs
-
-shr-full : tie.Need-shr-full Inv-loop μ-loop
-shr-full c = search needs
+lanes-to-requires : tie.Need-lanes-to-requires Inv-loop μ-loop
+lanes-to-requires c κs = search needs
 
 loop-holds : tie.Need-loop-holds Inv-loop μ-loop
-unfolding marks packed
-loop-holds c =
-    let k = c .before .args .k in
-    (marks-drop (maxSets - k) (suc maxSets) (suc k) (omega arith), omega arith, λ t small l. absurd (omega arith))
+loop-holds c = (c .lanes-to .ensures, omega arith, λ t small l. absurd (omega arith))
 
 add-state : tie.Need-add-state Inv-loop μ-loop
 add-state c = search needs
 
-mul-if1 : tie.Need-mul-if1 Inv-loop μ-loop
-mul-if1 c = search needs
+mul-lanes-with : tie.Need-mul-lanes-with Inv-loop μ-loop
+mul-lanes-with c = search needs
 
-element-copy-out-if1 : tie.Need-element-copy-out-if1 Inv-loop μ-loop
-element-copy-out-if1 c = search needs
+element-copy-out-lanes-with : tie.Need-element-copy-out-lanes-with Inv-loop μ-loop
+element-copy-out-lanes-with c = search needs
 
-shr-if1 : tie.Need-shr-if1 Inv-loop μ-loop
-shr-if1 c = search needs
+lanes-with-requires : tie.Need-lanes-with-requires Inv-loop μ-loop
+lanes-with-requires c κs = search needs
 
 loop-less : tie.Need-loop-less Inv-loop μ-loop
 loop-less c = search needs
@@ -57,9 +49,13 @@ loop-less c = search needs
 loop-again : tie.Need-loop-again Inv-loop μ-loop
 unfolding ways
 loop-again c =
-    let at = c .before .before .before in
-    let inv = at .loop .inv in
-    (inv .0, omega arith, below-more _ _ (inv .2) (λ (_, h). c .if1 .taken (rw (inv .0) (full-in _ _ _ (omega arith) h))))
+    let with = c .before in
+    let at = with .before .before .before in
+    let inv = at .loop .inv in (
+      inv .0,
+      omega arith,
+      below-more _ _ (inv .2) (λ (_, h). c .if1 .taken (rw (with .lanes-with .ensures, inv .0) (each-in _ _ _ (omega arith) (λ i k. h i (omega arith))))),
+    )
 
 cast-if2 : tie.Need-cast-if2 Inv-loop μ-loop
 cast-if2 c = search needs
@@ -70,16 +66,17 @@ shr-if2 c = search needs
 returns : tie.Need-returns Inv-loop μ-loop
 unfolding ways member
 returns c =
-    let at = c .before .before .before .before in
-    let inv = at .loop .inv in
+    let with = c .before .before in
+    let at = with .before .before .before in
+    let all = each-out _ _ _ (omega arith) (rw (with .lanes-with .ensures, at .loop .inv .0) at (c .before .if1 .left)) in
     inl (
       refl,
       (
         at .loop .state,
-        c .before .before .before .loop-test .taken,
+        with .before .before .loop-test .taken,
         (
-          reached-out _ _ (at .loop .state) _ (rw (at .before .reached .ensures) at (eq-eqb _ _ (c .if2 .taken))),
-          full-out _ _ _ (omega arith) (rw (inv .0) at (c .before .if1 .left)),
+          reached-out _ _ (at .loop .state) _ (rw (at .before .before .reached .ensures) at (eq-eqb _ _ (c .if2 .taken))),
+          λ i h. all i (omega arith),
         ),
       ),
     )
@@ -90,11 +87,11 @@ loop-less-2 c = search needs
 loop-again-2 : tie.Need-loop-again-2 Inv-loop μ-loop
 unfolding member
 loop-again-2 c =
-    let at = c .before .before .before .before in
+    let at = c .before .before .before .before .before in
     let inv = at .loop .inv in (
       inv .0,
       omega arith,
-      below-more _ _ (inv .2) (λ (r, _). c .if2 .left (eqb-true _ _ (rw (at .before .reached .ensures) (reached-in _ _ _ _ r)))),
+      below-more _ _ (inv .2) (λ (r, _). c .if2 .left (eqb-true _ _ (rw (at .before .before .reached .ensures) (reached-in _ _ _ _ r)))),
     )
 
 returns-2 : tie.Need-returns-2 Inv-loop μ-loop
@@ -109,14 +106,12 @@ some-loop-spec =
     Inv-loop
     μ-loop
     reached-requires
-    sub-full
-    mul-full
-    shr-full
+    lanes-to-requires
     loop-holds
     add-state
-    mul-if1
-    element-copy-out-if1
-    shr-if1
+    mul-lanes-with
+    element-copy-out-lanes-with
+    lanes-with-requires
     loop-less
     loop-again
     cast-if2

@@ -3,33 +3,34 @@
 use borrow.Author.Needs.{needs}
 use native.Mathlib.Omega.{arith}
 use mathlib.Core.Path.{_≡_, _∙_, ap, ap₂}
-use Prim.Native.Nat.{ℕ, suc, _-_, _*_, _/_, _^_, _≤_, _<_}
-use lib.Bits.{bitAnd, bitOr}
+use Prim.Native.Nat.{ℕ, suc, _-_, _≤_}
+use lib.Bits.{bitOr}
 use lib.Count.{trailingZeros, trailing-le}
+use Rattle.table.specs.Lanes.{mapOf, wordOf, eachLane, lanesWith, inLane, inLanes, lanes}
 use Rattle.table.specs.Limits.{maxSets}
-use Rattle.table.specs.Lookup.{mapOf, imagesBy}
-use Rattle.plain.specs.Ways.{packed, marks}
+use Rattle.table.specs.Lookup.{imagesBy}
+use Rattle.table.proofs.LaneLaws.{lanes-with-le}
 use Rattle.plain.specs.Letters.{onward, extended}
-use Rattle.plain.proofs.RowLaws.{kept-maps-lt}
-use Rattle.plain.proofs.LetterLaws.{extended-first, extended-more, extended-full}
+use Rattle.plain.proofs.LetterLaws.{onward-lt, extended-first, extended-more, extended-full}
 use Rattle.plain.proofs.tail.extended.Statement.{statement}
 use Rattle.plain.proofs.tail.extended.Tie as tie
 
 abbrev Inv-loop : tie.InvT-loop
 Inv-loop table row states images full all₀ relation₀ all relation =
-    (relation ≤ suc maxSets) × (all ≡ bitOr (imagesBy table (mapOf row 0)) (packed relation (λ i. onward table (mapOf row i))))
+    (relation ≤ suc maxSets) × (all ≡ bitOr (imagesBy table (mapOf row 0)) (wordOf relation (λ i. onward table (mapOf row i))))
 
 abbrev μ-loop : tie.MeasureT-loop
 μ-loop table row states images full all₀ relation₀ all relation = suc maxSets - relation
-
--- the product of a row's states with a bit for each relation fits in 64 bits
-product-fits : (word s bits : ℕ) → s ≡ mapOf word 0 → s * bitAnd bits (marks (suc maxSets)) < 2 ^ 64
-product-fits word s bits e = rw e (kept-maps-lt (word / 2 ^ 0) bits)
 
 -- the images of the row's states
 own-images : (c : tie.After-look-up Inv-loop μ-loop) → let start = c .before .before in
     c .look-up .result ≡ imagesBy (start .args .table .now) (mapOf (start .args .row) 0)
 own-images c = c .look-up .ensures ∙ ap (imagesBy _) (c .before .map-of .ensures)
+
+-- the lanes that have the lowest of the states
+full : (c : tie.After-lanes-with Inv-loop μ-loop) → let states = c .before .before .before in
+    c .lanes-with .result ≡ lanesWith (states .before .args .row) (trailingZeros 16 (states .map-of .result)) (eachLane (suc maxSets))
+full c = c .lanes-with .ensures ∙ ap (lanesWith _ _) (c .before .lanes-to .ensures)
 
 map-of-requires : tie.Need-map-of-requires Inv-loop μ-loop
 map-of-requires c κs = search needs
@@ -37,46 +38,38 @@ map-of-requires c κs = search needs
 look-up-requires : tie.Need-look-up-requires Inv-loop μ-loop
 look-up-requires c κs = search needs
 
-cast-full : tie.Need-cast-full Inv-loop μ-loop
-cast-full c = omega (arith, trailing-le 16 (c .before .map-of .result))
+cast-lanes-with : tie.Need-cast-lanes-with Inv-loop μ-loop
+cast-lanes-with c = omega (arith, trailing-le 16 (c .before .map-of .result))
 
-shr-full : tie.Need-shr-full Inv-loop μ-loop
-shr-full c = omega (arith, trailing-le 16 (c .before .map-of .result))
+lanes-to-requires : tie.Need-lanes-to-requires Inv-loop μ-loop
+lanes-to-requires c κs = search needs
 
-cast-if1 : tie.Need-cast-if1 Inv-loop μ-loop
-cast-if1 c = search needs
+lanes-with-requires : tie.Need-lanes-with-requires Inv-loop μ-loop
+lanes-with-requires c κs = omega (arith, trailing-le 16 (c .before .before .map-of .result))
 
-mul-if1 : tie.Need-mul-if1 Inv-loop μ-loop
-unfolding marks packed
-mul-if1 c =
-    let bits = c .before .before .args .row / 2 ^ trailingZeros 16 (c .before .map-of .result) in
-    omega (arith, product-fits _ _ bits (c .before .map-of .ensures))
+in-lanes-requires : tie.Need-in-lanes-requires Inv-loop μ-loop
+in-lanes-requires c κs = (omega (arith, c .before .before .before .map-of .ensures), rw (full c) (lanes-with-le _ _ (suc maxSets) lanes (omega arith)))
 
 map-of-requires-2 : tie.Need-map-of-requires-2 Inv-loop μ-loop
 map-of-requires-2 c κs = search needs
 
-cast-result : tie.Need-cast-result Inv-loop μ-loop
-cast-result c = search needs
-
-mul-result : tie.Need-mul-result Inv-loop μ-loop
-unfolding marks packed
-mul-result c =
-    let start = c .before .before .before in
-    let bits = start .before .args .row / 2 ^ trailingZeros 16 (start .map-of .result) in
-    omega (arith, product-fits _ _ bits (c .map-of2 .ensures))
+in-lanes-requires-2 : tie.Need-in-lanes-requires-2 Inv-loop μ-loop
+in-lanes-requires-2 c κs =
+    (omega (arith, c .map-of2 .ensures), rw (full (c .before .before .before)) (lanes-with-le _ _ (suc maxSets) lanes (omega arith)))
 
 returns : tie.Need-returns Inv-loop μ-loop
-unfolding marks packed
 returns c =
-    let found = c .before in
-    let row = found .before .before .before .args .row in
-    let b = trailingZeros 16 (found .before .before .map-of .result) in
-    let own = own-images (found .before) in
-    ap₂ (λ (x y : ℕ). bitOr x (y * bitAnd (row / 2 ^ b) 4311810305)) own (c .map-of2 .ensures ∙ ap (λ (x : ℕ). mapOf x 0) own)
-    ∙ extended-full _ _ b (found .if1 .taken ∙ ap (λ (x : ℕ). x * bitAnd (row / 2 ^ b) 4311810305) (found .before .before .map-of .ensures))
+    let found = c .before .before in
+    let kept = found .before in
+    let lowest = kept .before in
+    let looked = lowest .before .before in
+    let own = own-images looked in
+    ap₂ bitOr own (c .in-lanes2 .ensures ∙ ap₂ inLanes (c .before .map-of2 .ensures ∙ ap (λ (x : ℕ). mapOf x 0) own) (full lowest))
+    ∙ extended-full _ _ (trailingZeros 16 (looked .before .map-of .result))
+    (found .if1 .taken ∙ kept .in-lanes .ensures ∙ ap₂ inLanes (looked .before .map-of .ensures) (full lowest))
 
 loop-holds : tie.Need-loop-holds Inv-loop μ-loop
-loop-holds c = (omega arith, own-images (c .before) ∙ extended-first _ _)
+loop-holds c = (omega arith, own-images (c .before .before .before .before) ∙ extended-first _ _)
 
 map-of-requires-3 : tie.Need-map-of-requires-3 Inv-loop μ-loop
 map-of-requires-3 c κs = search needs
@@ -84,14 +77,8 @@ map-of-requires-3 c κs = search needs
 onward-requires : tie.Need-onward-requires Inv-loop μ-loop
 onward-requires c κs = search needs
 
-cast-all : tie.Need-cast-all Inv-loop μ-loop
-cast-all c = search needs
-
-mul-all : tie.Need-mul-all Inv-loop μ-loop
-mul-all c = search needs
-
-shl-all : tie.Need-shl-all Inv-loop μ-loop
-shl-all c = search needs
+in-lane-requires : tie.Need-in-lane-requires Inv-loop μ-loop
+in-lane-requires c κs = (rw (c .onward .ensures) (onward-lt _ _), search needs)
 
 add-relation : tie.Need-add-relation Inv-loop μ-loop
 add-relation c = search needs
@@ -101,9 +88,11 @@ loop-less c = search needs
 
 loop-again : tie.Need-loop-again Inv-loop μ-loop
 loop-again c =
-    let at = c .before .before .before in
-    let more = c .onward .ensures ∙ ap (onward _) (c .before .map-of3 .ensures) in
-    (omega arith, extended-more _ _ (at .loop .relation) _ _ (omega arith) (at .loop .inv .1) more)
+    let on = c .before in
+    let at = on .before .before .before in
+    let further = on .onward .ensures ∙ ap (onward _) (on .before .map-of3 .ensures) in
+    let more = c .in-lane .ensures ∙ ap (λ (x : ℕ). inLane x (at .loop .relation)) further in
+    (omega arith, extended-more _ _ (at .loop .relation) _ _ (at .loop .inv .1) more)
 
 returns-2 : tie.Need-returns-2 Inv-loop μ-loop
 unfolding extended
@@ -119,20 +108,17 @@ extended-spec =
     μ-loop
     map-of-requires
     look-up-requires
-    cast-full
-    shr-full
-    cast-if1
-    mul-if1
+    cast-lanes-with
+    lanes-to-requires
+    lanes-with-requires
+    in-lanes-requires
     map-of-requires-2
-    cast-result
-    mul-result
+    in-lanes-requires-2
     returns
     loop-holds
     map-of-requires-3
     onward-requires
-    cast-all
-    mul-all
-    shl-all
+    in-lane-requires
     add-relation
     loop-less
     loop-again

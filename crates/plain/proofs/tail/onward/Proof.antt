@@ -2,7 +2,8 @@
 use borrow.Author.Needs.{needs}
 use mathlib.Core.Path.{sym, _∙_, ap}
 use Prim.Native.Nat.{ℕ}
-use Rattle.table.specs.Lookup.{mapOf, lookUp}
+use Rattle.table.specs.Lanes.{mapOf}
+use Rattle.table.specs.Lookup.{lookUp}
 use Rattle.plain.proofs.LetterLaws.{onward-none, onward-some}
 use Rattle.plain.specs.Letters.{onward}
 use Rattle.plain.proofs.tail.onward.Statement.{statement}

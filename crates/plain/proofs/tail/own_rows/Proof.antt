@@ -1,24 +1,39 @@
 -- `own_rows` meets its contract. The loop stores the row of each state in turn.
 use borrow.Author.Needs.{needs}
 use native.Mathlib.Omega.{arith}
-use Prim.Native.Nat.{_-_, _^_}
-use Rattle.table.specs.Limits.{maxStates}
+use mathlib.Core.Path.{_≡_, _∙_, ap}
+use Prim.Native.Nat.{ℕ, _*_, _-_, _%_, _^_, _<_}
+use lib.Pow.{pow-lt}
+use Rattle.table.specs.Lanes.{laneWidth, inLane}
 use Rattle.table.proofs.BitSet.{one-shifted}
 use Rattle.table.proofs.Tabulate.{Holds, holds-none, holds-more, holds-all}
+use Rattle.plain.specs.Letters.{ownRow}
 use Rattle.plain.proofs.tail.own_rows.Statement.{statement}
 use Rattle.plain.proofs.tail.own_rows.Tie as tie
 
 abbrev Inv-loop : tie.InvT-loop
-Inv-loop rows₀ state₀ rows state = Holds (λ s. 2 ^ s) maxStates state rows
+Inv-loop rows₀ state₀ rows state = Holds ownRow laneWidth state rows
 
 abbrev μ-loop : tie.MeasureT-loop
-μ-loop rows₀ state₀ rows state = maxStates - state
+μ-loop rows₀ state₀ rows state = laneWidth - state
 
 loop-holds : tie.Need-loop-holds Inv-loop μ-loop
 loop-holds c = holds-none _ _ _ (search needs)
 
-shl-rows : tie.Need-shl-rows Inv-loop μ-loop
-shl-rows c = search needs
+cast-in-lane : tie.Need-cast-in-lane Inv-loop μ-loop
+cast-in-lane c = search needs
+
+shl-in-lane : tie.Need-shl-in-lane Inv-loop μ-loop
+shl-in-lane c = search needs
+
+-- the map of the state alone
+single : (s : ℕ) → s < laneWidth → 1 * 2 ^ s % 2 ^ 16 ≡ 2 ^ s
+single s h = one-shifted 16 s (omega arith)
+
+in-lane-requires : tie.Need-in-lane-requires Inv-loop μ-loop
+in-lane-requires c κs =
+    let h = c .loop-test .taken in
+    (rw (single (c .before .loop .state) h) (pow-lt h), search needs)
 
 mul-rows : tie.Need-mul-rows Inv-loop μ-loop
 mul-rows c = search needs
@@ -33,7 +48,11 @@ loop-less : tie.Need-loop-less Inv-loop μ-loop
 loop-less c = search needs
 
 loop-again : tie.Need-loop-again Inv-loop μ-loop
-loop-again c = holds-more _ (c .before .loop .inv) (c .loop-test .taken) (one-shifted 64 (c .before .loop .state) (omega arith))
+unfolding ownRow
+loop-again c =
+    let at = c .before .before in
+    let h = c .before .loop-test .taken in
+    holds-more _ (at .loop .inv) h (c .in-lane .ensures ∙ ap (λ (x : ℕ). inLane x 0) (single (at .loop .state) h))
 
 returns : tie.Need-returns Inv-loop μ-loop
 returns c = holds-all (c .before .loop .inv) (c .loop-test .left)
@@ -45,7 +64,9 @@ own-rows-spec =
     Inv-loop
     μ-loop
     loop-holds
-    shl-rows
+    cast-in-lane
+    shl-in-lane
+    in-lane-requires
     mul-rows
     array-write-rows
     add-state

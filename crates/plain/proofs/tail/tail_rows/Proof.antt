@@ -2,20 +2,21 @@
 use borrow.Author.Needs.{needs}
 use native.Mathlib.Omega.{arith}
 use mathlib.Core.Path.{_≡_, sym, _∙_, ap}
-use Prim.Native.Nat.{ℕ, _-_, _^_, _≤_, _<_}
+use Prim.Native.Nat.{ℕ, _-_, _≤_, _<_}
 use lib.ListN.{length, drop, getD}
-use Rattle.table.specs.Limits.{maxStates, maxLetters}
+use Rattle.table.specs.Lanes.{laneWidth}
+use Rattle.table.specs.Limits.{maxLetters}
 use Rattle.table.proofs.Every.{every-at}
 use Rattle.table.proofs.Tabulate.{getD-tabulate}
-use Rattle.plain.specs.Letters.{rowAfter}
+use Rattle.plain.specs.Letters.{ownRow, rowAfter}
 use Rattle.plain.proofs.LetterLaws.{over-done, over-more}
 use Rattle.plain.proofs.tail.tail_rows.Statement.{statement}
 use Rattle.plain.proofs.tail.tail_rows.Tie as tie
 
 abbrev Inv-loop : tie.InvT-loop
 Inv-loop tables v n rows₀ at₀ rows at =
-    (at ≤ length v) × (length rows ≡ maxStates)
-    × ((s : ℕ) → s < n → rowAfter tables (drop at v) (getD rows s 0) ≡ rowAfter tables v (2 ^ s))
+    (at ≤ length v) × (length rows ≡ laneWidth)
+    × ((s : ℕ) → s < n → rowAfter tables (drop at v) (getD rows s 0) ≡ rowAfter tables v (ownRow s))
 
 abbrev μ-loop : tie.MeasureT-loop
 μ-loop tables v n rows₀ at₀ rows at = length v - at
@@ -26,8 +27,8 @@ own-rows-requires c κs = search needs
 loop-holds : tie.Need-loop-holds Inv-loop μ-loop
 loop-holds c =
     let n = c .before .before .args .n in
-    let made : (s : ℕ) → s < n → getD (c .own-rows .result) s 0 ≡ 2 ^ s =
-    λ s small. rw (c .own-rows .ensures) (getD-tabulate maxStates (λ s. 2 ^ s) s 0 (omega arith)) in
+    let made : (s : ℕ) → s < n → getD (c .own-rows .result) s 0 ≡ ownRow s =
+    λ s small. rw (c .own-rows .ensures) (getD-tabulate laneWidth ownRow s 0 (omega arith)) in
     (omega arith, search needs, λ s small. ap (rowAfter _ _) (made s small))
 
 shared-slice-read-letter-rows : tie.Need-shared-slice-read-letter-rows Inv-loop μ-loop

@@ -1,13 +1,15 @@
 -- The set bytes of a cell, by the laws of RowReading and RowWords.
 use mathlib.Core.Path.{sym}
-use Prim.Native.Nat.{_<_}
+use Prim.Native.Nat.{_^_, _<_}
 use native.Mathlib.Omega.{arith}
 use borrow.Author.Needs.{needs}
 use lib.ListN.{drop}
 use lib.Pow.{pow-mono}
 use Rattle.table.specs.Limits.{maxStates}
+use Rattle.table.specs.Lanes.{lanes, setLanes, spread}
 use Rattle.table.specs.Table.{readRow}
 use Rattle.table.proofs.CellByte.{byte-below}
+use Rattle.table.proofs.LaneLaws.{chosen-le}
 use Rattle.table.proofs.RowReading.{RowSoFar, row-start, row-some, row-inside, row-take, row-refused, row-none, row-done}
 use Rattle.table.proofs.RowWords.{WordSoFar, word-blank, word-start, word-take, word-done}
 use Rattle.table.proofs.cells.read_row.Statement.{statement}
@@ -20,8 +22,13 @@ Inv-loop s map k row₀ word₀ at₀ left₀ rest₀ made₀ row word at left r
 abbrev μ-loop : tie.MeasureT-loop
 μ-loop s map k row₀ word₀ at₀ left₀ rest₀ made₀ row word at left rest made = left
 
+in-lane-requires : tie.Need-in-lane-requires Inv-loop μ-loop
+in-lane-requires c κs = search needs
+
 loop-holds : tie.Need-loop-holds Inv-loop μ-loop
-loop-holds c = rw (c .before .pre .1) (row-start _ _ _ _ _ (c .before .pre .0 .0), word-start _)
+loop-holds c =
+    let start = c .before .before in
+    rw (start .pre .1) (row-start _ _ _ _ _ (start .pre .0 .0), word-start _ _ (c .in-lane .ensures))
 
 -- a u64 has more bits than a row has places
 cast-r : tie.Need-cast-r Inv-loop μ-loop
@@ -60,12 +67,12 @@ widen-requires : tie.Need-widen-requires Inv-loop μ-loop
 widen-requires c κs = search needs
 
 -- a set byte is below 2^k
-few : (c : tie.After-known-told2 Inv-loop μ-loop) → c .before .sets .given .0 .0 < 16
+few : (c : tie.After-known-told2 Inv-loop μ-loop) → c .before .sets .given .0 .0 < 2 ^ setLanes
 few c =
     let r = c .before .before .before in
-    let start = r .before .before .before .before in
+    let start = r .before .before .before .before .before in
     let below = byte-below _ _ _ _ (rw (c .before .sets .given .1) at (r .read-byte .ensures)) in
-    omega (arith, below, pow-mono {i = start .args .k} {j = 4} (start .pre .0 .1))
+    omega (arith, below, pow-mono {i = start .args .k} {j = setLanes} (omega arith))
 
 mul-spread : tie.Need-mul-spread Inv-loop μ-loop
 mul-spread c = omega (arith, few (c .before), c .widen .ensures)
@@ -73,23 +80,26 @@ mul-spread c = omega (arith, few (c .before), c .widen .ensures)
 spread-requires : tie.Need-spread-requires Inv-loop μ-loop
 spread-requires c κs = omega (arith, few (c .before), c .widen .ensures)
 
-shl-made : tie.Need-shl-made Inv-loop μ-loop
-shl-made c =
+with-state-requires : tie.Need-with-state-requires Inv-loop μ-loop
+unfolding spread
+with-state-requires c κs =
     let l = c .before .before .before .before .before .before in
-    omega (arith, row-inside (l .before .loop .inv .0) (l .loop-test .taken) 64 (omega arith))
+    (row-inside (l .before .loop .inv .0) (l .loop-test .taken) 64 (omega arith), rw (c .spread .ensures) (chosen-le lanes lanes _ (omega arith)))
 
 loop-less : tie.Need-loop-less Inv-loop μ-loop
 loop-less c = search needs
 
 loop-again : tie.Need-loop-again Inv-loop μ-loop
 loop-again c =
-    let told = c .before .before in
+    let spread = c .before in
+    let told = spread .before .before in
     let r = told .before .before .before in
     let l = r .before in
     let inv = l .before .loop .inv in
     let h = l .loop-test .taken in (
       row-take (inv .0) h 64 (omega arith) _ _ (rw (told .before .sets .given .1) at (r .read-byte .ensures)),
-      word-take (inv .1) (inv .0 .size) (inv .0 .small) (row-some (inv .0) h) 64 (omega arith) _ _ _ (few told) (rw (c .before .widen .ensures)) (c .spread .ensures),
+      rw (c .with-state .ensures, spread .spread .ensures, spread .before .widen .ensures)
+          (word-take (inv .1) (omega (arith, inv .0 .size)) (row-some (inv .0) h) (inv .0 .small) 64 (omega arith) _ (few told)),
     )
 
 returns-2 : tie.Need-returns-2 Inv-loop μ-loop
@@ -104,6 +114,7 @@ read-row-spec =
     (tie.spec
     Inv-loop
     μ-loop
+    in-lane-requires
     loop-holds
     cast-r
     sub-rest
@@ -116,7 +127,7 @@ read-row-spec =
     widen-requires
     mul-spread
     spread-requires
-    shl-made
+    with-state-requires
     loop-less
     loop-again
     returns-2)
