@@ -21,7 +21,7 @@ use Rattle.history.specs.Tree.{Tree}
 use Rattle.history.specs.Letter.{nextTree, accepting, stable, byNumber}
 use Rattle.history.specs.Rounds.{readLetters, roundTree, treeInRound, FirstRepeat}
 use Rattle.history.specs.Verdict.{LetterPlace, Witness, FirstWitness}
-use Rattle.history.specs.Following.{stableThrough, acceptingOnce, acceptedMap}
+use Rattle.history.specs.Following.{stableThrough, acceptingOnce, witnessMap}
 use Rattle.history.proofs.TreesOf.{of-root}
 use Rattle.history.proofs.NamesDistinct.{length-names}
 use Rattle.history.proofs.TreesOfWalk.{read-append, round-next, round-periodic}
@@ -153,21 +153,21 @@ module _ (R : Rule) (u v : List ℕ) (entry period : ℕ) (F : FirstRepeat (roun
       read-rounds R u v period start ∙ sym (rw e at (round-periodic R u v entry period F 1 start late))
 
   -- the members of the map are the nodes that kept their names and were accepting once
-  member-followed : (j : ℕ) → member (acceptedMap R (roundTree R u v start) (rounds period v)) j ≡ (ltb j (size (roundTree R u v start))
+  member-followed : (j : ℕ) → member (witnessMap R (roundTree R u v start) (rounds period v)) j ≡ (ltb j (size (roundTree R u v start))
       && (stableThrough R (roundTree R u v start) (rounds period v) (getD (names (roundTree R u v start)) j [])
       && acceptingOnce R (roundTree R u v start) (rounds period v) (getD (names (roundTree R u v start)) j [])))
-  unfolding acceptedMap
+  unfolding witnessMap
   member-followed j =
       let T = roundTree R u v start in
       let f : List ℕ → Bool = λ w. stableThrough R T (rounds period v) w && acceptingOnce R T (rounds period v) w in
       ap (λ (X : Tree). member (byNumber f X) j) cycle-back ∙ member-by T f j
 
-  pub member-node : (j : ℕ) → member (acceptedMap R (roundTree R u v start) (rounds period v)) j ≡ true → j < size (roundTree R u v start)
+  pub member-node : (j : ℕ) → member (witnessMap R (roundTree R u v start) (rounds period v)) j ≡ true → j < size (roundTree R u v start)
   member-node j m = ltb-true j _ (and-in (ltb j (size (roundTree R u v start))) _ (sym (member-followed j) ∙ m) .0)
 
   -- and these are the witnesses
   pub member-witness : (j : ℕ) → j < size (roundTree R u v start)
-      → member (acceptedMap R (roundTree R u v start) (rounds period v)) j ≡ true
+      → member (witnessMap R (roundTree R u v start) (rounds period v)) j ≡ true
       ↔ Witness R u v start period (getD (names (roundTree R u v start)) j [])
   member-witness j h = (
     λ m. witness-through R u v w period start .1 (and-in (stableThrough R (roundTree R u v start) (rounds period v) w) _
@@ -187,8 +187,8 @@ module _ (R : Rule) (u v : List ℕ) (entry period : ℕ) (F : FirstRepeat (roun
 
     -- the lowest member is the first witness
     pub verdict-yes : (j : ℕ) → j < size (roundTree R u v start)
-        → member (acceptedMap R (roundTree R u v start) (rounds period v)) j ≡ true
-        → ((i : ℕ) → i < j → member (acceptedMap R (roundTree R u v start) (rounds period v)) i ≡ false)
+        → member (witnessMap R (roundTree R u v start) (rounds period v)) j ≡ true
+        → ((i : ℕ) → i < j → member (witnessMap R (roundTree R u v start) (rounds period v)) i ≡ false)
         → FirstWitness R u v entry period (getD (names (roundTree R u v start)) j [])
     verdict-yes j h m lowest =
         let W = member-witness j h .0 m in
@@ -197,7 +197,7 @@ module _ (R : Rule) (u v : List ℕ) (entry period : ℕ) (F : FirstRepeat (roun
         (λ i l W′. clash (lowest i l) (member-witness i (omega arith) .1 W′)))
 
     -- without members there is none
-    pub verdict-no : acceptedMap R (roundTree R u v start) (rounds period v) ≡ 0 → (w : List ℕ) → Witness R u v entry period w → ⊥
+    pub verdict-no : witnessMap R (roundTree R u v start) (rounds period v) ≡ 0 → (w : List ℕ) → Witness R u v entry period w → ⊥
     verdict-no none w W =
         let W′ = any-rounds R u v entry period F start late w .0 W in
         let (i, l, e) = witness-node R u v start period (omega (arith, W′ .there .within)) (F .positive) w W′ in

@@ -21,7 +21,7 @@ use Rattle.history.specs.Tree.{Tree, isTreeOf}
 use Rattle.history.specs.Letter.{nextTree, accepting, stable, byNumber, acceptingMap, stableMap}
 use Rattle.history.specs.Rounds.{readLetters}
 use Rattle.history.specs.OldNumbers.{noNode, oldNumbers}
-use Rattle.history.specs.Following.{stableThrough, acceptingOnce, keptMap, acceptedMap, carried}
+use Rattle.history.specs.Following.{stableThrough, acceptingOnce, keptMap, witnessMap, carried}
 use Rattle.history.proofs.TreesOfWalk.{read-append}
 use Rattle.history.proofs.RepeatExists.{letters-keep}
 use Rattle.history.proofs.OldNumberLaws.{length-old, stable-keeps, stable-comes}
@@ -80,8 +80,8 @@ collect-none (suc n) = omega (arith, collect-none n)
 -- THE MAPS THAT ARE FOLLOWED
 
 -- before the first letter all nodes have kept their names, and none was accepting
-pub follow-none : (R : Rule) (T : Tree) → (keptMap R T [] ≡ 2 ^ size T - 1) × (acceptedMap R T [] ≡ 0)
-unfolding keptMap acceptedMap byNumber stableThrough acceptingOnce readLetters
+pub follow-none : (R : Rule) (T : Tree) → (keptMap R T [] ≡ 2 ^ size T - 1) × (witnessMap R T [] ≡ 0)
+unfolding keptMap witnessMap byNumber stableThrough acceptingOnce readLetters
 follow-none R T = (collect-all (size T), collect-none (size T))
 
 module _ (R : Rule) (well : WellFormed R) (sets : 1 ≤ R .sets) (few : R .states < noNode) where
@@ -129,10 +129,10 @@ module _ (R : Rule) (well : WellFormed R) (sets : 1 ≤ R .sets) (few : R .state
     follow-kept = follow (stableThrough R T₀ (w ++ (a ∷ []))) (stableThrough R T₀ w) (λ p. stable-append R T₀ w (a ∷ []) p ∙ rw and-true)
 
     -- and of these the ones that were accepting before, or are at this letter
-    pub follow-accepted : acceptedMap R T₀ (w ++ (a ∷ [])) ≡ carried (oldNumbers R a (readLetters R w T₀))
-        (bitAnd (bitOr (acceptedMap R T₀ w) (bitAnd (keptMap R T₀ w) (acceptingMap R a (readLetters R w T₀))))
+    pub follow-accepted : witnessMap R T₀ (w ++ (a ∷ [])) ≡ carried (oldNumbers R a (readLetters R w T₀))
+        (bitAnd (bitOr (witnessMap R T₀ w) (bitAnd (keptMap R T₀ w) (acceptingMap R a (readLetters R w T₀))))
         (stableMap R a (readLetters R w T₀)))
-    unfolding keptMap acceptedMap acceptingMap stableThrough acceptingOnce
+    unfolding keptMap witnessMap acceptingMap stableThrough acceptingOnce
     follow-accepted =
         let T = readLetters R w T₀ in
         let kept = stableThrough R T₀ w in

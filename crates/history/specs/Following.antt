@@ -24,8 +24,8 @@ unfoldable pub keptMap : Rule → Tree → List ℕ → ℕ
 keptMap R T w = byNumber (stableThrough R T w) (readLetters R w T)
 
 -- and those of them that were accepting once
-unfoldable pub acceptedMap : Rule → Tree → List ℕ → ℕ
-acceptedMap R T w = byNumber (λ p. stableThrough R T w p && acceptingOnce R T w p) (readLetters R w T)
+unfoldable pub witnessMap : Rule → Tree → List ℕ → ℕ
+witnessMap R T w = byNumber (λ p. stableThrough R T w p && acceptingOnce R T w p) (readLetters R w T)
 
 -- a map of old numbers carried to the new numbers: `olds` has the old number of each new node
 unfoldable pub carried : List ℕ → ℕ → ℕ

@@ -119,8 +119,5 @@ pub row-read : (words : List ℕ) (i : ℕ) {x : Row} → x ≡ unpacked (getD w
 row-read words i is = is ∙ sym (row-in words i)
 
 -- as many rows as words
-pub rows-length : (words : List ℕ) → length (rowsIn words) ≡ length words
-rows-length words = length-map words unpacked
-
 pub rows-many : (words : List ℕ) {n : ℕ} → length words ≡ n → length (rowsIn words) ≡ n
-rows-many words is = rows-length words ∙ is
+rows-many words is = length-map words unpacked ∙ is

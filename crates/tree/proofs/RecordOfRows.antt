@@ -5,26 +5,30 @@ use mathlib.Core.Bool.{Bool, true, false, not, _&&_, cond}
 use mathlib.Core.List.{List, [], _∷_, _++_, map, map-map, map-append, append-assoc, append-nil}
 use Prim.Native.Nat.{ℕ, zero, suc, _+_, _^_, _≤_, _<_}
 use native.Mathlib.Omega.{arith}
-use lib.ListN.{getD, take, length-take, List·getD-map}
+use lib.ListN.{getD, List·getD-map}
 use lib.Pow.{pow-pos, pow-mono}
 use lib.Seq.{getD-take}
-use Rattle.table.specs.Limits.{maxStates}
 use Rattle.table.specs.BitSet.{member}
+use Rattle.table.specs.HeldRule.{WithinLimits}
+use Rattle.table.specs.Rule.{Rule}
 use Rattle.table.specs.Table.{Every}
 use Rattle.table.proofs.BitSet.{member-none}
 use Rattle.table.proofs.Logic.{look, clash, never}
 use Rattle.history.specs.Forest.{nil, node, size}
 use Rattle.history.specs.Tree.{Node, Tree, labels}
 use Rattle.history.specs.Record.{hostFrom, host, marks, recordOf}
-use Rattle.tree.specs.Rows.{rowsFrom, rowsOf, withoutOld, AreRows}
+use Rattle.tree.specs.PackedRows.{rowsIn, countedRows}
+use Rattle.tree.specs.Rows.{rowsFrom, rowsOf, withoutOld, AreRows, HoldsTree}
 use Rattle.tree.specs.Pass.{blankRow}
 use Rattle.tree.specs.RecordRows.{hostRow, markOf, hostBytes, markBytes, rowsRecord, Recordable}
 use Rattle.tree.specs.declared.rows.Row.{Row}
+use Rattle.tree.specs.declared.rows.Tree.{Tree as CodeTree}
 use Rattle.history.proofs.Conditions.{Nested, Active, NestedTree}
 use Rattle.history.proofs.Hosts.{held-here, held-younger, held-in, host-below, host-here, host-younger}
 use Rattle.history.proofs.Members.{map-members}
 use Rattle.history.proofs.RecordOfTree.{root-states}
-use Rattle.tree.proofs.TreeRows.{rows-are-nodes}
+use Rattle.history.proofs.TreesOf.{of-few, of-nested}
+use Rattle.tree.proofs.TreeRows.{tree-small}
 
 -- HOSTS
 
@@ -150,31 +154,39 @@ root-small n k nil w = pow-pos n
 root-small n k (node x below nil) w = rw (root-states x below) at (w .states)
 root-small n k (node x below (node y other younger)) w = absurd (w .one-root)
 
-module _ (n k : ℕ) (T : Tree) (t : NestedTree n k T) where
-  -- what is written for a tree's rows is its record
-  pub record-of-rows : (l : List Row) → AreRows l T → rowsRecord n l ≡ recordOf n T
-  record-of-rows l e = sym (record-without-old n l) ∙ ap (rowsRecord n) e ∙ tree-record n k T t
+-- what is written for a tree's rows is its record
+pub record-of-rows : (n k : ℕ) (T : Tree) → NestedTree n k T → (l : List Row) → AreRows l T → rowsRecord n l ≡ recordOf n T
+record-of-rows n k T t l e = sym (record-without-old n l) ∙ ap (rowsRecord n) e ∙ tree-record n k T t
 
-  module _ (count : ℕ) (rows : List Row) (are : AreRows (take count rows) T) where
-    mark-at : (i : ℕ) → i < count → markOf (getD rows i blankRow) ≡ getD (marks 0 T) i 0
-    unfolding markOf rowsOf
-    mark-at i h = ap markOf (sym (getD-take count rows i blankRow h)) ∙ sym (List·getD-map markOf (take count rows) i blankRow)
-        ∙ ap (λ (l : List ℕ). getD l i 0) (sym (map-map markOf withoutOld (take count rows)) ∙ ap (map markOf) are ∙ marks-of-rows 0 T)
+module _ {R : Rule} {T : Tree} {x : CodeTree} (held : HoldsTree R T x) where
+  pub held-record : rowsRecord (R .states) (countedRows x) ≡ recordOf (R .states) T
+  held-record = record-of-rows (R .states) (R .sets) T (of-nested R T (held .fits)) (countedRows x) (held .are)
 
-    root-at : 0 < count → getD rows 0 blankRow .label ≡ getD (rowsOf T) 0 blankRow .label
-    root-at h = ap (λ (x : Row). x .label) (sym (getD-take count rows 0 blankRow h))
-        ∙ ap (λ (x : Row). x .label) (sym (List·getD-map withoutOld (take count rows) 0 blankRow))
-        ∙ ap (λ (l : List Row). getD l 0 blankRow .label) are
+  abbrev rows : List Row
+  rows = rowsIn (x .rows)
 
-    -- and it can be recorded
-    pub rows-recordable : n ≤ maxStates → count ≤ maxStates → k < 16 → Recordable n count rows
-    rows-recordable states few h = record {
-      states = states;
-      few = few;
-      root = λ l. omega (arith, root-at l, root-small n k T t, pow-mono {i = n} {j = 8} states);
-      marks = λ i l. rw (mark-at i l) (byte-at (marks 0 T) bytes i);
-    }
-      where
-        bytes : Every (λ m. m < 256) (marks 0 T)
-        bytes = rw (append-nil (marks 0 T)) at (marks-small k 0 T [] (t .active) h
-            (omega (arith, rows-are-nodes (take count rows) T are, length-take count rows)) tt)
+  mark-at : (i : ℕ) → i < x .count → markOf (getD rows i blankRow) ≡ getD (marks 0 T) i 0
+  unfolding markOf rowsOf
+  mark-at i h = ap markOf (sym (getD-take (x .count) rows i blankRow h)) ∙ sym (List·getD-map markOf (countedRows x) i blankRow)
+      ∙ ap (λ (l : List ℕ). getD l i 0) (sym (map-map markOf withoutOld (countedRows x)) ∙ ap (map markOf) (held .are) ∙ marks-of-rows 0 T)
+
+  root-at : 0 < x .count → getD rows 0 blankRow .label ≡ getD (rowsOf T) 0 blankRow .label
+  root-at h = ap (λ (r : Row). r .label) (sym (getD-take (x .count) rows 0 blankRow h))
+      ∙ ap (λ (r : Row). r .label) (sym (List·getD-map withoutOld (countedRows x) 0 blankRow))
+      ∙ ap (λ (l : List Row). getD l 0 blankRow .label) (held .are)
+
+  -- and it can be recorded
+  pub held-recordable : WithinLimits R → Recordable (R .states) x
+  held-recordable limits = record {
+    states = limits .states;
+    few = tree-small (limits .states) held;
+    root = λ l. omega (arith, root-at l, root-small (R .states) (R .sets) T tree, pow-mono {i = R .states} {j = 8} (limits .states));
+    marks = λ i l. rw (mark-at i l) (byte-at (marks 0 T) bytes i);
+  }
+    where
+      tree : NestedTree (R .states) (R .sets) T
+      tree = of-nested R T (held .fits)
+
+      bytes : Every (λ m. m < 256) (marks 0 T)
+      bytes = rw (append-nil (marks 0 T)) at (marks-small (R .sets) 0 T [] (tree .active) (omega (arith, limits .sets))
+          (omega (arith, of-few R T (held .fits), limits .states)) tt)

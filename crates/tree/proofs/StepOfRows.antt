@@ -1,5 +1,5 @@
 -- The pass over the rows of a tree is the letter's step: it gives the rows of the next tree, the old numbers of its nodes
--- and the two maps. From its answer the next letter can be read.
+-- and the two maps.
 use mathlib.Core.Path.{_≡_, refl, sym, _∙_, ap, subst}
 use mathlib.Core.Bool.{Bool, true, false, cond}
 use mathlib.Core.List.{List, [], _∷_, _++_, map}
@@ -11,9 +11,9 @@ use lib.Bits.{or-lt}
 use lib.Dec.{eqb, ltb}
 use lib.ListN.{List·getD-eq-default, length, getD}
 use lib.Pow.{pow-pos}
-use Rattle.table.specs.Limits.{maxStates, maxSets}
+use Rattle.table.specs.HeldRule.{WithinLimits}
+use Rattle.table.specs.Limits.{maxSets}
 use Rattle.table.specs.Rule.{Rule}
-use Rattle.table.specs.Table.{WellFormed}
 use Rattle.table.specs.Lookup.{LetterTable, letterTable, lookUp}
 use Rattle.table.specs.Held.{held}
 use Rattle.table.proofs.LookupTable.{look-up-successors, look-up-successors-in}
@@ -21,16 +21,19 @@ use Rattle.history.specs.Forest.{nil, node, size}
 use Rattle.history.specs.Tree.{Tree, isTreeOf}
 use Rattle.history.specs.Letter.{sprouted, fiveSteps, survivors, nextTree}
 use Rattle.history.specs.OldNumbers.{noNode, oldNumber, oldNumbers}
-use Rattle.tree.specs.Rows.{rowsFrom, rowsOf, withoutOld, AreRows, StepsTo}
+use Rattle.tree.specs.PackedRows.{countedRows}
+use Rattle.tree.specs.Rows.{rowsFrom, rowsOf, withoutOld, AreRows, HoldsTree, StepsTo}
 use Rattle.tree.specs.Pass.{metBy, joinedIf, settledRow, deepest, Pass, closedTo, metRow, readRow, passOver, atStart}
 use Rattle.tree.specs.Pass.{blankRow, SetsFit, steppedRows}
-use Rattle.tree.specs.Sides.{rowsOn, Steppable, Stepping}
+use Rattle.tree.specs.Sides.{treeOn, rowsOn, Stands, Steppable, Stepping}
 use Rattle.tree.specs.declared.rows.Row.{Row}
 use Rattle.tree.specs.declared.rows.Stepped.{Stepped}
+use Rattle.tree.specs.declared.rows.Tree.{Tree as CodeTree}
+use Rattle.tree.specs.declared.sides.OnSide.{OnSide}
 use Rattle.history.proofs.Conditions.{Fits, Active, OneRoot}
 use Rattle.history.proofs.TreesOf.{of-out, of-root, of-few, of-nested, next-is-tree}
 use Rattle.history.proofs.StepsJoined.{plainNode, survivors-steps}
-use Rattle.tree.proofs.TreeRows.{rows-size, rows-are-nodes}
+use Rattle.tree.proofs.TreeRows.{rows-size, rows-are-nodes, tree-small}
 use Rattle.tree.proofs.GrownRows.{Gives, grown-rows, grown-olds}
 use Rattle.tree.proofs.PassTree.{pass-dead, pass-root}
 use Rattle.tree.proofs.OldNumbers.{tree-numbered}
@@ -109,8 +112,7 @@ sets-fit R rows T h tree are i = go (decLt i (length rows))
 
 -- ONE LETTER
 
-module _ (R : Rule) (well : WellFormed R) (few-states : R .states ≤ maxStates) (few-sets : R .sets ≤ maxSets)
-    (a : ℕ) (T : Tree) (tree : isTreeOf R T ≡ true) where
+module _ {R : Rule} (limits : WithinLimits R) (a : ℕ) (T : Tree) (tree : isTreeOf R T ≡ true) where
   abbrev E : ℕ → ℕ → ℕ
   E = lookUp (letterTable (getD (held (R .grid)) a []))
 
@@ -118,7 +120,7 @@ module _ (R : Rule) (well : WellFormed R) (few-states : R .states ≤ maxStates)
   whole = passOver E (R .sets) 0 atStart (rowsOf T)
 
   few : size T < noNode
-  few = omega (arith, of-few R T tree)
+  few = omega (arith, of-few R T tree, limits .states)
 
   -- a sprouted node has no old number
   none : oldNumber T sprouted ≡ noNode
@@ -131,11 +133,11 @@ module _ (R : Rule) (well : WellFormed R) (few-states : R .states ≤ maxStates)
     where
       go : (F : Tree) → oldNumber F sprouted ≡ noNode → OneRoot F → Fits (R .sets) F → size F < noNode
           → Gives (oldNumber F) (passOver E (R .sets) 0 atStart (rowsOf F)) (fiveSteps R a F)
-      go nil e one fits small = pass-dead R a E (oldNumber nil) e (look-up-successors R well few-states a)
-          (λ i s low high. look-up-successors-in R well few-states i a s low (omega arith))
+      go nil e one fits small = pass-dead R a E (oldNumber nil) e (look-up-successors R (limits .well) (limits .states) a)
+          (λ i s low high. look-up-successors-in R (limits .well) (limits .states) i a s low (omega (arith, limits .sets)))
       go (node x below nil) e one fits small = let (root, inner) = tree-numbered x below small in
-          pass-root R a E (oldNumber (node x below nil)) e (look-up-successors R well few-states a)
-          (λ i s low high. look-up-successors-in R well few-states i a s low (omega arith)) x below fits root inner
+          pass-root R a E (oldNumber (node x below nil)) e (look-up-successors R (limits .well) (limits .states) a)
+          (λ i s low high. look-up-successors-in R (limits .well) (limits .states) i a s low (omega (arith, limits .sets))) x below fits root inner
       go (node x below (node y other younger)) e one fits small = absurd one
 
   -- the maps have no number past the last node's
@@ -144,46 +146,46 @@ module _ (R : Rule) (well : WellFormed R) (few-states : R .states ≤ maxStates)
       let e : 0 + length (rowsOf T) ≡ size T = omega (arith, rows-size T) in
       subst (λ (n : ℕ). MapsBelow n whole) e (pass-below E (R .sets) 0 atStart (rowsOf T) (pow-pos 0, pow-pos 0))
 
-  -- so an answer that counts its rows and has its maps is the letter's step
-  steps : (r : Stepped) → r .count ≡ length (whole .rows) → r .accepting ≡ whole .accepting → r .stable ≡ whole .stable
-      → StepsTo R a T (whole .rows) r
+  -- so a tree that has its rows, and an answer that has its maps, are the letter's step
+  steps : (y : CodeTree) (r : Stepped) → countedRows y ≡ whole .rows → y .count ≡ length (whole .rows)
+      → r .accepting ≡ whole .accepting → r .stable ≡ whole .stable → StepsTo R a T y r
   unfolding nextTree plainNode rowsOf oldNumbers
-  steps r many accepts keeps = let one = of-root R T tree in record {
-    are = ap (map withoutOld) (gives .rows) ∙ grown-rows (oldNumber T) 0 (survivors R a T);
-    count = many;
-    olds = ap (map (λ x. x .old)) (gives .rows) ∙ grown-olds (oldNumber T) 0 (survivors R a T);
-    accepting = accepts ∙ gives .accepting ∙ accepting-map R a T one few (rw (gives .accepting) at (maps-below .0));
-    stable = keeps ∙ gives .stable ∙ stable-map R a T one few (rw (gives .stable) at (maps-below .1));
+  steps y r are many accepts keeps =
+      let one = of-root R T tree in
+      let grown : AreRows (whole .rows) (nextTree R a T) = ap (map withoutOld) (gives .rows) ∙ grown-rows (oldNumber T) 0 (survivors R a T) in
+      record {
+        next = record {
+          fits = next-is-tree R (limits .well) (limits .some-set) a T tree;
+          nodes = many ∙ rows-are-nodes (whole .rows) (nextTree R a T) grown;
+          are = rw are grown;
+        };
+        olds = rw are (ap (map (λ x. x .old)) (gives .rows) ∙ grown-olds (oldNumber T) 0 (survivors R a T));
+        accepting = accepts ∙ gives .accepting ∙ accepting-map R a T one few (rw (gives .accepting) at (maps-below .0));
+        stable = keeps ∙ gives .stable ∙ stable-map R a T one few (rw (gives .stable) at (maps-below .1));
+      }
+
+-- A TREE IN PLACE
+
+module _ {R : Rule} (limits : WithinLimits R) {T : Tree} (sides : List (List ℕ)) (x : OnSide) (here : HoldsTree R T (treeOn sides x)) where
+  abbrev rows : List Row
+  rows = rowsOn sides (x .side) (x .count)
+
+  -- a letter can be read from it
+  pub place-ready : Stands sides x → Steppable sides (x .side) (x .count)
+  place-ready (arrays, side) = record {
+    arrays = arrays;
+    side = side;
+    few = tree-small (limits .states) here;
+    fits = sets-fit R rows T (limits .sets) (here .fits) (here .are);
   }
 
-module _ (table : LetterTable) (k from : ℕ) (rows : List Row) (before after : List (List ℕ)) (r : Stepped)
-    (step : Stepping (steppedRows table k rows) from before r after)
-    (R : Rule) (a : ℕ) (T : Tree) (well : WellFormed R) (few-states : R .states ≤ maxStates) (few-sets : R .sets ≤ maxSets)
-    (sets : R .sets ≡ k) (tree : isTreeOf R T ≡ true) (by : table ≡ letterTable (getD (held (R .grid)) a []))
-    (are : AreRows rows T) where
-  -- the pass over the rows of a tree
-  over-tree : steppedRows table k rows ≡ passOver (lookUp (letterTable (getD (held (R .grid)) a []))) (R .sets) 0 atStart (rowsOf T)
-  unfolding steppedRows
-  over-tree = rw (← sets, by, ← are) (sym (pass-without-old _ (R .sets) 0 atStart rows))
+  module _ (table : LetterTable) (k a : ℕ) (sets : R .sets ≡ k) (by : table ≡ letterTable (getD (held (R .grid)) a []))
+      (r : Stepped) (after : List (List ℕ)) (step : Stepping (steppedRows table k rows) (x .side) sides r after) where
+    -- the pass over its rows
+    over-tree : steppedRows table k rows ≡ passOver (lookUp (letterTable (getD (held (R .grid)) a []))) (R .sets) 0 atStart (rowsOf T)
+    unfolding steppedRows
+    over-tree = rw (← sets, by, ← here .are) (sym (pass-without-old _ (R .sets) 0 atStart rows))
 
-  -- is the letter's step
-  pub steps-to : StepsTo R a T (rowsOn after (1 - from) (r .count)) r
-  steps-to = rw (step .rows, over-tree) (steps R well few-states few-sets a T tree r (rw over-tree at (step .count))
-      (rw over-tree at (step .accepting)) (rw over-tree at (step .stable)))
-
-  -- and from its answer the next letter can be read
-  pub step-again : 1 ≤ R .sets → from < 2 → Steppable after (1 - from) (r .count)
-  step-again pos side =
-      let next = next-is-tree R well pos a T tree in
-      let rows′ : List Row = rowsOn after (1 - from) (r .count) in
-      record {
-        arrays = step .arrays;
-        side = omega arith;
-        few = omega (
-          arith,
-          of-few R (nextTree R a T) next,
-          rows-are-nodes rows′ (nextTree R a T) (steps-to .are),
-          steps-to .count,
-        );
-        fits = sets-fit R rows′ (nextTree R a T) few-sets next (steps-to .are);
-      }
+    -- is the letter's step, to the next tree on the other side
+    pub place-steps : StepsTo R a T (treeOn after (record { side = 1 - x .side; count = r .count })) r
+    place-steps = let s = rw over-tree at step in steps limits a T (here .fits) _ r (s .rows) (s .count) (s .accepting) (s .stable)

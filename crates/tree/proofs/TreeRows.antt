@@ -1,20 +1,23 @@
 -- A tree in the code: as many rows as nodes, in front of blank ones.
 use mathlib.Core.Path.{_≡_, refl, sym, _∙_, ap}
+use mathlib.Core.Bool.{true}
 use mathlib.Core.List.{List, map, map-append}
 use Prim.Native.Nat.{ℕ, suc, _-_, _≤_}
 use native.Mathlib.Omega.{arith}
-use lib.ListN.{length, take, replicate, length-append, length-map, length-replicate}
+use lib.ListN.{length, replicate, length-append, length-map}
 use lib.Seq.{take-at}
 use Rattle.table.specs.Held.{pad}
+use Rattle.table.specs.Limits.{maxStates}
+use Rattle.table.specs.Rule.{Rule}
 use Rattle.history.specs.Forest.{nil, node, size}
-use Rattle.history.specs.Tree.{Tree}
+use Rattle.history.specs.Tree.{Tree, isTreeOf}
+use Rattle.history.proofs.TreesOf.{of-few}
 use Rattle.tree.specs.Pass.{blankRow}
-use Rattle.tree.specs.PackedRows.{rowsIn}
-use Rattle.tree.specs.Rows.{rowsFrom, rowsOf, withoutOld, AreRows}
+use Rattle.tree.specs.PackedRows.{countedRows}
+use Rattle.tree.specs.Rows.{rowsFrom, rowsOf, withoutOld, AreRows, HoldsTree}
 use Rattle.tree.specs.RecordRows.{places, blankBehind, HasRows}
 use Rattle.tree.specs.declared.rows.Row.{Row}
 use Rattle.tree.specs.declared.rows.Tree.{Tree as CodeTree}
-use Rattle.tree.proofs.PackedWords.{rows-length}
 
 -- THE ROWS OF A TREE
 
@@ -41,22 +44,20 @@ without-old d (node x below younger) =
 
 -- IN THE CODE
 
-module _ (rows : List Row) (x : CodeTree) (has : HasRows rows x) where
-  -- the rows that count
-  has-front : take (x .count) (rowsIn (x .rows)) ≡ rows
-  unfolding blankBehind pad
-  has-front = rw (has .rows, has .count) (take-at rows (replicate (places - length rows) blankRow) (length rows) refl)
+-- the rows that count
+has-front : (rows : List Row) (x : CodeTree) → HasRows rows x → countedRows x ≡ rows
+unfolding blankBehind pad
+has-front rows x has = rw (has .rows, has .count) (take-at rows (replicate (places - length rows) blankRow) (length rows) refl)
 
-  -- the array
-  pub has-long : length rows ≤ places → length (x .rows) ≡ places
-  unfolding blankBehind pad
-  has-long few = sym (rows-length (x .rows)) ∙ ap length (has .rows) ∙ length-append rows (replicate (places - length rows) blankRow)
-      ∙ omega (arith, length-replicate {A = Row} (places - length rows) blankRow)
+-- a tree's rows in front of blank ones hold the tree
+pub has-holds : (R : Rule) (T : Tree) (x : CodeTree) → isTreeOf R T ≡ true → HasRows (rowsOf T) x → HoldsTree R T x
+unfolding rowsOf
+has-holds R T x fits has = record {
+  fits = fits;
+  nodes = has .count ∙ rows-size T;
+  are = ap (map withoutOld) (has-front (rowsOf T) x has) ∙ without-old 0 T;
+}
 
-module _ (T : Tree) (x : CodeTree) (has : HasRows (rowsOf T) x) where
-  pub has-are : AreRows (take (x .count) (rowsIn (x .rows))) T
-  unfolding rowsOf
-  has-are = ap (map withoutOld) (has-front (rowsOf T) x has) ∙ without-old 0 T
-
-  pub has-nodes : x .count ≡ size T
-  has-nodes = has .count ∙ rows-size T
+-- a tree over a rule within the limits has few rows
+pub tree-small : {R : Rule} {T : Tree} {x : CodeTree} → R .states ≤ maxStates → HoldsTree R T x → x .count ≤ maxStates
+tree-small {R} {T} h held = omega (arith, held .nodes, of-few R T (held .fits))

@@ -15,45 +15,45 @@ use Rattle.table.proofs.Storing.{stored-start, stored-byte, stored-next}
 use Rattle.table.proofs.Storing.{PiecesStored, pieces-start, pieces-byte, pieces-skip, pieces-size, pieces-done}
 use Rattle.history.specs.Record.{membersFrom, members}
 use Rattle.tree.specs.TreeCalls.{recordRoom}
+use Rattle.tree.specs.PackedRows.{rowsIn, countedRows}
 use Rattle.tree.specs.Pass.{blankRow}
 use Rattle.tree.specs.RecordRows.{places, hostRow, markOf, hostBytes, markBytes, rowsRecord, Recordable}
 use Rattle.tree.specs.declared.rows.Row.{Row}
+use Rattle.tree.specs.declared.rows.Tree.{Tree as CodeTree}
 
 -- THE HOST OF A STATE
 
 -- the rows in front of `node` do not host the state
-pub record HostAhead (rows : List Row) (count q node : ℕ) : Type 0 where
-  pub upto : node ≤ count
-  pub ahead : hostRow node (drop node (take count rows)) q ≡ hostRow 0 (take count rows) q
+pub record HostAhead (x : CodeTree) (q node : ℕ) : Type 0 where
+  pub upto : node ≤ x .count
+  pub ahead : hostRow node (drop node (countedRows x)) q ≡ hostRow 0 (countedRows x) q
 
-pub host-start : (rows : List Row) (count q : ℕ) → HostAhead rows count q 0
-host-start rows count q = record { upto = omega arith; ahead = refl }
+pub host-start : (x : CodeTree) (q : ℕ) → HostAhead x q 0
+host-start x q = record { upto = omega arith; ahead = refl }
 
-module _ {rows : List Row} {count q node : ℕ} (v : HostAhead rows count q node) where
-  module _ (many : length rows ≡ places) (few : count ≤ places) where
-    long : length (take count rows) ≡ count
-    long = length-take-le count rows (omega arith)
+module _ {x : CodeTree} {q node : ℕ} (v : HostAhead x q node) where
+  module _ (many : length (rowsIn (x .rows)) ≡ places) (few : x .count ≤ places) where
+    long : length (countedRows x) ≡ x .count
+    long = length-take-le (x .count) (rowsIn (x .rows)) (omega arith)
 
-    module _ (h : node < count) where
-      this-row : getD (take count rows) node blankRow ≡ getD rows node blankRow
-      this-row = getD-take count rows node blankRow h
-
-      opened : drop node (take count rows) ≡ getD rows node blankRow ∷ drop (suc node) (take count rows)
-      opened = drop-cons (take count rows) node blankRow (omega (arith, long)) ∙ ap (λ (x : Row). x ∷ drop (suc node) (take count rows)) this-row
+    module _ (h : node < x .count) where
+      opened : drop node (countedRows x) ≡ getD (rowsIn (x .rows)) node blankRow ∷ drop (suc node) (countedRows x)
+      opened = drop-cons (countedRows x) node blankRow (omega (arith, long))
+          ∙ ap (λ (r : Row). r ∷ drop (suc node) (countedRows x)) (getD-take (x .count) (rowsIn (x .rows)) node blankRow h)
 
       -- the row at `node` hosts it, or not
-      module _ (x : Row) (is : x ≡ getD rows node blankRow) where
-        pub host-found : (member (x .label) q && not (member (x .kids) q)) ≡ true → node ≡ hostRow 0 (take count rows) q
+      module _ (row : Row) (is : row ≡ getD (rowsIn (x .rows)) node blankRow) where
+        pub host-found : (member (row .label) q && not (member (row .kids) q)) ≡ true → node ≡ hostRow 0 (countedRows x) q
         unfolding hostRow
         host-found e = rw (opened, ← is, e) at (v .ahead)
 
-        pub host-next : (member (x .label) q && not (member (x .kids) q)) ≡ false → HostAhead rows count q (node + 1)
+        pub host-next : (member (row .label) q && not (member (row .kids) q)) ≡ false → HostAhead x q (node + 1)
         unfolding hostRow
         host-next e = rw (add-one node) (record { upto = h; ahead = rw (opened, ← is, e) at (v .ahead) })
 
-    pub host-none : count ≤ node → node ≡ hostRow 0 (take count rows) q
+    pub host-none : x .count ≤ node → node ≡ hostRow 0 (countedRows x) q
     unfolding hostRow
-    host-none h = rw (drop-of-length-le (take count rows) {i = node} (omega (arith, long))) at (v .ahead)
+    host-none h = rw (drop-of-length-le (countedRows x) {i = node} (omega (arith, long))) at (v .ahead)
 
 -- THE HOSTS
 
@@ -139,27 +139,30 @@ module _ {rows : List Row} {n s : ℕ} {before : List ℕ} {from : ℕ} {out : L
 -- THE MARKS
 
 -- the marks of the rows in front of `node` are stored
-pub record MarksStored (n count : ℕ) (rows : List Row) (before : List ℕ) (from : ℕ) (out : List ℕ) (at node : ℕ) : Type 0 where
-  pub fits : Recordable n count rows
-  pub room : from + count ≤ length before
-  pub pieces : PiecesStored (λ c. markBytes (take c rows)) count before from out at node
+pub record MarksStored (n : ℕ) (x : CodeTree) (before : List ℕ) (from : ℕ) (out : List ℕ) (at node : ℕ) : Type 0 where
+  pub fits : Recordable n x
+  pub room : from + x .count ≤ length before
+  pub pieces : PiecesStored (λ c. markBytes (take c (rowsIn (x .rows)))) (x .count) before from out at node
 
 marks-le : (rows : List Row) (c : ℕ) → length (markBytes (take c rows)) ≤ c
 unfolding markBytes
 marks-le rows c = omega (arith, length-map (take c rows) markOf, length-take c rows)
 
-pub marks-start : (n count : ℕ) (rows : List Row) (before : List ℕ) (from : ℕ) → Recordable n count rows → from + count ≤ length before
-    → MarksStored n count rows before from before from 0
+pub marks-start : (n : ℕ) (x : CodeTree) (before : List ℕ) (from : ℕ) → Recordable n x → from + x .count ≤ length before
+    → MarksStored n x before from before from 0
 unfolding markBytes
-marks-start n count rows before from fits h = record { fits = fits; room = h; pieces = pieces-start refl (omega arith) }
+marks-start n x before from fits h = record { fits = fits; room = h; pieces = pieces-start refl (omega arith) }
 
-module _ {n count : ℕ} {rows : List Row} {before : List ℕ} {from : ℕ} {out : List ℕ} {at node : ℕ}
-    (v : MarksStored n count rows before from out at node) where
-  module _ (h : node < count) where
+module _ {n : ℕ} {x : CodeTree} {before : List ℕ} {from : ℕ} {out : List ℕ} {at node : ℕ}
+    (v : MarksStored n x before from out at node) where
+  abbrev rows : List Row
+  rows = rowsIn (x .rows)
+
+  module _ (h : node < x .count) where
     -- the mark is a byte, and there is room for it
-    pub mark-small : (x : Row) → x ≡ getD rows node blankRow → 16 * x .depth + x .active < 256
+    pub mark-small : (row : Row) → row ≡ getD rows node blankRow → 16 * row .depth + row .active < 256
     unfolding markOf
-    mark-small x is = rw is (v .fits .marks node h)
+    mark-small row is = rw is (v .fits .marks node h)
 
     marks-room : at < length before
     marks-room = omega (arith, v .room, v .pieces .stores .place, marks-le rows node)
@@ -167,10 +170,10 @@ module _ {n count : ℕ} {rows : List Row} {before : List ℕ} {from : ℕ} {out
     pub marks-fits : at < length out
     marks-fits = omega (arith, marks-room, pieces-size (v .pieces))
 
-    pub marks-put : (x : Row) → x ≡ getD rows node blankRow → length rows ≡ places
-        → MarksStored n count rows before from (set out at (16 * x .depth + x .active)) (at + 1) (node + 1)
+    pub marks-put : (row : Row) → row ≡ getD rows node blankRow → length rows ≡ places
+        → MarksStored n x before from (set out at (16 * row .depth + row .active)) (at + 1) (node + 1)
     unfolding markBytes markOf
-    marks-put x is held = rw is (record {
+    marks-put row is held = rw is (record {
       fits = v .fits;
       room = v .room;
       pieces = pieces-byte (v .pieces) h _ (ap (map markOf) (take-suc rows node blankRow inside)
@@ -180,8 +183,8 @@ module _ {n count : ℕ} {rows : List Row} {before : List ℕ} {from : ℕ} {out
         inside : node < length rows
         inside = omega (arith, v .fits .few, v .fits .states)
 
-  pub marks-done : count ≤ node
-      → (at ≡ from + length (markBytes (take count rows))) × (out ≡ stored from (markBytes (take count rows)) before)
+  pub marks-done : x .count ≤ node
+      → (at ≡ from + length (markBytes (countedRows x))) × (out ≡ stored from (markBytes (countedRows x)) before)
   marks-done h = let (same, place) = pieces-done (v .pieces) h in (place, same)
 
 -- THE RECORD
@@ -194,43 +197,43 @@ live-record n zero rows some h = absurd (some refl)
 live-record n (suc count) [] some h = absurd (omega arith)
 live-record n (suc count) (x ∷ rows) some h = refl
 
-module _ (n count : ℕ) (rows : List Row) (before : List ℕ) (fits : Recordable n count rows) (room : recordRoom ≤ length before) where
+module _ (n : ℕ) (x : CodeTree) (before : List ℕ) (fits : Recordable n x) (room : recordRoom ≤ length before) where
   -- the dead tree's
-  pub record-dead : count ≡ 0
-      → (1 ≡ length (rowsRecord n (take count rows))) × (set before 0 0 ≡ stored 0 (rowsRecord n (take count rows)) before)
+  pub record-dead : x .count ≡ 0
+      → (1 ≡ length (rowsRecord n (countedRows x))) × (set before 0 0 ≡ stored 0 (rowsRecord n (countedRows x)) before)
   unfolding rowsRecord
   record-dead e = rw e (refl, stored-byte (stored-start before 0 (omega arith)) 0 (omega arith) .same)
 
-  module _ (x : Row) (is : x ≡ getD rows 0 blankRow) where
+  module _ (row : Row) (is : row ≡ getD (rowsIn (x .rows)) 0 blankRow) where
     abbrev root : ℕ
-    root = x .label
+    root = row .label
 
     abbrev hosts : List ℕ
-    hosts = hostBytes (take count rows) n root
+    hosts = hostBytes (countedRows x) n root
 
     abbrev marks : List ℕ
-    marks = markBytes (take count rows)
+    marks = markBytes (countedRows x)
 
     -- the root's map is a byte
-    pub root-small : (count ≡ 0 → ⊥) → root < 256
+    pub root-small : (x .count ≡ 0 → ⊥) → root < 256
     root-small some = rw is (fits .root (omega arith))
 
     -- the map, the hosts behind it, and the marks behind them
-    record-room : 1 + length hosts + count ≤ recordRoom
-    record-room = omega (arith, hosts-le (take count rows) root n, fits .few, fits .states)
+    record-room : 1 + length hosts + x .count ≤ recordRoom
+    record-room = omega (arith, hosts-le (countedRows x) root n, fits .few, fits .states)
 
     pub marks-room-left : (at : ℕ) (then : List ℕ) → at ≡ 1 + length hosts → length then ≡ length (set before 0 root)
-        → at + count ≤ length then
+        → at + x .count ≤ length then
     marks-room-left at then e f = omega (arith, record-room, length-set before 0 root)
 
-    pub record-live : (count ≡ 0 → ⊥) → length rows ≡ places → (at r : ℕ) (then after : List ℕ)
+    pub record-live : (x .count ≡ 0 → ⊥) → length (rowsIn (x .rows)) ≡ places → (at r : ℕ) (then after : List ℕ)
         → at ≡ 1 + length hosts → then ≡ stored 1 hosts (set before 0 root) → r ≡ at + length marks → after ≡ stored at marks then
-        → (r ≡ length (rowsRecord n (take count rows))) × (after ≡ stored 0 (rowsRecord n (take count rows)) before)
+        → (r ≡ length (rowsRecord n (countedRows x))) × (after ≡ stored 0 (rowsRecord n (countedRows x)) before)
     record-live some held at r then after e f g h =
         let first = stored-byte (stored-start before 0 (omega arith)) root (omega arith) in
         let second = stored-next first hosts (omega (arith, record-room)) in
-        let third = stored-next second marks (omega (arith, record-room, marks-le rows count)) in
-        rw (live-record n count rows some (omega arith), ← is) (
+        let third = stored-next second marks (omega (arith, record-room, marks-le (rowsIn (x .rows)) (x .count))) in
+        rw (live-record n (x .count) (rowsIn (x .rows)) some (omega arith), ← is) (
           omega (arith, length-append hosts marks),
           h ∙ ap₂ (λ (c : ℕ) (l : List ℕ). stored c marks l) e f ∙ third .same,
         )

@@ -1,7 +1,9 @@
 -- Rows as machine words (crates/tree/src/packed.rt).
 use mathlib.Core.List.{List, map}
 use Prim.Native.Nat.{ℕ, _/_, _%_, _^_}
+use lib.ListN.{take}
 use Rattle.tree.specs.declared.rows.Row.{Row}
+use Rattle.tree.specs.declared.rows.Tree.{Tree as CodeTree}
 
 -- the row of a word: depth, label, union of the children's labels, active set and old number, from the lowest bits up
 unfoldable pub unpacked : ℕ → Row
@@ -17,3 +19,7 @@ unpacked word =
 -- the rows of some words
 abbrev pub rowsIn : List ℕ → List Row
 rowsIn words = map unpacked words
+
+-- the rows of a tree that count
+abbrev pub countedRows : CodeTree → List Row
+countedRows x = take (x .count) (rowsIn (x .rows))

@@ -69,9 +69,9 @@ unfoldable pub rowsRecord : ℕ → List Row → List ℕ
 rowsRecord n [] = 0 ∷ []
 rowsRecord n (root ∷ rows) = root .label ∷ (hostBytes (root ∷ rows) n (root .label) ++ markBytes (root ∷ rows))
 
--- the first `count` rows can be recorded: there is a byte for the root's label and for each mark
-pub record Recordable (n count : ℕ) (rows : List Row) : Type 0 where
+-- a tree can be recorded: there is a byte for the root's label and for each mark
+pub record Recordable (n : ℕ) (x : CodeTree) : Type 0 where
   pub states : n ≤ maxStates
-  pub few : count ≤ maxStates
-  pub root : 0 < count → getD rows 0 blankRow .label < 256
-  pub marks : (i : ℕ) → i < count → markOf (getD rows i blankRow) < 256
+  pub few : x .count ≤ maxStates
+  pub root : 0 < x .count → getD (rowsIn (x .rows)) 0 blankRow .label < 256
+  pub marks : (i : ℕ) → i < x .count → markOf (getD (rowsIn (x .rows)) i blankRow) < 256

@@ -3,13 +3,12 @@ use mathlib.Core.Path.{_≡_}
 use mathlib.Core.Bool.{true}
 use mathlib.Core.List.{List, [], _∷_, _++_, map}
 use Prim.Native.Nat.{ℕ, suc}
-use lib.ListN.{length, take}
 use Rattle.table.specs.Rule.{Rule}
 use Rattle.history.specs.Forest.{nil, node, size}
 use Rattle.history.specs.Tree.{Tree, labels, isTreeOf}
 use Rattle.history.specs.Letter.{nextTree, acceptingMap, stableMap}
 use Rattle.history.specs.OldNumbers.{oldNumbers}
-use Rattle.tree.specs.PackedRows.{rowsIn}
+use Rattle.tree.specs.PackedRows.{countedRows}
 use Rattle.tree.specs.declared.rows.Row.{Row}
 use Rattle.tree.specs.declared.rows.Stepped.{Stepped}
 use Rattle.tree.specs.declared.rows.Tree.{Tree as CodeTree}
@@ -36,12 +35,11 @@ AreRows rows T = map withoutOld rows ≡ rowsOf T
 pub record HoldsTree (R : Rule) (T : Tree) (x : CodeTree) : Type 0 where
   pub fits : isTreeOf R T ≡ true
   pub nodes : x .count ≡ size T
-  pub are : AreRows (take (x .count) (rowsIn (x .rows))) T
+  pub are : AreRows (countedRows x) T
 
--- what one letter makes of the rows of a tree: the rows that it writes, and its answer
-pub record StepsTo (R : Rule) (a : ℕ) (T : Tree) (rows : List Row) (r : Stepped) : Type 0 where
-  pub are : AreRows rows (nextTree R a T)
-  pub count : r .count ≡ length rows
-  pub olds : map (λ x. x .old) rows ≡ oldNumbers R a T
+-- what one letter makes of the tree T: the next tree, with the old numbers of its nodes, and the answer
+pub record StepsTo (R : Rule) (a : ℕ) (T : Tree) (x : CodeTree) (r : Stepped) : Type 0 where
+  pub next : HoldsTree R (nextTree R a T) x
+  pub olds : map (λ y. y .old) (countedRows x) ≡ oldNumbers R a T
   pub accepting : r .accepting ≡ acceptingMap R a T
   pub stable : r .stable ≡ stableMap R a T

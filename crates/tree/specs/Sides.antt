@@ -13,10 +13,11 @@ use Rattle.tree.specs.Rows.{HoldsTree}
 use Rattle.tree.specs.declared.rows.Row.{Row}
 use Rattle.tree.specs.declared.rows.Stepped.{Stepped}
 use Rattle.tree.specs.declared.rows.Tree.{Tree as CodeTree}
+use Rattle.tree.specs.declared.sides.OnSide.{OnSide}
 
--- the tree on a side
-abbrev pub treeOn : List (List ℕ) → ℕ → ℕ → CodeTree
-treeOn sides side count = record { rows = getD sides side []; count = count }
+-- the tree that stands in place
+abbrev pub treeOn : List (List ℕ) → OnSide → CodeTree
+treeOn sides x = record { rows = getD sides (x .side) []; count = x .count }
 
 -- the first `count` rows of a side
 abbrev pub rowsOn : List (List ℕ) → ℕ → ℕ → List Row
@@ -27,21 +28,21 @@ pub record TwoSides (sides : List (List ℕ)) : Type 0 where
   pub two : length sides ≡ 2
   pub long : (side : ℕ) → side < 2 → length (getD sides side []) ≡ places
 
--- there are two sides, and this is one of them
-abbrev pub Stands : List (List ℕ) → ℕ → Type 0
-Stands sides side = TwoSides sides × (side < 2)
+-- there are two sides, and a tree stands on one of them
+abbrev pub Stands : List (List ℕ) → OnSide → Type 0
+Stands sides x = TwoSides sides × (x .side < 2)
 
 -- a tree is laid on side 0, and side 1 is blank
 pub record Laid (x : CodeTree) (sides : List (List ℕ)) : Type 0 where
   pub are : sides ≡ x .rows ∷ replicate places 0 ∷ []
   pub arrays : TwoSides sides
 
--- a side has the rows of some tree over some rule
-pub record SomeTreeOn (sides : List (List ℕ)) (side count : ℕ) : Type 0 where
-  pub stands : Stands sides side
+-- a tree over some rule stands in place
+pub record SomeTreeOn (sides : List (List ℕ)) (x : OnSide) : Type 0 where
+  pub stands : Stands sides x
   pub rule : Rule
   pub tree : Tree
-  pub holds : HoldsTree rule tree (treeOn sides side count)
+  pub holds : HoldsTree rule tree (treeOn sides x)
 
 -- a letter can be read from the first `count` rows of one of the two sides
 pub record Steppable (sides : List (List ℕ)) (from count : ℕ) : Type 0 where

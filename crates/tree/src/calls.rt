@@ -1,6 +1,7 @@
 // The calls on trees: the starting record of a table, and one letter.
 use crate::record::Count;
 use crate::rows::Tree;
+use crate::sides::OnSide;
 use crate::step::step_rows;
 use crate::writing::put_record;
 use table::limits::LETTERS;
@@ -55,8 +56,7 @@ pub fn start(table: &[u8], buffer: &mut [u8]) -> StartAnswer
                 return start_refusal(10);
             }
             let tree = Tree::start(header.start);
-            let rows = tree.rows();
-            let written = put_record(&rows, tree.nodes(), header.states, buffer);
+            let written = put_record(tree, header.states, buffer);
             StartAnswer {
                 number: 0,
                 written: written,
@@ -104,7 +104,11 @@ pub fn step(table: &[u8], letter: u8, bytes: &[u8], buffer: &mut [u8]) -> StepAn
             fill_table(&words[a], &mut letter_table);
             let mut sides = tree.laid();
             let next = step_rows(&letter_table, header.sets as u8, &mut sides, 0, count);
-            let written = put_record(&sides[1], next.count, header.states, buffer);
+            let after = OnSide {
+                side: 1,
+                count: next.count,
+            };
+            let written = put_record(Tree::taken(&sides, after), header.states, buffer);
             StepAnswer {
                 number: 0,
                 written: written,

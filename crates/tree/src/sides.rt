@@ -1,8 +1,15 @@
-// Trees on two sides: a tree is laid there, letters are read from side to side, and the tree that they lead to is taken up.
+// Trees in place, on one of two sides: a tree is laid there, letters are read from side to side, and the tree that they lead to is
+// taken up.
 use crate::rows::Sides;
 use crate::rows::Tree;
 ghost use mathlib.Core.Path.{_≡_};
 ghost use Rattle.tree.specs.Sides.{treeOn, Laid, SomeTreeOn};
+
+// A tree in place: which side it stands on, and how many of its rows count.
+pub struct OnSide {
+    pub side: usize,
+    pub count: usize,
+}
 
 impl Tree {
     // Its rows on side 0, and a blank side 1.
@@ -15,15 +22,26 @@ impl Tree {
         sides
     }
 
-    // The tree on a side. Only where its rows are proved to be those of some tree, so that no other tree can be made.
-    pub fn taken(sides: &Sides, side: usize, count: usize) -> Tree
-        requires { ⌜ SomeTreeOn (now sides) side count ⌝ }
-        ensures { λ r. ⌜ r ≡ treeOn (now (sides .entry)) side count ⌝ }
+    // Where it stands once it is laid.
+    pub fn on_first_side(self) -> OnSide
+        ensures { λ r. ⌜ r ≡ record { side = 0; count = self .count } ⌝ }
     {
+        OnSide {
+            side: 0,
+            count: self.count,
+        }
+    }
+
+    // The tree on a side. Only where its rows are proved to be those of some tree, so that no other tree can be made.
+    pub fn taken(sides: &Sides, on: OnSide) -> Tree
+        requires { ⌜ SomeTreeOn (now sides) on ⌝ }
+        ensures { λ r. ⌜ r ≡ treeOn (now (sides .entry)) on ⌝ }
+    {
+        let side = on.side;
         let rows = sides[side];
         Tree {
             rows: rows,
-            count: count,
+            count: on.count,
         }
     }
 }

@@ -15,10 +15,11 @@ use Rattle.history.proofs.CycleVerdict.{read-rounds}
 use Rattle.history.proofs.CycleFinding.{BrentSoFar, Skips, brent-start, none-skips, brent-more, brent-reset, reset-skips}
 use Rattle.history.proofs.CycleFinding.{brent-found, lam-steps, power-doubles, brent-measure}
 use Rattle.word.specs.WalkTables.{Tables}
-use Rattle.treejudge.specs.Names.{Followed, treeOf, Follows, FollowsOn, FollowsTo, begunAt}
+use Rattle.treejudge.specs.Names.{allKept, Follows, FollowsOn, FollowsTo}
 use Rattle.treejudge.specs.SameRows.{sameTrees}
 use Rattle.treejudge.specs.Cycles.{AtRound, CycleOf}
 use Rattle.tree.specs.declared.rows.Tree.{Tree as CodeTree}
+use Rattle.treejudge.specs.declared.follow.Maps.{Maps}
 use Rattle.treejudge.proofs.NamesFollowed.{begun-follows}
 use Rattle.treejudge.proofs.RoundsRead.{both-small, rows-same, rows-differ}
 
@@ -28,18 +29,18 @@ rounds-more r v = rounds-add r 1 v ∙ ap (rounds r v ++_) (rounds-one v)
 
 -- at the head of the loop: x is t(power − 1), y is t(half − 1), and lam rounds were followed from x on
 pub record Searching (R : Rule) (u v : List ℕ) (tables : Tables) (k : ℕ) (x y : CodeTree) (half power lam : ℕ)
-    (now : Followed) : Type 0 where
+    (now : CodeTree) (m : Maps) : Type 0 where
   pub held : AtRound R u v tables k (power - 1) x
   pub before : AtRound R u v tables k (half - 1) y
   pub below : half < power
   pub doubles : 1 < power → power ≡ half + half
   pub brent : BrentSoFar (roundTree R u v) power lam
   pub skips : Skips (roundTree R u v) half
-  pub follows : Follows R (roundTree R u v (power - 1)) (rounds lam v) now
+  pub follows : Follows R (roundTree R u v (power - 1)) (rounds lam v) now m
 
 -- t(0) is held first
 pub search-start : {R : Rule} {u v : List ℕ} {tables : Tables} {k : ℕ} {first : CodeTree}
-    → AtRound R u v tables k 0 first → Searching R u v tables k first first 0 1 0 (begunAt first)
+    → AtRound R u v tables k 0 first → Searching R u v tables k first first 0 1 0 first (allKept (first .count))
 unfolding rounds
 search-start {R} {u} {v} A = record {
   held = A;
@@ -48,13 +49,13 @@ search-start {R} {u} {v} A = record {
   doubles = λ h. omega arith;
   brent = brent-start (roundTree R u v);
   skips = none-skips (roundTree R u v);
-  follows = begun-follows R _ _ (A .tree);
+  follows = begun-follows (A .tree);
 }
 
-module _ {R : Rule} {u v : List ℕ} {tables : Tables} {k : ℕ} {x y : CodeTree} {half power lam : ℕ} {now : Followed}
-    (S : Searching R u v tables k x y half power lam now) where
+module _ {R : Rule} {u v : List ℕ} {tables : Tables} {k : ℕ} {x y : CodeTree} {half power lam : ℕ} {now : CodeTree} {m : Maps}
+    (S : Searching R u v tables k x y half power lam now m) where
   -- a round is followed from there
-  pub search-follows : FollowsOn R (roundTree R u v (power - 1)) (rounds lam v) tables k v now
+  pub search-follows : FollowsOn R (roundTree R u v (power - 1)) (rounds lam v) tables k v now m
   search-follows = record { holds = S .held .holds; tabled = S .held .tabled; follows = S .follows }
 
   -- there are fewer than 2 ^ 63 trees
@@ -70,13 +71,13 @@ module _ {R : Rule} {u v : List ℕ} {tables : Tables} {k : ℕ} {x y : CodeTree
   search-measure =
       let (e, p, F, small) = repeat in brent-measure (roundTree R u v) (readLetters R v) (round-next R u v) e p F small power lam (S .brent)
 
-  module _ (next : Followed) (on : FollowsTo tables k v now next) where
+  module _ (next : CodeTree) (n : Maps) (on : FollowsTo tables k v now m next n) where
     -- it leads to the tree one round further
-    followed : Follows R (roundTree R u v (power - 1)) (rounds (lam + 1) v) next
+    followed : Follows R (roundTree R u v (power - 1)) (rounds (lam + 1) v) next n
     unfolding FollowsTo
     followed = rw rounds-more (on R _ _ search-follows)
 
-    pub search-next : AtRound R u v tables k (power - 1 + (lam + 1)) (treeOf next)
+    pub search-next : AtRound R u v tables k (power - 1 + (lam + 1)) next
     search-next = record {
       holds = S .held .holds;
       tabled = S .held .tabled;
@@ -88,10 +89,10 @@ module _ {R : Rule} {u v : List ℕ} {tables : Tables} {k : ℕ} {x y : CodeTree
     search-small = both-small (S .held) search-next
 
     -- where they are the same, the cycle is found
-    pub search-found : sameTrees x (treeOf next) ≡ true
+    pub search-found : sameTrees x next ≡ true
         → (entry period : ℕ) → FirstRepeat (roundTree R u v) entry period
         → CycleOf R u v entry period
-        (record { held = x; before = y; half = half; power = power; period = lam + 1; accepted = next .accepted })
+        (record { held = x; before = y; half = half; power = power; period = lam + 1; witnesses = n .witnesses })
     search-found same entry period F =
         let (back, late) = brent-found (roundTree R u v) (readLetters R v) (round-next R u v) entry period F power lam (S .brent)
         (rows-same (S .held) search-next same) in
@@ -103,15 +104,15 @@ module _ {R : Rule} {u v : List ℕ} {tables : Tables} {k : ℕ} {x y : CodeTree
           back = back;
           late = late;
           skips = S .skips entry period F;
-          accepted = rw (← back) (followed .accepted);
+          witnesses = rw (← back) (followed .witnesses);
         }
 
-    module _ (differ : sameTrees x (treeOf next) ≡ false) where
+    module _ (differ : sameTrees x next ≡ false) where
       apart : roundTree R u v (power - 1) ≡ roundTree R u v (power - 1 + (lam + 1)) → ⊥
       apart = rows-differ (S .held) search-next differ
 
       -- otherwise the search goes on
-      pub search-more : (lam + 1 ≡ power → ⊥) → Searching R u v tables k x y half power (lam + 1) next
+      pub search-more : (lam + 1 ≡ power → ⊥) → Searching R u v tables k x y half power (lam + 1) next n
       search-more more = record {
         held = S .held;
         before = S .before;
@@ -129,11 +130,11 @@ module _ {R : Rule} {u v : List ℕ} {tables : Tables} {k : ℕ} {x y : CodeTree
             let (e, p, F, small) = repeat in
             power-doubles (roundTree R u v) (readLetters R v) (round-next R u v) e p F small power lam (S .brent) apart full
 
-        pub search-reset : Searching R u v tables k (treeOf next) x power (power + power) 0 (begunAt (treeOf next))
+        pub search-reset : Searching R u v tables k next x power (power + power) 0 next (allKept (next .count))
         unfolding rounds
         search-reset =
             let e : power - 1 + (lam + 1) ≡ power + power - 1 = omega (arith, S .below) in
-            let A : AtRound R u v tables k (power + power - 1) (treeOf next) = rw e at search-next in
+            let A : AtRound R u v tables k (power + power - 1) next = rw e at search-next in
             record {
               held = A;
               before = S .held;
@@ -141,5 +142,5 @@ module _ {R : Rule} {u v : List ℕ} {tables : Tables} {k : ℕ} {x y : CodeTree
               doubles = λ h. refl;
               brent = brent-reset (roundTree R u v) (readLetters R v) (round-next R u v) power lam (S .brent) apart full;
               skips = reset-skips (roundTree R u v) (readLetters R v) (round-next R u v) power lam (S .brent) apart full;
-              follows = begun-follows R _ _ (A .tree);
+              follows = begun-follows (A .tree);
             }

@@ -64,7 +64,7 @@ module _ (R : Rule) (header : Header) (words : List (List ℕ)) (h : HoldsRule R
     lead-reads x is = rw is (record {
       holds = has-sets;
       tabled = rw (lead-left u v w left) at (tabled .0);
-      tree = start-holds R start (h .limits .well) (h .limits .some-set) (rw (h .numbers) at made);
+      tree = start-holds (h .limits) start (rw (h .numbers) at made);
     })
 
     -- and leads to t(0)
@@ -78,7 +78,7 @@ module _ (R : Rule) (header : Header) (words : List (List ℕ)) (h : HoldsRule R
 
 module _ (R : Rule) (u v : List ℕ) (r : Repeat) (S : RepeatOf R u v r) (before : List ℕ) where
   -- no followed node was accepting
-  pub says-no : r .accepted ≡ 0
+  pub says-no : r .witnesses ≡ 0
       → Judged R u v before (record { number = 0; verdict = 0; entry = r .entry; period = r .period; length = noName }) before
   unfolding treeAnswer namesAfter
   says-no none = record {
@@ -91,12 +91,12 @@ module _ (R : Rule) (u v : List ℕ) (r : Repeat) (S : RepeatOf R u v r) (before
     leaves = refl;
   }
 
-  module _ (limits : R .states ≤ maxStates) (some : r .accepted ≡ 0 → ⊥) (j : ℕ) (lowest : Lowest (r .accepted) j) where
+  module _ (limits : R .states ≤ maxStates) (some : r .witnesses ≡ 0 → ⊥) (j : ℕ) (lowest : Lowest (r .witnesses) j) where
     -- the lowest number is that of a node
     node-there : j < size (S .tree)
-    node-there = let (i, m) = some-member (r .accepted) some in go i m (decLt i j)
+    node-there = let (i, m) = some-member (r .witnesses) some in go i m (decLt i j)
       where
-        go : (i : ℕ) → member (r .accepted) i ≡ true → Dec (i < j) → j < size (S .tree)
+        go : (i : ℕ) → member (r .witnesses) i ≡ true → Dec (i < j) → j < size (S .tree)
         go i m (yes earlier) = clash (lowest .none-before i earlier) m
         go i m (no later) = omega (arith, S .node i m)
 

@@ -18,7 +18,11 @@ use Rattle.table.proofs.BitSet.{member-lt, member-mod, collect-lt, collect-ext,
 use Rattle.table.proofs.Logic.{look, bool-ext}
 use Rattle.history.specs.Following.{carried}
 use Rattle.tree.specs.Pass.{blankRow}
+use Rattle.tree.specs.PackedRows.{rowsIn}
 use Rattle.tree.specs.declared.rows.Row.{Row}
+use Rattle.tree.specs.declared.rows.Tree.{Tree as CodeTree}
+use Rattle.treejudge.specs.Names.{carriedMaps}
+use Rattle.treejudge.specs.declared.follow.Maps.{Maps}
 
 -- ONE MAP
 
@@ -96,26 +100,34 @@ both-placed : (x y j : ℕ) → x < 2 → y < 2 → j ≤ 16 → both x y * 2 ^ 
 both-placed x y j hx hy h = shl-exact 33 j 64 (omega arith) (omega arith) ∙ add-mul (y * 2 ^ 32) x (2 ^ j)
     ∙ ap (λ (n : ℕ). n + x * 2 ^ j) (mul-right-comm y (2 ^ 32) (2 ^ j))
 
+-- both maps of the first j rows
+abbrev pub bothTo : List Row → Maps → ℕ → ℕ
+bothTo rows m j = both (carriedTo rows (m .kept) j) (carriedTo rows (m .witnesses) j)
+
 -- one row more for both
-pub both-more : (rows : List Row) (kept accepted j : ℕ) → kept < 2 ^ 16 → accepted < 2 ^ 16 → j < 16
+pub both-more : (rows : List Row) (m : Maps) (j : ℕ) → m .kept < 2 ^ 16 → m .witnesses < 2 ^ 16 → j < 16
     → (x : Row) → x ≡ getD rows j blankRow → (shift : ℕ) → shift ≡ min (x .old) 31
-    → bitOr (both (carriedTo rows kept j) (carriedTo rows accepted j)) (bitAnd (both kept accepted / 2 ^ shift) (2 ^ 32 + 1) * 2 ^ j % 2 ^ 64)
-    ≡ both (carriedTo rows kept (j + 1)) (carriedTo rows accepted (j + 1))
-both-more rows kept accepted j hk ha h x is shift e =
+    → bitOr (bothTo rows m j) (bitAnd (both (m .kept) (m .witnesses) / 2 ^ shift) (2 ^ 32 + 1) * 2 ^ j % 2 ^ 64) ≡ bothTo rows m (j + 1)
+both-more rows m j hk hw h x is shift e =
     let old = x .old in
-    let taken : bitAnd (both kept accepted / 2 ^ shift) (2 ^ 32 + 1) ≡ both (bit kept old) (bit accepted old) =
-    rw e (both-bits kept accepted (min old 31) (omega arith) (omega arith) ∙ rw (capped kept old hk, capped accepted old ha)) in
-    rw (taken, both-placed (bit kept old) (bit accepted old) j (bit-small kept old) (bit-small accepted old) (omega arith))
-    (or-block 32 (carriedTo rows accepted j) (bit accepted old * 2 ^ j) (carriedTo rows kept j) (bit kept old * 2 ^ j)
+    let kept = m .kept in
+    let seen = m .witnesses in
+    let taken : bitAnd (both kept seen / 2 ^ shift) (2 ^ 32 + 1) ≡ both (bit kept old) (bit seen old) =
+    rw e (both-bits kept seen (min old 31) (omega arith) (omega arith) ∙ rw (capped kept old hk, capped seen old hw)) in
+    rw (taken, both-placed (bit kept old) (bit seen old) j (bit-small kept old) (bit-small seen old) (omega arith))
+    (or-block 32 (carriedTo rows seen j) (bit seen old * 2 ^ j) (carriedTo rows kept j) (bit kept old * 2 ^ j)
     (omega (arith, carried-small rows kept j (omega arith))) (lt-of-lt-of-le (shl-lt 1 j (bit-small kept old)) (pow-mono {j = 32} (omega arith)))
-    ∙ rw (add-one, is, carried-more rows kept j, carried-more rows accepted j))
+    ∙ rw (add-one, is, carried-more rows kept j, carried-more rows seen j))
 
 -- both after all rows
-pub both-all : (rows : List Row) (kept accepted count : ℕ) → count ≤ 16 → count ≤ length rows
-    → let word = both (carriedTo rows kept count) (carriedTo rows accepted count) in
-    let olds = map (λ (x : Row). x .old) (take count rows) in
-    (word % 2 ^ 16 ≡ carried olds kept) × (word / 2 ^ 32 % 2 ^ 16 ≡ carried olds accepted)
-both-all rows kept accepted count few h =
-    let small : carriedTo rows kept count < 2 ^ 16 = carried-small rows kept count few in
-    rw (← carried-all rows kept count h, ← carried-all rows accepted count h)
-    (omega arith, omega (arith, carried-small rows accepted count few))
+pub both-all : (x : CodeTree) (m : Maps) → x .count ≤ 16 → x .count ≤ length (rowsIn (x .rows))
+    → let word = bothTo (rowsIn (x .rows)) m (x .count) in record { kept = word % 2 ^ 16; witnesses = word / 2 ^ 32 % 2 ^ 16 } ≡ carriedMaps x m
+unfolding carriedMaps
+both-all x m few h =
+    let rows = rowsIn (x .rows) in
+    let kept = carriedTo rows (m .kept) (x .count) in
+    let seen = carriedTo rows (m .witnesses) (x .count) in
+    let small : kept < 2 ^ 16 = carried-small rows (m .kept) (x .count) few in
+    let parts : (both kept seen % 2 ^ 16 ≡ kept) × (both kept seen / 2 ^ 32 % 2 ^ 16 ≡ seen) =
+    (omega arith, omega (arith, carried-small rows (m .witnesses) (x .count) few)) in
+    rw (← carried-all rows (m .kept) (x .count) h, ← carried-all rows (m .witnesses) (x .count) h, parts .0, parts .1)

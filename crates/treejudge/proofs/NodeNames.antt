@@ -26,7 +26,7 @@ use Rattle.treejudge.specs.JudgeCall.{nameRoom}
 use Rattle.treejudge.specs.NodeNames.{Lowest, SomeNode, IsName}
 use Rattle.tree.specs.Rows.{HoldsTree}
 use Rattle.tree.specs.declared.rows.Tree.{Tree as CodeTree}
-use Rattle.treejudge.proofs.LettersRead.{tree-small}
+use Rattle.tree.proofs.TreeRows.{tree-small}
 
 -- THE LOWEST NODE
 
@@ -134,7 +134,7 @@ module _ (R : Rule) (T : Tree) (x : CodeTree) (held : HoldsTree R T x) (i : ℕ)
 
 -- a number of a node is below the limit
 pub node-few : {x : CodeTree} {number : ℕ} → SomeNode x number → number < maxStates
-node-few {x} some = omega (arith, tree-small (some .rule) (some .tree) x (some .states) (some .holds))
+node-few some = omega (arith, tree-small (some .states) (some .holds))
 
 module _ {x : CodeTree} {number : ℕ} (some : SomeNode x number) {numbers : List ℕ} {long i : ℕ}
     (v : NamedSoFar (x .rows) number numbers long i) (h : i < number) where

@@ -1,7 +1,7 @@
 -- The first repeat is found: by the search for period and entry, or at the cut of a long tail, where t(0) and t(1) have led to the same
 -- tree.
 use mathlib.Core.Path.{_≡_, refl, sym, _∙_, ap}
-use mathlib.Core.Bool.{Bool, true, false, not, cond}
+use mathlib.Core.Bool.{true, false}
 use mathlib.Core.List.{List, [], _++_}
 use Prim.Native.Nat.{ℕ, _-_, _≤_, _<_}
 use native.Mathlib.Omega.{arith}
@@ -16,7 +16,7 @@ use Rattle.word.proofs.Paths.{rounds-one}
 use Rattle.history.specs.Forest.{size}
 use Rattle.history.specs.Tree.{Tree}
 use Rattle.history.specs.Rounds.{roundTree, FirstRepeat}
-use Rattle.history.specs.Following.{acceptedMap}
+use Rattle.history.specs.Following.{witnessMap}
 use Rattle.history.proofs.TreesOfWalk.{round-next}
 use Rattle.history.proofs.RepeatExists.{repeat-exists}
 use Rattle.history.proofs.CycleVerdict.{member-node, verdict-yes, verdict-no}
@@ -25,12 +25,13 @@ use Rattle.history.proofs.CutCycle.{cut-round, cut-rest, repeat-second, cut-fir
 use Rattle.word.specs.WalkTables.{Tables, Tabled}
 use Rattle.tree.specs.Rows.{HoldsTree}
 use Rattle.treejudge.specs.Reading.{Reads, ReadsTo}
-use Rattle.treejudge.specs.Names.{Followed, treeOf, begunAt, Follows, FollowsOn, FollowsTo}
+use Rattle.treejudge.specs.Names.{allKept, Follows, FollowsOn, FollowsTo}
 use Rattle.treejudge.specs.SameRows.{sameTrees}
 use Rattle.treejudge.specs.Cycles.{AtRound, CycleFound, Searched, EntryFound}
 use Rattle.treejudge.specs.Repeats.{RepeatOf}
 use Rattle.tree.specs.declared.rows.Tree.{Tree as CodeTree}
 use Rattle.treejudge.specs.declared.cycle.Cycle.{Cycle}
+use Rattle.treejudge.specs.declared.follow.Maps.{Maps}
 use Rattle.treejudge.proofs.NamesFollowed.{begun-follows}
 use Rattle.treejudge.proofs.SameTrees.{same-rows-same, same-trees-same}
 
@@ -49,12 +50,12 @@ searched R u v tables k first at cycle found =
 module _ (R : Rule) (u v : List ℕ) (tables : Tables) (k e p : ℕ) (first : CodeTree) (cycle : Cycle)
     (S : Searched R u v tables k e p first cycle) where
   -- a number in the map is that of a node
-  node-of : (j : ℕ) → member (cycle .accepted) j ≡ true → j < size (roundTree R u v (cycle .power - 1))
-  node-of j m = member-node R u v e p (S .repeat) (cycle .power - 1) (S .cycle .late) j (rw (S .cycle .accepted) at m)
+  node-of : (j : ℕ) → member (cycle .witnesses) j ≡ true → j < size (roundTree R u v (cycle .power - 1))
+  node-of j m = member-node R u v e p (S .repeat) (cycle .power - 1) (S .cycle .late) j (rw (S .cycle .witnesses) at m)
 
   -- the tree that was held has the witnesses in the map
   pub repeat-searched : (entry : ℕ) → EntryFound tables k v first cycle entry
-      → RepeatOf R u v (record { tree = cycle .held; accepted = cycle .accepted; entry = entry; period = cycle .period })
+      → RepeatOf R u v (record { tree = cycle .held; witnesses = cycle .witnesses; entry = entry; period = cycle .period })
   unfolding EntryFound
   repeat-searched entry entered =
       let C = S .cycle in
@@ -66,9 +67,9 @@ module _ (R : Rule) (u v : List ℕ) (tables : Tables) (k e p : ℕ) (first : Co
         holds = C .held;
         node = node-of;
         lowest = λ j m low. rw (is, C .back) (verdict-yes R u v e p (S .repeat) (cycle .power - 1) (C .late) (t .limits .well) (t .limits .some-set)
-            j (node-of j m) (rw (C .accepted) at m) (rw (C .accepted) at low));
+            j (node-of j m) (rw (C .witnesses) at m) (rw (C .witnesses) at low));
         none = λ empty w W. verdict-no R u v e p (S .repeat) (cycle .power - 1) (C .late) (t .limits .well) (t .limits .some-set)
-            (sym (C .accepted) ∙ empty) w (rw (is, C .back) at W);
+            (sym (C .witnesses) ∙ empty) w (rw (is, C .back) at W);
       }
 
 -- AT THE CUT
@@ -102,70 +103,64 @@ module _ (R : Rule) (u head rest : List ℕ) (tables : Tables) (k : ℕ) (first 
     cut-holds = rw (cut-round R u head rest 0) (to R (t 0) (head-reads first refl))
 
     -- the others are followed from there
-    module _ (begun : Followed) (is : begun ≡ begunAt cut) where
-      pub rest-follows : FollowsOn R (s 0) [] tables k rest begun
-      rest-follows = record { holds = A .holds; tabled = parts .1; follows = rw is (begun-follows R (s 0) cut cut-holds) }
+    pub rest-follows : FollowsOn R (s 0) [] tables k rest cut (allKept (cut .count))
+    rest-follows = record { holds = A .holds; tabled = parts .1; follows = begun-follows cut-holds }
 
-      module _ (second : Followed) (on : FollowsTo tables k rest begun second) where
-        -- to t(1)
-        at-second : Follows R (s 0) rest second
+    module _ (second : CodeTree) (m : Maps) (on : FollowsTo tables k rest cut (allKept (cut .count)) second m) where
+      -- to t(1)
+      at-second : Follows R (s 0) rest second m
+      unfolding FollowsTo
+      at-second = on R (s 0) [] rest-follows
+
+      pub second-holds : HoldsTree R (t 1) second
+      second-holds = rw (← cut-rest R u head rest 0) (at-second .tree)
+
+      -- and on to the cut
+      pub head-follows : FollowsOn R (s 0) rest tables k head second m
+      head-follows = record { holds = A .holds; tabled = parts .0; follows = at-second }
+
+      module _ (again : CodeTree) (n : Maps) (back : FollowsTo tables k head second m again n) where
+        at-again : Follows R (s 0) (rest ++ head) again n
         unfolding FollowsTo
-        at-second = on R (s 0) [] rest-follows
+        at-again = back R (s 0) rest head-follows
 
-        pub second-holds : HoldsTree R (t 1) (treeOf second)
-        second-holds = rw (← cut-rest R u head rest 0) (at-second .tree)
+        pub again-holds : HoldsTree R (s 1) again
+        again-holds = rw (round-next R (u ++ head) (rest ++ head) 0) (at-again .tree)
 
-        -- and on to the cut
-        pub head-follows : FollowsOn R (s 0) rest tables k head second
-        head-follows = record { holds = A .holds; tabled = parts .0; follows = at-second }
+        witnesses-are : n .witnesses ≡ witnessMap R (s 0) (rounds 1 (rest ++ head))
+        witnesses-are = at-again .witnesses ∙ ap (witnessMap R (s 0)) (sym (rounds-one (rest ++ head)))
 
-        module _ (again : Followed) (back : FollowsTo tables k head second again) where
-          at-again : Follows R (s 0) (rest ++ head) again
-          unfolding FollowsTo
-          at-again = back R (s 0) rest head-follows
+        -- where the two trees at the cut are the same, the repeat is that of t(0) or of t(1)
+        module _ (met : sameTrees cut again ≡ true) where
+          meet : s 0 ≡ s 1
+          meet = same-rows-same R (s 0) (s 1) cut again (A .holds .limits .sets) cut-holds again-holds met
 
-          pub again-holds : HoldsTree R (s 1) (treeOf again)
-          again-holds = rw (round-next R (u ++ head) (rest ++ head) 0) (at-again .tree)
+          repeat-at : (entry : ℕ) → FirstRepeat t entry 1 → entry ≤ 1
+              → RepeatOf R u (head ++ rest) (record { tree = cut; witnesses = n .witnesses; entry = entry; period = 1 })
+          repeat-at entry F late =
+              let h = A .holds in
+              let G = repeat-at-once s meet in
+              let node : (j : ℕ) → member (n .witnesses) j ≡ true → j < size (s 0) =
+              λ j w. member-node R (u ++ head) (rest ++ head) 0 1 G 0 (omega arith) j (rw witnesses-are at w) in
+              record {
+                repeat = F;
+                tree = s 0;
+                holds = cut-holds;
+                node = node;
+                lowest = λ j w low. cut-first R u head rest meet entry F late _
+                    (verdict-yes R (u ++ head) (rest ++ head) 0 1 G 0 (omega arith) (h .limits .well) (h .limits .some-set) j (node j w)
+                    (rw witnesses-are at w) (rw witnesses-are at low));
+                none = λ empty. cut-none R u head rest meet entry F late
+                    (verdict-no R (u ++ head) (rest ++ head) 0 1 G 0 (omega arith) (h .limits .well) (h .limits .some-set) (sym witnesses-are ∙ empty));
+              }
 
-          accepted-is : again .accepted ≡ acceptedMap R (s 0) (rounds 1 (rest ++ head))
-          accepted-is = at-again .accepted ∙ ap (acceptedMap R (s 0)) (sym (rounds-one (rest ++ head)))
+          -- as the comparison of t(0) and t(1) says
+          pub repeat-still : sameTrees first second ≡ true
+              → RepeatOf R u (head ++ rest) (record { tree = cut; witnesses = n .witnesses; entry = 0; period = 1 })
+          repeat-still same = repeat-at 0 (repeat-at-once t
+              (same-rows-same R (t 0) (t 1) first second (A .holds .limits .sets) (A .tree) second-holds same)) (omega arith)
 
-          -- where the two trees at the cut are the same, the repeat is that of t(0) or of t(1)
-          module _ (meet : s 0 ≡ s 1) where
-            repeat-at : (entry : ℕ) → FirstRepeat t entry 1 → entry ≤ 1
-                → RepeatOf R u (head ++ rest) (record { tree = cut; accepted = again .accepted; entry = entry; period = 1 })
-            repeat-at entry F late =
-                let h = A .holds in
-                let G = repeat-at-once s meet in
-                let node : (j : ℕ) → member (again .accepted) j ≡ true → j < size (s 0) =
-                λ j m. member-node R (u ++ head) (rest ++ head) 0 1 G 0 (omega arith) j (rw accepted-is at m) in
-                record {
-                  repeat = F;
-                  tree = s 0;
-                  holds = cut-holds;
-                  node = node;
-                  lowest = λ j m low. cut-first R u head rest meet entry F late _
-                      (verdict-yes R (u ++ head) (rest ++ head) 0 1 G 0 (omega arith) (h .limits .well) (h .limits .some-set) j (node j m)
-                      (rw accepted-is at m) (rw accepted-is at low));
-                  none = λ empty. cut-none R u head rest meet entry F late
-                      (verdict-no R (u ++ head) (rest ++ head) 0 1 G 0 (omega arith) (h .limits .well) (h .limits .some-set) (sym accepted-is ∙ empty));
-                }
-
-            -- as the comparison of t(0) and t(1) says
-            repeat-told : (still : Bool)
-                → still ≡ sameTrees first (treeOf second)
-                → RepeatOf R u (head ++ rest) (record { tree = cut; accepted = again .accepted; entry = cond (not still) 1 0; period = 1 })
-            repeat-told true is = repeat-at 0 (repeat-at-once t
-                (same-rows-same R (t 0) (t 1) first _ (A .holds .limits .sets) (A .tree) second-holds (sym is))) (omega arith)
-            repeat-told false is = repeat-at 1 (repeat-second R u head rest meet
-                (λ e. clash (sym is) (same-trees-same R (t 1) first _ (rw e at (A .tree)) second-holds))) (omega arith)
-
-          -- the answer, by the two comparisons
-          pub repeat-early : (met still : Bool) (entry period : ℕ)
-              → met ≡ sameTrees cut (treeOf again)
-              → still ≡ sameTrees first (treeOf second)
-              → entry ≡ cond (not still) 1 0 → period ≡ cond met 1 0 → period ≡ 1
-              → RepeatOf R u (head ++ rest) (record { tree = cut; accepted = again .accepted; entry = entry; period = period })
-          repeat-early false still entry period m q e none one = absurd (omega arith)
-          repeat-early true still entry period m q e some one = rw (e, one) (repeat-told
-              (same-rows-same R (s 0) (s 1) cut _ (A .holds .limits .sets) cut-holds again-holds (sym m)) still q)
+          pub repeat-moved : sameTrees first second ≡ false
+              → RepeatOf R u (head ++ rest) (record { tree = cut; witnesses = n .witnesses; entry = 1; period = 1 })
+          repeat-moved differ = repeat-at 1 (repeat-second R u head rest meet
+              (λ e. clash differ (same-trees-same R (t 1) first second (rw e at (A .tree)) second-holds))) (omega arith)

@@ -14,7 +14,7 @@ use Rattle.treejudge.specs.Reading.{Reads, ReadsTo}
 use Rattle.treejudge.specs.SameRows.{sameTrees}
 use Rattle.treejudge.specs.Cycles.{AtRound, Ahead}
 use Rattle.tree.specs.declared.rows.Tree.{Tree as CodeTree}
-use Rattle.treejudge.proofs.LettersRead.{tree-small}
+use Rattle.tree.proofs.TreeRows.{tree-small}
 use Rattle.treejudge.proofs.SameTrees.{same-rows-same, same-trees-same}
 
 module _ {R : Rule} {u v : List ℕ} {tables : Tables} {k i : ℕ} {x : CodeTree} (X : AtRound R u v tables k i x) where
@@ -37,7 +37,7 @@ module _ {R : Rule} {u v : List ℕ} {tables : Tables} {k i : ℕ} {x : CodeTree
   module _ {j : ℕ} {y : CodeTree} (Y : AtRound R u v tables k j y) where
     -- two trees can be compared
     pub both-small : (x .count ≤ maxStates) × (y .count ≤ maxStates)
-    both-small = (tree-small R _ x (X .holds .limits .states) (X .tree), tree-small R _ y (X .holds .limits .states) (Y .tree))
+    both-small = (tree-small (X .holds .limits .states) (X .tree), tree-small (X .holds .limits .states) (Y .tree))
 
     -- and are the same if their rows are
     pub rows-same : sameTrees x y ≡ true → roundTree R u v i ≡ roundTree R u v j

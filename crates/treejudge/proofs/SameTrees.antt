@@ -21,8 +21,8 @@ use Rattle.tree.specs.Pass.{blankRow}
 use Rattle.tree.specs.RecordRows.{places}
 use Rattle.tree.specs.declared.rows.Row.{Row}
 use Rattle.tree.proofs.PackedWords.{low-same, same-low}
-use Rattle.tree.proofs.RecordOfRows.{record-of-rows}
-use Rattle.tree.specs.PackedRows.{unpacked, rowsIn}
+use Rattle.tree.proofs.RecordOfRows.{record-of-rows, held-record}
+use Rattle.tree.specs.PackedRows.{unpacked, countedRows}
 use Rattle.treejudge.specs.SameRows.{sameRow, sameRows, sameTrees}
 use Rattle.tree.specs.Rows.{HoldsTree}
 use Rattle.tree.specs.declared.rows.Tree.{Tree as CodeTree}
@@ -125,15 +125,11 @@ same-rows-in (x ∷ rows) (y ∷ others) e = and-both (sameRow x y) _ (same-row-
 pub same-rows-same : (R : Rule) (T U : Tree) (x y : CodeTree) → R .sets ≤ maxSets → HoldsTree R T x → HoldsTree R U y
     → sameTrees x y ≡ true → T ≡ U
 same-rows-same R T U x y sets held other e =
-    let rows = take (x .count) (rowsIn (x .rows)) in
-    let t = of-nested R T (held .fits) in
     let u = of-nested R U (other .fits) in
-    record-injective (R .states) (R .sets) T U t u (omega arith)
-    (sym (record-of-rows (R .states) (R .sets) T t rows (held .are))
-    ∙ record-of-rows (R .states) (R .sets) U u rows (same-rows-out rows (take (y .count) (rowsIn (y .rows))) e ∙ other .are))
+    record-injective (R .states) (R .sets) T U (of-nested R T (held .fits)) u (omega arith) (sym (held-record held)
+    ∙ record-of-rows (R .states) (R .sets) U u (countedRows x) (same-rows-out (countedRows x) (countedRows y) e ∙ other .are))
 
 -- one tree has the same rows wherever it is held
 pub same-trees-same : (R : Rule) (T : Tree) (x y : CodeTree) → HoldsTree R T x → HoldsTree R T y
     → sameTrees x y ≡ true
-same-trees-same R T x y held other =
-    same-rows-in (take (x .count) (rowsIn (x .rows))) (take (y .count) (rowsIn (y .rows))) (held .are ∙ sym (other .are))
+same-trees-same R T x y held other = same-rows-in (countedRows x) (countedRows y) (held .are ∙ sym (other .are))

@@ -6,7 +6,7 @@ use Rattle.table.specs.Rule.{Rule}
 use Rattle.table.specs.Table.{Every}
 use Rattle.word.specs.Walk.{rounds}
 use Rattle.history.specs.Rounds.{roundTree, FirstRepeat}
-use Rattle.history.specs.Following.{acceptedMap}
+use Rattle.history.specs.Following.{witnessMap}
 use Rattle.word.specs.WalkTables.{Tables, Tabled}
 use Rattle.tree.specs.Rows.{HoldsTree}
 use Rattle.treejudge.specs.Reading.{HasSets}
@@ -52,7 +52,7 @@ pub record CycleOf (R : Rule) (u v : List ℕ) (entry period : ℕ) (c : Cycle) 
   pub back : c .period ≡ period
   pub late : entry ≤ c .power - 1
   pub skips : period ≤ c .half → c .half ≤ entry
-  pub accepted : c .accepted ≡ acceptedMap R (roundTree R u v (c .power - 1)) (rounds period v)
+  pub witnesses : c .witnesses ≡ witnessMap R (roundTree R u v (c .power - 1)) (rounds period v)
 
 unfoldable pub CycleFound : Tables → ℕ → List ℕ → CodeTree → Cycle → Type 0
 CycleFound tables k v first c =

@@ -9,18 +9,12 @@ use Rattle.word.specs.WalkTables.{Tables, Tabled}
 use Rattle.history.specs.Tree.{Tree}
 use Rattle.history.specs.Rounds.{readLetters}
 use Rattle.tree.specs.Rows.{HoldsTree}
-use Rattle.tree.specs.Sides.{treeOn}
 use Rattle.tree.specs.declared.rows.Tree.{Tree as CodeTree}
-use Rattle.treejudge.specs.declared.letters.OnSide.{OnSide}
 
 -- the rule R is within the limits, and has k sets
 pub record HasSets (R : Rule) (k : ℕ) : Type 0 where
   pub number : R .sets ≡ k
   pub limits : WithinLimits R
-
--- the tree on one of two sides
-abbrev pub treeAt : List (List ℕ) → OnSide → CodeTree
-treeAt sides x = treeOn sides (x .side) (x .count)
 
 -- the letters w are read from T
 pub record Reads (R : Rule) (T : Tree) (tables : Tables) (k : ℕ) (w : List ℕ) (x : CodeTree) : Type 0 where

@@ -2,8 +2,7 @@
 use mathlib.Core.Bool.{Bool, true, false, _&&_}
 use mathlib.Core.List.{List, [], _∷_}
 use lib.Dec.{eqb}
-use lib.ListN.{take}
-use Rattle.tree.specs.PackedRows.{rowsIn}
+use Rattle.tree.specs.PackedRows.{countedRows}
 use Rattle.tree.specs.declared.rows.Row.{Row}
 use Rattle.tree.specs.declared.rows.Tree.{Tree as CodeTree}
 
@@ -18,4 +17,4 @@ sameRows (x ∷ rows) (y ∷ others) = sameRow x y && sameRows rows others
 
 -- the rows that count of two trees
 abbrev pub sameTrees : CodeTree → CodeTree → Bool
-sameTrees x y = sameRows (take (x .count) (rowsIn (x .rows))) (take (y .count) (rowsIn (y .rows)))
+sameTrees x y = sameRows (countedRows x) (countedRows y)

@@ -16,7 +16,7 @@ pub struct Cycle {
     pub half: u64,
     pub power: u64,
     pub period: u64,
-    pub accepted: u16,
+    pub witnesses: u16,
 }
 
 // From t(0) on.
@@ -30,27 +30,27 @@ pub fn find_cycle(tables: &AllTables, k: u8, v: &[u8], first: Tree) -> Cycle
     let mut power = 1u64;
     let mut lam = 0u64;
     let mut sides = first.laid();
-    let mut now = begin(0, first.nodes());
+    let mut now = begin(first.on_first_side());
     loop {
         let next = follow_letters(tables, k, v, &mut sides, now);
         lam += 1;
-        if same_tree(held, &sides, next.side, next.count) {
+        if same_tree(held, &sides, next.tree) {
             return Cycle {
                 held: held,
                 before: before,
                 half: half,
                 power: power,
                 period: lam,
-                accepted: next.accepted,
+                witnesses: next.maps.witnesses,
             };
         }
         if lam == power {
             before = held;
-            held = Tree::taken(&sides, next.side, next.count);
+            held = Tree::taken(&sides, next.tree);
             half = power;
             power = power + power;
             lam = 0;
-            now = begin(next.side, next.count);
+            now = begin(next.tree);
         } else {
             now = next;
         }

@@ -1,7 +1,6 @@
 // The entry, once the period is known: two places that are a period apart go forward together, and the first that have equal trees
 // are t(e) and t(e + p).
 use crate::cycle::Cycle;
-use crate::letters::on_first_side;
 use crate::letters::read_letters;
 use crate::same::same_on;
 use tree::rows::Tree;
@@ -15,14 +14,14 @@ fn read_rounds(tables: &AllTables, k: u8, v: &[u8], count: u64, tree: Tree) -> T
     ensures { λ r. ⌜ Ahead (now (tables .entry)) k (now (v .entry)) count tree r ⌝ }
 {
     let mut sides = tree.laid();
-    let mut now = on_first_side(tree.nodes());
+    let mut now = tree.on_first_side();
     let mut round = 0u64;
     while round < count {
         let next = read_letters(tables, k, v, &mut sides, now);
         now = next;
         round += 1;
     }
-    Tree::taken(&sides, now.side, now.count)
+    Tree::taken(&sides, now)
 }
 
 // The entry from `low` to `high`, where `first` is t(low) and `later` is the tree a period further.
@@ -40,11 +39,11 @@ fn entry_between(
 {
     let mut here = first.laid();
     let mut there = later.laid();
-    let mut now = on_first_side(first.nodes());
-    let mut ahead = on_first_side(later.nodes());
+    let mut now = first.on_first_side();
+    let mut ahead = later.on_first_side();
     let mut place = low;
     while place < high {
-        if same_on(&here, now.side, now.count, &there, ahead.side, ahead.count) {
+        if same_on(&here, now, &there, ahead) {
             return place;
         }
         place += 1;

@@ -1,5 +1,4 @@
 // The tree judge: entry and period of the first repeated tree at a round end, and the verdict with its node.
-use crate::letters::on_first_side;
 use crate::letters::read_letters;
 use crate::name::first_node;
 use crate::name::node_name;
@@ -60,11 +59,11 @@ fn judge_walk<'a>(
         k,
         letters_left(u, v, false, 0),
         &mut sides,
-        on_first_side(start.nodes()),
+        start.on_first_side(),
     );
-    let first = Tree::taken(&sides, led.side, led.count);
+    let first = Tree::taken(&sides, led);
     let found = find_repeat(&tables, k, u, v, first);
-    if found.accepted == 0 {
+    if found.witnesses == 0 {
         return TreeAnswer {
             number: 0,
             verdict: 0,
@@ -73,7 +72,7 @@ fn judge_walk<'a>(
             length: NO_NAME,
         };
     }
-    let name = node_name(found.tree, first_node(found.accepted));
+    let name = node_name(found.tree, first_node(found.witnesses));
     store_name(name, names);
     TreeAnswer {
         number: 0,

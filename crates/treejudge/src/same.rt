@@ -2,6 +2,7 @@
 use tree::rows::Rows;
 use tree::rows::Sides;
 use tree::rows::Tree;
+use tree::sides::OnSide;
 ghost use mathlib.Core.Path.{_≡_};
 ghost use Prim.Native.Nat.{_≤_};
 ghost use lib.ListN.{length, take};
@@ -33,25 +34,28 @@ fn same_rows(rows: &Rows, others: &Rows, count: usize) -> bool
     true
 }
 
-// A tree, and one on a side.
-pub fn same_tree(tree: Tree, sides: &Sides, side: usize, count: usize) -> bool
-    requires { ⌜ ((tree .count ≤ maxStates) × (count ≤ maxStates)) × Stands (now sides) side ⌝ }
-    ensures { λ r. ⌜ r ≡ sameTrees tree (treeOn (now (sides .entry)) side count) ⌝ }
+// A tree, and one in place.
+pub fn same_tree(tree: Tree, sides: &Sides, on: OnSide) -> bool
+    requires { ⌜ ((tree .count ≤ maxStates) × (on .count ≤ maxStates)) × Stands (now sides) on ⌝ }
+    ensures { λ r. ⌜ r ≡ sameTrees tree (treeOn (now (sides .entry)) on) ⌝ }
 {
-    if tree.nodes() != count {
+    if tree.nodes() != on.count {
         return false;
     }
+    let side = on.side;
     let rows = tree.rows();
-    same_rows(&rows, &sides[side], count)
+    same_rows(&rows, &sides[side], on.count)
 }
 
-// A tree on a side, and one on another's.
-pub fn same_on(a: &Sides, from: usize, count: usize, b: &Sides, side: usize, number: usize) -> bool
-    requires { ⌜ ((count ≤ maxStates) × (number ≤ maxStates)) × (Stands (now a) from × Stands (now b) side) ⌝ }
-    ensures { λ r. ⌜ r ≡ sameTrees (treeOn (now (a .entry)) from count) (treeOn (now (b .entry)) side number) ⌝ }
+// Two trees in place.
+pub fn same_on(a: &Sides, on: OnSide, b: &Sides, other: OnSide) -> bool
+    requires { ⌜ ((on .count ≤ maxStates) × (other .count ≤ maxStates)) × (Stands (now a) on × Stands (now b) other) ⌝ }
+    ensures { λ r. ⌜ r ≡ sameTrees (treeOn (now (a .entry)) on) (treeOn (now (b .entry)) other) ⌝ }
 {
-    if count != number {
+    if on.count != other.count {
         return false;
     }
-    same_rows(&a[from], &b[side], count)
+    let side = on.side;
+    let other_side = other.side;
+    same_rows(&a[side], &b[other_side], on.count)
 }

@@ -32,22 +32,13 @@ returns c =
 start-requires : tie.Need-start-requires
 start-requires c κs = search needs
 
-rows-requires : tie.Need-rows-requires
-rows-requires c κs = search needs
-
-nodes-requires : tie.Need-nodes-requires
-nodes-requires c κs = search needs
-
 put-record-requires : tie.Need-put-record-requires
 put-record-requires c κs =
-    let counted = c .before in
-    let given = counted .before .before in
-    let made = given .before in
+    let made = c .before in
     let h = made .before .before .before in
     let r = h .before .before in
     let v = reading-rule _ _ (r .read-rule .ensures .1) _ (sym (h .header .given .1) ∙ r .read-rule .ensures .0) in
-    let (fits, long) = start-recordable _ [] _ _ v _ (made .start .ensures) in
-    (rw (given .rows .ensures, counted .nodes .ensures) fits, made .before .if1 .left, rw (given .rows .ensures) long)
+    (start-recordable _ [] _ _ v _ (made .start .ensures), made .before .if1 .left)
 
 returns-2 : tie.Need-returns-2
 returns-2 c =
@@ -61,13 +52,11 @@ same-length c = search needs
 returns-3 : tie.Need-returns-3
 returns-3 c =
     let put = c .before .before in
-    let counted = put .before .before in
-    let given = counted .before .before in
-    let made = given .before in
+    let made = put .before .before in
     let h = made .before .before .before in
     let r = h .before .before in
     let v = reading-rule _ _ (r .read-rule .ensures .1) _ (sym (h .header .given .1) ∙ r .read-rule .ensures .0) in
-    let (length, bytes) = rw (given .rows .ensures, counted .nodes .ensures) at (put .put-record .ensures) in
+    let (length, bytes) = put .put-record .ensures in
     start-done _ _ _ _ v _ (made .start .ensures) (made .before .if1 .left) _ _ length bytes
 
 pub start-spec : {M : Type 1} → statement M
@@ -81,8 +70,6 @@ start-spec =
     start-refusal-requires-2
     returns
     start-requires
-    rows-requires
-    nodes-requires
     put-record-requires
     returns-2
     same-length

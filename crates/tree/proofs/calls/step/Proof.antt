@@ -9,8 +9,9 @@ use Rattle.table.specs.Limits.{maxLetters}
 use Rattle.table.specs.Lookup.{letterTable}
 use Rattle.table.proofs.GridReading.{RuleRead, letter-fits, reading-refused, reading-rule}
 use Rattle.table.proofs.LookupSteps.{table-made}
-use Rattle.tree.proofs.StepCall.{step-refused, TreeRead, tree-refused, tree-read, numbers-fit}
-use Rattle.tree.proofs.StepCall.{step-no-letter, step-no-tree, step-no-room, step-ready, step-recordable, step-done}
+use Rattle.tree.proofs.StartCall.{numbers-fit}
+use Rattle.tree.proofs.StepCall.{step-refused, TreeRead, tree-refused, tree-read}
+use Rattle.tree.proofs.StepCall.{step-no-letter, step-no-tree, step-no-room, step-ready, step-next, step-recordable, step-done}
 use Rattle.tree.proofs.calls.step.Statement.{statement}
 use Rattle.tree.proofs.calls.step.Tie as tie
 
@@ -21,12 +22,9 @@ rule c = let r = c .before .before in reading-rule _ _ (r .read-rule .ensures .1
 
 -- the tree that was read
 tree : (c : tie.After-nodes) → let k = c .before .before .before in let h = k .before .before .before .before in
-    TreeRead (h .header .given .0 .0 .states) (h .header .given .0 .0 .sets)
-    (h .before .before .before .before .before .before .before .before .args .bytes .now) (c .nodes .given .0 .0) (k .checked .result .tree .rows)
-tree c =
-    let k = c .before .before .before in
-    let (states, (some, sets)) = numbers-fit (rule (k .before .before .before .before)) in
-    tree-read _ _ _ _ states sets (k .checked .ensures) _ (c .nodes .given .1)
+    TreeRead (rule h .rule) (h .before .before .before .before .before .before .before .before .args .bytes .now)
+    (c .nodes .given .0 .0) (k .checked .result .tree)
+tree c = let k = c .before .before .before in tree-read (rule (k .before .before .before .before)) _ _ (k .checked .ensures) _ (c .nodes .given .1)
 
 -- the letter's square is one of the arrays
 letter : (c : tie.Else2) → let l = c .before .before .before .before .before .before in let h = l .before .before .before in
@@ -82,8 +80,7 @@ returns-2 : tie.Need-returns-2
 returns-2 c =
     let k = c .before .before .before .before in
     let h = k .before .before .before .before in
-    let (states, (some, sets)) = numbers-fit (rule h) in
-    step-no-tree _ _ _ _ _ _ (rule h) (k .before .if1 .left) (tree-refused _ _ _ _ states sets (k .checked .ensures) (c .before .enum-told .given .1)) _
+    step-no-tree _ _ _ _ _ _ (rule h) (k .before .if1 .left) (tree-refused (rule h) _ _ (k .checked .ensures) (c .before .enum-told .given .1)) _
     (c .step-refusal3 .ensures)
 
 step-refusal-requires-4 : tie.Need-step-refusal-requires-4
@@ -119,20 +116,28 @@ step-rows-requires c κs =
     let laid = c .before .before .before in
     let n = laid .before .before .before .before .before .before in
     let l = n .before .before .before .before in
-    rw (laid .laid .ensures .are) (step-ready _ _ _ [] _ _ (rule (l .before .before .before)) (l .if1 .left) _ _ (tree n) _ (search needs))
+    step-ready _ _ _ [] _ _ (rule (l .before .before .before)) (l .if1 .left) _ _ (tree n) _ (laid .laid .ensures)
 
-index-1-put-record : tie.Need-index-1-put-record
-index-1-put-record c = search needs
-
-put-record-requires : tie.Need-put-record-requires
-put-record-requires c κs =
-    let s = c .before .before in
+taken-requires : tie.Need-taken-requires
+taken-requires c κs =
+    let s = c .before in
     let laid = s .before .before .before .before in
     let n = laid .before .before .before .before .before .before in
     let l = n .before .before .before .before in
-    let (fits, long) = step-recordable _ _ _ [] _ _ (rule (l .before .before .before)) (l .if1 .left) _ _ (tree n) _ _ _ _
-    (filled (laid .before)) (rw (laid .laid .ensures .are) at (s .step-rows .ensures)) in
-    (fits, laid .before .before .before .before .if2 .left, long)
+    let r = s .step-rows .ensures in
+    step-next _ _ _ [] _ _ (rule (l .before .before .before)) (l .if1 .left) _ _ (tree n) _ (laid .laid .ensures) _ (filled (laid .before)) _ _ r
+
+put-record-requires : tie.Need-put-record-requires
+put-record-requires c κs =
+    let up = c .before in
+    let s = up .before .before in
+    let laid = s .before .before .before .before in
+    let n = laid .before .before .before .before .before .before in
+    let l = n .before .before .before .before in (
+      step-recordable _ _ _ [] _ _ (rule (l .before .before .before)) (l .if1 .left) _ _ (tree n) _ (laid .laid .ensures)
+          _ (filled (laid .before)) _ _ (s .step-rows .ensures) _ (up .taken .ensures),
+      laid .before .before .before .before .if2 .left,
+    )
 
 returns-4 : tie.Need-returns-4
 returns-4 c =
@@ -146,12 +151,13 @@ same-length c = search needs
 returns-5 : tie.Need-returns-5
 returns-5 c =
     let p = c .before .before in
-    let s = p .before .before .before in
+    let up = p .before .before in
+    let s = up .before .before in
     let laid = s .before .before .before .before in
     let n = laid .before .before .before .before .before .before in
     let l = n .before .before .before .before in
-    step-done _ _ _ _ _ _ (rule (l .before .before .before)) (l .if1 .left) _ _ (tree n) _ _ _ _
-    (filled (laid .before)) (rw (laid .laid .ensures .are) at (s .step-rows .ensures))
+    step-done _ _ _ _ _ _ (rule (l .before .before .before)) (l .if1 .left) _ _ (tree n) _ (laid .laid .ensures)
+    _ (filled (laid .before)) _ _ (s .step-rows .ensures) _ (up .taken .ensures)
     (laid .before .before .before .before .if2 .left) _ _ (p .put-record .ensures .0) (p .put-record .ensures .1)
 
 pub step-spec : {M : Type 1} → statement M
@@ -177,7 +183,7 @@ step-spec =
     laid-requires
     cast-step-rows
     step-rows-requires
-    index-1-put-record
+    taken-requires
     put-record-requires
     returns-4
     same-length

@@ -1,27 +1,44 @@
 -- The host of a state, by the laws of WritingInTurn.
 use borrow.Author.Needs.{needs}
-use mathlib.Core.Path.{sym, _∙_}
-use Prim.Native.Nat.{_-_}
+use mathlib.Core.Path.{_≡_, sym, _∙_}
+use mathlib.Core.List.{List, []}
+use Prim.Native.Nat.{ℕ, _-_}
+use lib.ListN.{length, getD}
+use Rattle.tree.specs.RecordRows.{places}
 use Rattle.tree.specs.PackedRows.{rowsIn}
+use Rattle.tree.specs.Sides.{treeOn}
 use Rattle.tree.proofs.PackedWords.{row-read, rows-many}
 use Rattle.tree.proofs.WritingInTurn.{HostAhead, host-start, host-found, host-next, host-none}
 use Rattle.tree.proofs.writing.host_row.Statement.{statement}
 use Rattle.tree.proofs.writing.host_row.Tie as tie
 
 abbrev Inv-loop : tie.InvT-loop
-Inv-loop rows count state node₀ node = HostAhead (rowsIn rows) count state node
+Inv-loop sides state side count node₀ node = HostAhead (treeOn sides (record { side = side; count = count })) state node
 
 abbrev μ-loop : tie.MeasureT-loop
-μ-loop rows count state node₀ node = count - node
+μ-loop sides state side count node₀ node = count - node
+
+-- the tree's words, and that there are as many as places
+abbrev words : tie.Start Inv-loop μ-loop → List ℕ
+words c = getD (c .args .sides .now) (c .args .on .side) []
+
+many : (c : tie.Start Inv-loop μ-loop) → length (rowsIn (words c)) ≡ places
+many c = rows-many (words c) (c .pre .1 .0 .long _ (c .pre .1 .1))
 
 loop-holds : tie.Need-loop-holds Inv-loop μ-loop
-loop-holds c = host-start _ _ _
+loop-holds c = host-start _ _
 
 mul-unpack : tie.Need-mul-unpack Inv-loop μ-loop
 mul-unpack c = search needs
 
-element-copy-out-unpack : tie.Need-element-copy-out-unpack Inv-loop μ-loop
-element-copy-out-unpack c = search needs
+mul-unpack-2 : tie.Need-mul-unpack-2 Inv-loop μ-loop
+mul-unpack-2 c = search needs
+
+index-1-unpack : tie.Need-index-1-unpack Inv-loop μ-loop
+index-1-unpack c = search needs
+
+index-2-unpack : tie.Need-index-2-unpack Inv-loop μ-loop
+index-2-unpack c = search needs
 
 unpack-requires : tie.Need-unpack-requires Inv-loop μ-loop
 unpack-requires c κs = search needs
@@ -37,8 +54,8 @@ returns c =
     let read = c .before .before in
     let turn = read .before .before in
     let start = turn .before .before in
-    host-found (turn .before .loop .inv) (rows-many (start .args .rows .now) (start .pre .2)) (start .pre .0) (turn .loop-test .taken) _
-    (row-read (start .args .rows .now) (turn .before .loop .node) (read .unpack .ensures))
+    host-found (turn .before .loop .inv) (many start) (start .pre .0 .0) (turn .loop-test .taken) _
+    (row-read (words start) (turn .before .loop .node) (read .unpack .ensures))
     (sym (c .before .hosts-state .ensures) ∙ c .if1 .taken)
 
 add-node : tie.Need-add-node Inv-loop μ-loop
@@ -52,8 +69,8 @@ loop-again c =
     let read = c .before .before in
     let turn = read .before .before in
     let start = turn .before .before in
-    host-next (turn .before .loop .inv) (rows-many (start .args .rows .now) (start .pre .2)) (start .pre .0) (turn .loop-test .taken) _
-    (row-read (start .args .rows .now) (turn .before .loop .node) (read .unpack .ensures))
+    host-next (turn .before .loop .inv) (many start) (start .pre .0 .0) (turn .loop-test .taken) _
+    (row-read (words start) (turn .before .loop .node) (read .unpack .ensures))
     (sym (c .before .hosts-state .ensures) ∙ c .if1 .left)
 
 cast-result-2 : tie.Need-cast-result-2 Inv-loop μ-loop
@@ -62,7 +79,7 @@ cast-result-2 c = search needs
 returns-2 : tie.Need-returns-2 Inv-loop μ-loop
 returns-2 c =
     let start = c .before .before in
-    host-none (c .before .loop .inv) (rows-many (start .args .rows .now) (start .pre .2)) (start .pre .0) (c .loop-test .left)
+    host-none (c .before .loop .inv) (many start) (start .pre .0 .0) (c .loop-test .left)
 
 pub host-row-spec : {M : Type 1} → statement M
 host-row-spec =
@@ -72,7 +89,9 @@ host-row-spec =
     μ-loop
     loop-holds
     mul-unpack
-    element-copy-out-unpack
+    mul-unpack-2
+    index-1-unpack
+    index-2-unpack
     unpack-requires
     hosts-state-requires
     cast-result

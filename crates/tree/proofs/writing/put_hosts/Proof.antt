@@ -2,21 +2,21 @@
 use borrow.Author.Needs.{needs}
 use Prim.Native.Nat.{_-_}
 use native.Mathlib.Omega.{arith}
-use lib.ListN.{take}
 use Rattle.table.proofs.Storing.{pieces-size}
-use Rattle.tree.specs.PackedRows.{rowsIn}
+use Rattle.tree.specs.PackedRows.{countedRows}
+use Rattle.tree.specs.Sides.{treeOn}
 use Rattle.tree.proofs.WritingInTurn.{HostsStored, hosts-start, hosts-skip, hosts-fits, hosts-put, hosts-done}
 use Rattle.tree.proofs.writing.put_hosts.Statement.{statement}
 use Rattle.tree.proofs.writing.put_hosts.Tie as tie
 
 abbrev Inv-loop : tie.InvT-loop
-Inv-loop rows count states n out₀ from at₀ state₀ out at state = HostsStored (take count (rowsIn rows)) n states out₀ from out at state
+Inv-loop sides on states n out₀ from at₀ state₀ out at state = HostsStored (countedRows (treeOn sides on)) n states out₀ from out at state
 
 abbrev μ-loop : tie.MeasureT-loop
-μ-loop rows count states n out₀ from at₀ state₀ out at state = n - state
+μ-loop sides on states n out₀ from at₀ state₀ out at state = n - state
 
 loop-holds : tie.Need-loop-holds Inv-loop μ-loop
-loop-holds c = hosts-start _ _ _ _ _ (c .before .pre .1)
+loop-holds c = hosts-start _ _ _ _ _ (c .before .pre .2)
 
 add-state : tie.Need-add-state Inv-loop μ-loop
 add-state c = search needs

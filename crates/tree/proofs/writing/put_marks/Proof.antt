@@ -1,28 +1,41 @@
 -- The marks, by the laws of WritingInTurn.
 use borrow.Author.Needs.{needs}
-use Prim.Native.Nat.{_+_, _-_, _*_, _<_}
+use mathlib.Core.List.{List, []}
+use Prim.Native.Nat.{ℕ, _+_, _-_, _*_, _<_}
 use native.Mathlib.Omega.{arith}
+use lib.ListN.{getD}
 use Rattle.table.proofs.Storing.{pieces-size}
-use Rattle.tree.specs.PackedRows.{rowsIn}
+use Rattle.tree.specs.Sides.{treeOn}
 use Rattle.tree.proofs.PackedWords.{row-read, rows-many}
 use Rattle.tree.proofs.WritingInTurn.{MarksStored, marks-start, mark-small, marks-fits, marks-put, marks-done}
 use Rattle.tree.proofs.writing.put_marks.Statement.{statement}
 use Rattle.tree.proofs.writing.put_marks.Tie as tie
 
 abbrev Inv-loop : tie.InvT-loop
-Inv-loop rows count n out₀ from at₀ node₀ out at node = MarksStored n count (rowsIn rows) out₀ from out at node
+Inv-loop sides n out₀ from side count at₀ node₀ out at node =
+    MarksStored n (treeOn sides (record { side = side; count = count })) out₀ from out at node
 
 abbrev μ-loop : tie.MeasureT-loop
-μ-loop rows count n out₀ from at₀ node₀ out at node = count - node
+μ-loop sides n out₀ from side count at₀ node₀ out at node = count - node
+
+-- the tree's words
+abbrev words : tie.Start Inv-loop μ-loop → List ℕ
+words c = getD (c .args .sides .now) (c .args .on .side) []
 
 loop-holds : tie.Need-loop-holds Inv-loop μ-loop
-loop-holds c = marks-start _ _ _ _ _ (c .before .pre .0) (c .before .pre .1)
+loop-holds c = marks-start _ _ _ _ (c .before .pre .0) (c .before .pre .2)
 
 mul-unpack : tie.Need-mul-unpack Inv-loop μ-loop
 mul-unpack c = search needs
 
-element-copy-out-unpack : tie.Need-element-copy-out-unpack Inv-loop μ-loop
-element-copy-out-unpack c = search needs
+mul-unpack-2 : tie.Need-mul-unpack-2 Inv-loop μ-loop
+mul-unpack-2 c = search needs
+
+index-1-unpack : tie.Need-index-1-unpack Inv-loop μ-loop
+index-1-unpack c = search needs
+
+index-2-unpack : tie.Need-index-2-unpack Inv-loop μ-loop
+index-2-unpack c = search needs
 
 unpack-requires : tie.Need-unpack-requires Inv-loop μ-loop
 unpack-requires c κs = search needs
@@ -32,7 +45,7 @@ small : (c : tie.After-unpack Inv-loop μ-loop) → 16 * c .unpack .result .dept
 small c =
     let turn = c .before .before in
     mark-small (turn .before .loop .inv) (turn .loop-test .taken) _
-    (row-read (turn .before .before .before .args .rows .now) (turn .before .loop .node) (c .unpack .ensures))
+    (row-read (words (turn .before .before .before)) (turn .before .loop .node) (c .unpack .ensures))
 
 mul-out : tie.Need-mul-out Inv-loop μ-loop
 mul-out c = omega (arith, small (c .before))
@@ -61,8 +74,8 @@ loop-again c =
     let turn = read .before .before in
     let start = turn .before .before .before in
     marks-put (turn .before .loop .inv) (turn .loop-test .taken) _
-    (row-read (start .args .rows .now) (turn .before .loop .node) (read .unpack .ensures))
-    (rows-many (start .args .rows .now) (start .pre .2))
+    (row-read (words start) (turn .before .loop .node) (read .unpack .ensures))
+    (rows-many (words start) (start .pre .1 .0 .long _ (start .pre .1 .1)))
 
 same-length : tie.Need-same-length Inv-loop μ-loop
 same-length c = pieces-size (c .before .loop .inv .pieces)
@@ -78,7 +91,9 @@ put-marks-spec =
     μ-loop
     loop-holds
     mul-unpack
-    element-copy-out-unpack
+    mul-unpack-2
+    index-1-unpack
+    index-2-unpack
     unpack-requires
     mul-out
     cast-out

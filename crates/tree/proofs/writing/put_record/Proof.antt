@@ -11,9 +11,10 @@ use Rattle.tree.proofs.writing.put_record.Statement.{statement}
 use Rattle.tree.proofs.writing.put_record.Tie as tie
 
 -- the root's row
-root : (c : tie.After-unpack) → let start = c .before .before .before .before in
-    c .unpack .result ≡ getD (rowsIn (start .args .rows .now)) 0 blankRow
-root c = let start = c .before .before .before .before in row-read (start .args .rows .now) 0 (c .unpack .ensures)
+root : (c : tie.After-unpack) → let laid = c .before .before .before in
+    c .unpack .result ≡ getD (rowsIn (laid .before .before .before .before .args .tree .rows)) 0 blankRow
+root c = let laid = c .before .before .before in
+    row-read (laid .before .before .before .before .args .tree .rows) 0 (rw (laid .laid .ensures .are) at (c .unpack .ensures))
 
 slice-write-out : tie.Need-slice-write-out
 slice-write-out c = search needs
@@ -22,10 +23,19 @@ same-length : tie.Need-same-length
 same-length c = search needs
 
 returns : tie.Need-returns
-returns c = record-dead _ _ _ _ (c .before .before .pre .0) (c .before .before .pre .1) (c .if1 .taken)
+returns c = let start = c .before .before .before in record-dead _ _ _ (start .pre .0) (start .pre .1) (c .if1 .taken)
 
-element-copy-out-unpack : tie.Need-element-copy-out-unpack
-element-copy-out-unpack c = search needs
+laid-requires : tie.Need-laid-requires
+laid-requires c κs = search needs
+
+on-first-side-requires : tie.Need-on-first-side-requires
+on-first-side-requires c κs = search needs
+
+index-1-unpack : tie.Need-index-1-unpack
+index-1-unpack c = search needs
+
+index-2-unpack : tie.Need-index-2-unpack
+index-2-unpack c = search needs
 
 unpack-requires : tie.Need-unpack-requires
 unpack-requires c κs = search needs
@@ -33,41 +43,49 @@ unpack-requires c κs = search needs
 cast-out : tie.Need-cast-out
 cast-out c =
     let read = c .before in
-    let live = read .before .before in
-    let start = live .before .before in
-    omega (arith, root-small _ _ _ (start .args .out .now) (start .pre .0) (start .pre .1) _ (root read) (live .if1 .left))
+    let live = read .before .before .before .before in
+    let start = live .before .before .before in
+    omega (arith, root-small _ _ (start .args .out .now) (start .pre .0) (start .pre .1) _ (root read) (live .if1 .left))
 
 slice-write-out-2 : tie.Need-slice-write-out-2
 slice-write-out-2 c = search needs
 
 put-hosts-requires : tie.Need-put-hosts-requires
-put-hosts-requires c κs = ((omega arith, omega arith), simp length-set (omega arith), search needs)
+put-hosts-requires c κs =
+    let placed = c .before .before .before .before .before in
+    rw (placed .on-first-side .ensures) ((omega arith, omega arith), (placed .before .laid .ensures .arrays, omega arith), simp length-set (omega arith))
 
 put-marks-requires : tie.Need-put-marks-requires
 put-marks-requires c κs =
-    let hosts = c .before .before .before in
-    let read = hosts .before .before .before in
-    let start = read .before .before .before .before in
-    let then = hosts .put-hosts .last .1 .1 .1 .1 .0 in (
-      start .pre .0,
-      marks-room-left _ _ _ (start .args .out .now) (start .pre .0) (start .pre .1) _ (root read) _ then (hosts .put-hosts .ensures .0)
-          (c .before .before .out .given),
-      start .pre .2,
+    let hosts = c .before .before .before .before in
+    let read = hosts .before .before .before .before in
+    let placed = read .before .before in
+    let laid = placed .before .laid .ensures in
+    let start = placed .before .before .before .before .before in
+    let then = hosts .put-hosts .last .1 .1 .1 .1 .0 in
+    let (at, _) = rw (placed .on-first-side .ensures, laid .are) at (hosts .put-hosts .ensures) in
+    rw (placed .on-first-side .ensures) (
+      rw (laid .are) (start .pre .0),
+      (laid .arrays, omega arith),
+      marks-room-left _ _ (start .args .out .now) (start .pre .0) (start .pre .1) _ (root read) _ then at (c .before .before .before .out .given),
     )
 
 same-length-2 : tie.Need-same-length-2
-same-length-2 c = c .before .out2 .given ∙ c .before .before .before .before .before .out .given ∙ simp length-set
+same-length-2 c = c .before .out2 .given ∙ c .before .before .before .before .before .before .out .given ∙ simp length-set
 
 returns-2 : tie.Need-returns-2
 returns-2 c =
     let marks = c .before .before in
-    let hosts = marks .before .before .before .before in
-    let read = hosts .before .before .before in
-    let live = read .before .before in
-    let start = live .before .before in
-    record-live _ _ _ _ (start .pre .0) (start .pre .1) _ (root read) (live .if1 .left)
-    (rows-many (start .args .rows .now) (start .pre .2)) _ _ _ _
-    (hosts .put-hosts .ensures .0) (hosts .put-hosts .ensures .1) (marks .put-marks .ensures .0) (marks .put-marks .ensures .1)
+    let hosts = marks .before .before .before .before .before in
+    let read = hosts .before .before .before .before in
+    let placed = read .before .before in
+    let live = placed .before .before in
+    let start = live .before .before .before in
+    let laid = placed .before .laid .ensures in
+    let (at, first) = rw (placed .on-first-side .ensures, laid .are) at (hosts .put-hosts .ensures) in
+    let (end, last) = rw (placed .on-first-side .ensures, laid .are) at (marks .put-marks .ensures) in
+    record-live _ _ _ (start .pre .0) (start .pre .1) _ (root read) (live .if1 .left)
+    (rows-many (start .args .tree .rows) (rw (laid .are) at (laid .arrays .long 0 (omega arith)))) _ _ _ _ at first end last
 
 pub put-record-spec : {M : Type 1} → statement M
 put-record-spec =
@@ -76,7 +94,10 @@ put-record-spec =
     slice-write-out
     same-length
     returns
-    element-copy-out-unpack
+    laid-requires
+    on-first-side-requires
+    index-1-unpack
+    index-2-unpack
     unpack-requires
     cast-out
     slice-write-out-2

@@ -5,11 +5,10 @@ use mathlib.Core.Path.{refl, sym, _∙_}
 use mathlib.Core.List.{List}
 use Prim.Native.Nat.{ℕ, _+_, _-_, _^_}
 use Rattle.table.specs.Rule.{Rule}
-use Rattle.tree.specs.Sides.{Stands}
-use Rattle.treejudge.specs.Names.{followedOn, begunAt, Followable}
+use Rattle.tree.specs.Sides.{treeOn, Stands}
+use Rattle.treejudge.specs.Names.{Followable}
 use Rattle.treejudge.specs.Cycles.{AtRound, FirstRound, CycleFound}
-use Rattle.treejudge.proofs.LettersRead.{tree-laid}
-use Rattle.treejudge.proofs.NamesFollowed.{begun-there}
+use Rattle.treejudge.proofs.LettersRead.{laid-first}
 use Rattle.treejudge.proofs.RoundsRead.{both-small}
 use Rattle.treejudge.proofs.CycleSearch.{Searching, search-start, search-follows, lam-fits, search-measure, search-small}
 use Rattle.treejudge.proofs.CycleSearch.{search-next, search-found, search-more, power-fits, search-reset}
@@ -18,8 +17,8 @@ use Rattle.treejudge.proofs.cycle.find_cycle.Tie as tie
 
 abbrev Inv-loop : tie.InvT-loop
 Inv-loop tables k v held₀ before₀ half₀ power₀ lam₀ sides₀ now₀ held before half power lam sides now =
-    Stands sides (now .side) × ((R : Rule) (u : List ℕ) → AtRound R u v tables k 0 held₀
-    → Searching R u v tables k held before half power lam (followedOn sides now))
+    Stands sides (now .tree) × ((R : Rule) (u : List ℕ) → AtRound R u v tables k 0 held₀
+    → Searching R u v tables k held before half power lam (treeOn sides (now .tree)) (now .maps))
 
 abbrev μ-loop : tie.MeasureT-loop
 μ-loop tables k v held₀ before₀ half₀ power₀ lam₀ sides₀ now₀ held before half power lam sides now = 2 ^ 65 - (power + lam)
@@ -27,27 +26,24 @@ abbrev μ-loop : tie.MeasureT-loop
 -- the search over the rule and the lead-in that are known
 search-known : (c : tie.At-loop Inv-loop μ-loop) → let args = c .before .before .before .before .before .args in (R : Rule) × (u : List ℕ)
     × Searching R u (args .v .now) (args .tables .now) (args .k) (c .loop .held) (c .loop .before) (c .loop .half) (c .loop .power)
-    (c .loop .lam) (followedOn (c .loop .sides) (c .loop .now))
+    (c .loop .lam) (treeOn (c .loop .sides) (c .loop .now .tree)) (c .loop .now .maps)
 unfolding FirstRound
 search-known c = let (R, u, A) = c .before .before .before .before .before .pre in (R, u, c .loop .inv .1 R u A)
 
 laid-requires : tie.Need-laid-requires Inv-loop μ-loop
 laid-requires c κs = search needs
 
-nodes-requires : tie.Need-nodes-requires Inv-loop μ-loop
-nodes-requires c κs = search needs
+on-first-side-requires : tie.Need-on-first-side-requires Inv-loop μ-loop
+on-first-side-requires c κs = search needs
 
 begin-requires : tie.Need-begin-requires Inv-loop μ-loop
 unfolding FirstRound
-begin-requires c κs = let (R, u, A) = c .before .before .before .pre in rw (c .nodes .ensures) (both-small A A .0)
+begin-requires c κs = let (R, u, A) = c .before .before .before .pre in rw (c .on-first-side .ensures) (both-small A A .0)
 
 loop-holds : tie.Need-loop-holds Inv-loop μ-loop
 loop-holds c =
-    let counted = c .before in
-    let laid = counted .before .laid .ensures in (
-      (laid .arrays, rw (c .begin .ensures) (omega arith)),
-      λ R u A. rw (begun-there _ _ _ (tree-laid _ _ laid _ (counted .nodes .ensures) _ refl) _ (c .begin .ensures)) (search-start A),
-    )
+    let (stands, there) = laid-first (c .before .before .laid .ensures) refl in
+    rw (c .begin .ensures, c .before .on-first-side .ensures) (stands, λ R u A. rw there (search-start A))
 
 follow-letters-requires : tie.Need-follow-letters-requires Inv-loop μ-loop
 unfolding Followable
@@ -61,14 +57,14 @@ same-tree-requires c κs =
     let followed = c .before in
     let (R, u, S) = search-known (followed .before .before) in
     let (on, to) = followed .follow-letters .ensures in
-    (search-small S _ to, on)
+    (search-small S _ _ to, on)
 
 returns : tie.Need-returns Inv-loop μ-loop
 unfolding CycleFound
 returns c R u entry period A F =
     let same = c .before in
     let followed = same .before .before in
-    search-found (followed .before .before .loop .inv .1 R u A) _ (followed .follow-letters .ensures .1)
+    search-found (followed .before .before .loop .inv .1 R u A) _ _ (followed .follow-letters .ensures .1)
     (sym (same .same-tree .ensures) ∙ c .if1 .taken) entry period F
 
 taken-requires : tie.Need-taken-requires Inv-loop μ-loop
@@ -76,7 +72,7 @@ taken-requires c κs =
     let followed = c .before .before .before .before .before in
     let (R, u, S) = search-known (followed .before .before) in
     let (on, to) = followed .follow-letters .ensures in
-    record { stands = on; rule = R; tree = _; holds = search-next S _ to .tree }
+    record { stands = on; rule = R; tree = _; holds = search-next S _ _ to .tree }
 
 add-power : tie.Need-add-power Inv-loop μ-loop
 add-power c =
@@ -86,14 +82,14 @@ add-power c =
     let (R, u, S) = search-known (followed .before .before) in
     omega (
       arith,
-      power-fits S _ (followed .follow-letters .ensures .1) (sym (same .same-tree .ensures) ∙ full .before .if1 .left) (full .if2 .taken),
+      power-fits S _ _ (followed .follow-letters .ensures .1) (sym (same .same-tree .ensures) ∙ full .before .if1 .left) (full .if2 .taken),
     )
 
 begin-requires-2 : tie.Need-begin-requires-2 Inv-loop μ-loop
 begin-requires-2 c κs =
     let followed = c .before .before .before .before .before .before in
     let (R, u, S) = search-known (followed .before .before) in
-    search-small S _ (followed .follow-letters .ensures .1) .1
+    search-small S _ _ (followed .follow-letters .ensures .1) .1
 
 loop-less : tie.Need-loop-less Inv-loop μ-loop
 loop-less c =
@@ -101,7 +97,6 @@ loop-less c =
     omega (arith, search-measure S)
 
 loop-again : tie.Need-loop-again Inv-loop μ-loop
-unfolding begunAt
 loop-again c =
     let full = c .before .before .before in
     let same = full .before .before in
@@ -109,7 +104,7 @@ loop-again c =
     let (on, to) = followed .follow-letters .ensures in (
       rw (c .begin2 .ensures) on,
       λ R u A. rw (c .begin2 .ensures, c .before .taken .ensures)
-          (search-reset (followed .before .before .loop .inv .1 R u A) _ to
+          (search-reset (followed .before .before .loop .inv .1 R u A) _ _ to
           (sym (same .same-tree .ensures) ∙ full .before .if1 .left) (full .if2 .taken)),
     )
 
@@ -124,7 +119,7 @@ loop-again-2 c =
     let followed = same .before .before in
     let (on, to) = followed .follow-letters .ensures in (
       on,
-      λ R u A. search-more (followed .before .before .loop .inv .1 R u A) _ to
+      λ R u A. search-more (followed .before .before .loop .inv .1 R u A) _ _ to
           (sym (same .same-tree .ensures) ∙ c .before .if1 .left) (c .if2 .left),
     )
 
@@ -135,7 +130,7 @@ find-cycle-spec =
     Inv-loop
     μ-loop
     laid-requires
-    nodes-requires
+    on-first-side-requires
     begin-requires
     loop-holds
     follow-letters-requires

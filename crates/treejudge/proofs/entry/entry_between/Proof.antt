@@ -6,10 +6,10 @@ use mathlib.Core.Path.{sym, _∙_}
 use mathlib.Core.List.{List}
 use Prim.Native.Nat.{ℕ, _-_}
 use Rattle.table.specs.Rule.{Rule}
-use Rattle.tree.specs.Sides.{Stands}
-use Rattle.treejudge.specs.Reading.{treeAt, Readable}
+use Rattle.tree.specs.Sides.{treeOn, Stands}
+use Rattle.treejudge.specs.Reading.{Readable}
 use Rattle.treejudge.specs.Cycles.{Bracket, Bracketed, EntryBetween}
-use Rattle.treejudge.proofs.LettersRead.{tree-laid}
+use Rattle.treejudge.proofs.LettersRead.{laid-first}
 use Rattle.treejudge.proofs.RoundsRead.{round-reads, both-small}
 use Rattle.treejudge.proofs.EntrySearch.{entry-here, entry-later, bracket-more}
 use Rattle.treejudge.proofs.entry.entry_between.Statement.{statement}
@@ -17,36 +17,34 @@ use Rattle.treejudge.proofs.entry.entry_between.Tie as tie
 
 abbrev Inv-loop : tie.InvT-loop
 Inv-loop tables k v low high here₀ there₀ now₀ ahead₀ place₀ here there now ahead place =
-    (Stands here (now .side) × Stands there (ahead .side)) × ((R : Rule) (u : List ℕ) (entry period : ℕ)
-    → Bracket R u v tables k entry period low high (treeAt here₀ now₀) (treeAt there₀ ahead₀)
-    → Bracket R u v tables k entry period place high (treeAt here now) (treeAt there ahead))
+    (Stands here now × Stands there ahead) × ((R : Rule) (u : List ℕ) (entry period : ℕ)
+    → Bracket R u v tables k entry period low high (treeOn here₀ now₀) (treeOn there₀ ahead₀)
+    → Bracket R u v tables k entry period place high (treeOn here now) (treeOn there ahead))
 
 abbrev μ-loop : tie.MeasureT-loop
 μ-loop tables k v low high here₀ there₀ now₀ ahead₀ place₀ here there now ahead place = high - place
 
 -- the two trees at hand
-at-hand : (c : tie.At-loop Inv-loop μ-loop) → let args = c .before .before .before .before .before .before .before .before .args in
+at-hand : (c : tie.At-loop Inv-loop μ-loop) → let args = c .before .before .before .before .before .before .args in
     (R : Rule) (u : List ℕ) (entry period : ℕ)
     → Bracket R u (args .v .now) (args .tables .now) (args .k) entry period (args .low) (args .high) (args .first) (args .later)
     → Bracket R u (args .v .now) (args .tables .now) (args .k) entry period (c .loop .place) (args .high)
-    (treeAt (c .loop .here) (c .loop .now)) (treeAt (c .loop .there) (c .loop .ahead))
+    (treeOn (c .loop .here) (c .loop .now)) (treeOn (c .loop .there) (c .loop .ahead))
 at-hand c R u entry period B =
-    let later = c .before .before in
-    let first = later .before in
-    let laid = first .before .before in
+    let first = c .before .before in
     c .loop .inv .1 R u entry period (rw (
-      tree-laid _ _ (laid .before .laid .ensures) _ (first .before .nodes .ensures) _ (first .on-first-side .ensures),
-      tree-laid _ _ (laid .laid2 .ensures) _ (later .nodes2 .ensures) _ (c .before .on-first-side2 .ensures),
+      laid-first (first .before .before .laid .ensures) (first .on-first-side .ensures) .1,
+      laid-first (first .before .laid2 .ensures) (c .before .on-first-side2 .ensures) .1,
     ) B)
 
 -- over the walk that is known
-known : (c : tie.At-loop Inv-loop μ-loop) → let args = c .before .before .before .before .before .before .before .before .args in
+known : (c : tie.At-loop Inv-loop μ-loop) → let args = c .before .before .before .before .before .before .args in
     (R : Rule) × (u : List ℕ) × (entry : ℕ) × (period : ℕ)
     × Bracket R u (args .v .now) (args .tables .now) (args .k) entry period (c .loop .place) (args .high)
-    (treeAt (c .loop .here) (c .loop .now)) (treeAt (c .loop .there) (c .loop .ahead))
+    (treeOn (c .loop .here) (c .loop .now)) (treeOn (c .loop .there) (c .loop .ahead))
 unfolding Bracketed
 known c =
-    let (R, u, entry, period, B) = c .before .before .before .before .before .before .before .before .pre in
+    let (R, u, entry, period, B) = c .before .before .before .before .before .before .pre in
     (R, u, entry, period, at-hand c R u entry period B)
 
 laid-requires : tie.Need-laid-requires Inv-loop μ-loop
@@ -54,12 +52,6 @@ laid-requires c κs = search needs
 
 laid-requires-2 : tie.Need-laid-requires-2 Inv-loop μ-loop
 laid-requires-2 c κs = search needs
-
-nodes-requires : tie.Need-nodes-requires Inv-loop μ-loop
-nodes-requires c κs = search needs
-
-nodes-requires-2 : tie.Need-nodes-requires-2 Inv-loop μ-loop
-nodes-requires-2 c κs = search needs
 
 on-first-side-requires : tie.Need-on-first-side-requires Inv-loop μ-loop
 on-first-side-requires c κs = search needs
@@ -69,11 +61,10 @@ on-first-side-requires-2 c κs = search needs
 
 loop-holds : tie.Need-loop-holds Inv-loop μ-loop
 loop-holds c =
-    let first = c .before .before in
-    let laid = first .before .before in (
+    let first = c .before in (
       (
-        (laid .before .laid .ensures .arrays, rw (first .on-first-side .ensures) (omega arith)),
-        (laid .laid2 .ensures .arrays, rw (c .on-first-side2 .ensures) (omega arith)),
+        laid-first (first .before .before .laid .ensures) (first .on-first-side .ensures) .0,
+        laid-first (first .before .laid2 .ensures) (c .on-first-side2 .ensures) .0,
       ),
       λ R u entry period B. B,
     )
@@ -147,9 +138,7 @@ entry-between-spec =
     μ-loop
     laid-requires
     laid-requires-2
-    nodes-requires
     on-first-side-requires
-    nodes-requires-2
     on-first-side-requires-2
     loop-holds
     same-on-requires

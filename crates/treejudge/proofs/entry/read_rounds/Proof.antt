@@ -5,42 +5,38 @@ use mathlib.Core.Path.{_≡_}
 use mathlib.Core.List.{List}
 use Prim.Native.Nat.{ℕ, _+_, _-_, _≤_}
 use Rattle.table.specs.Rule.{Rule}
-use Rattle.tree.specs.Sides.{Stands}
-use Rattle.treejudge.specs.Reading.{treeAt, Readable}
+use Rattle.tree.specs.Sides.{treeOn, Stands}
+use Rattle.treejudge.specs.Reading.{Readable}
 use Rattle.treejudge.specs.Cycles.{AtRound, SomeRound, Ahead}
-use Rattle.treejudge.proofs.LettersRead.{tree-laid}
+use Rattle.treejudge.proofs.LettersRead.{laid-first}
 use Rattle.treejudge.proofs.RoundsRead.{round-reads, round-read}
 use Rattle.treejudge.proofs.entry.read_rounds.Statement.{statement}
 use Rattle.treejudge.proofs.entry.read_rounds.Tie as tie
 
 abbrev Inv-loop : tie.InvT-loop
 Inv-loop tables k v count sides₀ now₀ round₀ sides now round =
-    ((round ≤ count) × Stands sides (now .side)) × ((R : Rule) (u : List ℕ) (r : ℕ) → AtRound R u v tables k r (treeAt sides₀ now₀)
-    → AtRound R u v tables k (r + round) (treeAt sides now))
+    ((round ≤ count) × Stands sides now) × ((R : Rule) (u : List ℕ) (r : ℕ) → AtRound R u v tables k r (treeOn sides₀ now₀)
+    → AtRound R u v tables k (r + round) (treeOn sides now))
 
 abbrev μ-loop : tie.MeasureT-loop
 μ-loop tables k v count sides₀ now₀ round₀ sides now round = count - round
 
 -- the tree at hand
-at-hand : (c : tie.At-loop Inv-loop μ-loop) → let args = c .before .before .before .before .before .args in (R : Rule) (u : List ℕ) (r : ℕ)
+at-hand : (c : tie.At-loop Inv-loop μ-loop) → let args = c .before .before .before .before .args in (R : Rule) (u : List ℕ) (r : ℕ)
     → AtRound R u (args .v .now) (args .tables .now) (args .k) r (args .tree)
-    → AtRound R u (args .v .now) (args .tables .now) (args .k) (r + c .loop .round) (treeAt (c .loop .sides) (c .loop .now))
+    → AtRound R u (args .v .now) (args .tables .now) (args .k) (r + c .loop .round) (treeOn (c .loop .sides) (c .loop .now))
 at-hand c R u r A =
-    let counted = c .before .before in
-    c .loop .inv .1 R u r (rw (tree-laid _ _ (counted .before .laid .ensures) _ (counted .nodes .ensures) _ (c .before .on-first-side .ensures)) A)
+    c .loop .inv .1 R u r (rw (laid-first (c .before .before .laid .ensures) (c .before .on-first-side .ensures) .1) A)
 
 laid-requires : tie.Need-laid-requires Inv-loop μ-loop
 laid-requires c κs = search needs
-
-nodes-requires : tie.Need-nodes-requires Inv-loop μ-loop
-nodes-requires c κs = search needs
 
 on-first-side-requires : tie.Need-on-first-side-requires Inv-loop μ-loop
 on-first-side-requires c κs = search needs
 
 loop-holds : tie.Need-loop-holds Inv-loop μ-loop
 loop-holds c = (
-  (omega arith, (c .before .before .laid .ensures .arrays, rw (c .on-first-side .ensures) (omega arith))),
+  (omega arith, laid-first (c .before .laid .ensures) (c .on-first-side .ensures) .0),
   λ R u r A. let e : r + 0 ≡ r = omega arith in rw e A,
 )
 
@@ -48,7 +44,7 @@ read-letters-requires : tie.Need-read-letters-requires Inv-loop μ-loop
 unfolding SomeRound Readable
 read-letters-requires c κs =
     let at = c .before .before in
-    let (R, u, r, A) = at .before .before .before .before .before .pre in
+    let (R, u, r, A) = at .before .before .before .before .pre in
     (at .loop .inv .0 .1, (R, _, round-reads (at-hand at R u r A)))
 
 add-round : tie.Need-add-round Inv-loop μ-loop
@@ -71,14 +67,14 @@ taken-requires : tie.Need-taken-requires Inv-loop μ-loop
 unfolding SomeRound
 taken-requires c κs =
     let at = c .before .before in
-    let (R, u, r, A) = at .before .before .before .before .before .pre in
+    let (R, u, r, A) = at .before .before .before .before .pre in
     record { stands = at .loop .inv .0 .1; rule = R; tree = _; holds = at-hand at R u r A .tree }
 
 returns : tie.Need-returns Inv-loop μ-loop
 unfolding Ahead
 returns c R u r A =
     let at = c .before .before .before in
-    let e : r + at .loop .round ≡ r + at .before .before .before .before .before .args .count = omega arith in
+    let e : r + at .loop .round ≡ r + at .before .before .before .before .args .count = omega arith in
     rw (← e, c .taken .ensures) (at-hand at R u r A .tree)
 
 pub read-rounds-spec : {M : Type 1} → statement M
@@ -88,7 +84,6 @@ read-rounds-spec =
     Inv-loop
     μ-loop
     laid-requires
-    nodes-requires
     on-first-side-requires
     loop-holds
     read-letters-requires

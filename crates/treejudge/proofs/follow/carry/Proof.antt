@@ -1,23 +1,30 @@
 -- `carry` meets its contract. The loop has the maps of the rows that it has passed, both in one word.
 use borrow.Author.Needs.{needs}
 use mathlib.Core.Path.{_≡_, refl}
+use mathlib.Core.List.{[]}
 use Prim.Native.Nat.{_-_, _≤_}
 use native.Mathlib.Omega.{arith}
-use lib.ListN.{length}
+use lib.ListN.{length, getD}
 use Rattle.table.specs.BitSet.{collect}
 use Rattle.tree.specs.PackedRows.{rowsIn}
 use Rattle.tree.specs.RecordRows.{places}
 use Rattle.tree.proofs.PackedWords.{row-read, rows-many}
-use Rattle.treejudge.proofs.MapsCarried.{carriedTo, both, both-more, both-all}
+use Rattle.treejudge.proofs.MapsCarried.{carriedTo, bothTo, both-more, both-all}
 use Rattle.treejudge.proofs.follow.carry.Statement.{statement}
 use Rattle.treejudge.proofs.follow.carry.Tie as tie
 
 abbrev Inv-loop : tie.InvT-loop
-Inv-loop rows count kept accepted nodes new-nodes₀ j₀ new-nodes j =
-    (j ≤ count) × (new-nodes ≡ both (carriedTo (rowsIn rows) kept j) (carriedTo (rowsIn rows) accepted j))
+Inv-loop sides side count kept witnesses nodes new-nodes₀ j₀ new-nodes j =
+    (j ≤ count) × (new-nodes ≡ bothTo (rowsIn (getD sides side [])) (record { kept = kept; witnesses = witnesses }) j)
 
 abbrev μ-loop : tie.MeasureT-loop
-μ-loop rows count kept accepted nodes new-nodes₀ j₀ new-nodes j = count - j
+μ-loop sides side count kept witnesses nodes new-nodes₀ j₀ new-nodes j = count - j
+
+cast-nodes : tie.Need-cast-nodes Inv-loop μ-loop
+cast-nodes c = search needs
+
+cast-nodes-2 : tie.Need-cast-nodes-2 Inv-loop μ-loop
+cast-nodes-2 c = search needs
 
 mul-nodes : tie.Need-mul-nodes Inv-loop μ-loop
 mul-nodes c = search needs
@@ -32,8 +39,14 @@ loop-holds c = (search needs, refl)
 mul-unpack : tie.Need-mul-unpack Inv-loop μ-loop
 mul-unpack c = search needs
 
-element-copy-out-unpack : tie.Need-element-copy-out-unpack Inv-loop μ-loop
-element-copy-out-unpack c = search needs
+mul-unpack-2 : tie.Need-mul-unpack-2 Inv-loop μ-loop
+mul-unpack-2 c = search needs
+
+index-1-unpack : tie.Need-index-1-unpack Inv-loop μ-loop
+index-1-unpack c = search needs
+
+index-2-unpack : tie.Need-index-2-unpack Inv-loop μ-loop
+index-2-unpack c = search needs
 
 unpack-requires : tie.Need-unpack-requires Inv-loop μ-loop
 unpack-requires c κs = search needs
@@ -59,25 +72,25 @@ loop-less c = search needs
 loop-again : tie.Need-loop-again Inv-loop μ-loop
 loop-again c =
     let at = c .before .before .before .before in
-    let start = at .before in
-    let row = row-read (start .args .rows .now) (at .loop .j) (c .before .unpack .ensures) in (
+    let args = at .before .args in
+    let row = row-read (getD (args .sides .now) (args .on .side) []) (at .loop .j) (c .before .unpack .ensures) in (
       omega arith,
-      rw (at .loop .inv .1)
-          (both-more _ _ _ _ (start .fits .kept .fits) (start .fits .accepted .fits) (omega arith) _ row _ (c .shift-of .ensures)),
+      rw (at .loop .inv .1) (both-more _ (args .maps) _ (search needs) (search needs) (omega arith) _ row _ (c .shift-of .ensures)),
     )
 
-cast-t22 : tie.Need-cast-t22 Inv-loop μ-loop
-cast-t22 c = search needs
+cast-t28 : tie.Need-cast-t28 Inv-loop μ-loop
+cast-t28 c = search needs
 
-cast-t23 : tie.Need-cast-t23 Inv-loop μ-loop
-cast-t23 c = search needs
+cast-t29 : tie.Need-cast-t29 Inv-loop μ-loop
+cast-t29 c = search needs
 
 returns : tie.Need-returns Inv-loop μ-loop
 returns c =
     let start = c .before .before in
-    let size : length (rowsIn (start .args .rows .now)) ≡ places = rows-many (start .args .rows .now) (start .pre .1) in
-    let end : c .before .loop .j ≡ start .args .count = omega arith in
-    rw (c .before .loop .inv .1, end) (both-all _ _ _ _ (omega arith) (omega arith))
+    let words = getD (start .args .sides .now) (start .args .on .side) [] in
+    let size : length (rowsIn words) ≡ places = rows-many words (start .pre .1 .0 .long _ (start .pre .1 .1)) in
+    let end : c .before .loop .j ≡ start .args .on .count = omega arith in
+    rw (c .before .loop .inv .1, end) (both-all _ _ (omega arith) (omega arith))
 
 pub carry-spec : {M : Type 1} → statement M
 carry-spec =
@@ -85,11 +98,15 @@ carry-spec =
     (tie.spec
     Inv-loop
     μ-loop
+    cast-nodes
     mul-nodes
+    cast-nodes-2
     add-nodes
     loop-holds
     mul-unpack
-    element-copy-out-unpack
+    mul-unpack-2
+    index-1-unpack
+    index-2-unpack
     unpack-requires
     shift-of-requires
     cast-new-nodes
@@ -98,6 +115,6 @@ carry-spec =
     add-j
     loop-less
     loop-again
-    cast-t22
-    cast-t23
+    cast-t28
+    cast-t29
     returns)

@@ -1,10 +1,9 @@
 -- `follow_letters` meets its contract. The loop has the nodes followed through the letters that it has passed.
 use borrow.Author.Needs.{needs}
-use mathlib.Core.List.{[]}
 use Prim.Native.Nat.{_-_}
 use native.Mathlib.Omega.{arith}
-use lib.ListN.{length, getD}
-use Rattle.treejudge.specs.Names.{followedBy}
+use lib.ListN.{length}
+use Rattle.tree.specs.Sides.{treeOn}
 use Rattle.treejudge.proofs.LettersRead.{letter-small}
 use Rattle.treejudge.proofs.NamesFollowed.{FollowedUpTo, followed-reads, followed-none, followed-ready}
 use Rattle.treejudge.proofs.NamesFollowed.{followed-few, followed-more, followed-all}
@@ -12,22 +11,22 @@ use Rattle.treejudge.proofs.follow.follow_letters.Statement.{statement}
 use Rattle.treejudge.proofs.follow.follow_letters.Tie as tie
 
 abbrev Inv-loop : tie.InvT-loop
-Inv-loop tables k w sides₀ side₀ count₀ kept₀ accepted₀ at₀ sides side count kept accepted at =
-    FollowedUpTo tables k w (record { rows = getD sides₀ side₀ []; count = count₀; kept = kept₀; accepted = accepted₀ }) at
-    sides side count kept accepted
+Inv-loop tables k w sides₀ side₀ count₀ kept₀ witnesses₀ at₀ sides side count kept witnesses at =
+    FollowedUpTo tables k w (treeOn sides₀ (record { side = side₀; count = count₀ })) (record { kept = kept₀; witnesses = witnesses₀ }) at
+    sides (record { side = side; count = count }) (record { kept = kept; witnesses = witnesses })
 
 abbrev μ-loop : tie.MeasureT-loop
-μ-loop tables k w sides₀ side₀ count₀ kept₀ accepted₀ at₀ sides side count kept accepted at = length w - at
+μ-loop tables k w sides₀ side₀ count₀ kept₀ witnesses₀ at₀ sides side count kept witnesses at = length w - at
 
 loop-holds : tie.Need-loop-holds Inv-loop μ-loop
-loop-holds c = followed-none _ _ _ _ _ (c .before .pre .0)
+loop-holds c = followed-none _ _ _ _ _ _ (c .before .pre .0)
 
 shared-slice-read-step-rows : tie.Need-shared-slice-read-step-rows Inv-loop μ-loop
 shared-slice-read-step-rows c = search needs
 
 index-1-step-rows : tie.Need-index-1-step-rows Inv-loop μ-loop
 index-1-step-rows c = let inside = c .before in
-    letter-small _ _ _ _ (followed-reads _ _ _ _ (inside .before .before .before .pre .1)) _ (inside .loop-test .taken)
+    letter-small _ _ _ _ (followed-reads _ _ _ _ _ (inside .before .before .before .pre .1)) _ (inside .loop-test .taken)
 
 cast-step-rows : tie.Need-cast-step-rows Inv-loop μ-loop
 cast-step-rows c = omega (arith, index-1-step-rows c)
@@ -36,22 +35,16 @@ mul-step-rows : tie.Need-mul-step-rows Inv-loop μ-loop
 mul-step-rows c = omega (arith, index-1-step-rows c)
 
 step-rows-requires : tie.Need-step-rows-requires Inv-loop μ-loop
-step-rows-requires c κs = let at = c .before .before .before .before in followed-ready _ _ _ _ _ _ _ _ _ _ (at .loop .inv) (at .before .before .pre .1)
+step-rows-requires c κs = let at = c .before .before .before .before in followed-ready _ _ _ _ _ _ _ _ _ (at .loop .inv) (at .before .before .pre .1)
 
 sub-side : tie.Need-sub-side Inv-loop μ-loop
-sub-side c = omega (arith, c .before .before .before .before .before .loop .inv .on)
-
-mul-carry : tie.Need-mul-carry Inv-loop μ-loop
-mul-carry c = search needs
-
-index-1-carry : tie.Need-index-1-carry Inv-loop μ-loop
-index-1-carry c = search needs
+sub-side c = omega (arith, c .before .before .before .before .before .loop .inv .stands .1)
 
 carry-requires : tie.Need-carry-requires Inv-loop μ-loop
 carry-requires c κs =
     let s = c .before .before .before .before in
     let inside = s .before .before .before .before in
-    followed-few _ _ _ _ _ _ _ _ _ _ (inside .before .loop .inv) (inside .loop-test .taken) _ _ (s .step-rows .ensures)
+    followed-few _ _ _ _ _ _ _ _ _ (inside .before .loop .inv) (inside .loop-test .taken) _ _ (s .step-rows .ensures)
     (inside .before .before .before .pre .1)
 
 add-at : tie.Need-add-at Inv-loop μ-loop
@@ -61,15 +54,13 @@ loop-less : tie.Need-loop-less Inv-loop μ-loop
 loop-less c = search needs
 
 loop-again : tie.Need-loop-again Inv-loop μ-loop
-unfolding followedBy
 loop-again c =
     let s = c .before .before .before .before .before in
     let inside = s .before .before .before .before in
-    followed-more _ _ _ _ _ _ _ _ _ _ (inside .before .loop .inv) (inside .loop-test .taken) _ _ (s .step-rows .ensures) _ _
-    (rw (c .carry .ensures .0, c .carry .ensures .1))
+    followed-more _ _ _ _ _ _ _ _ _ (inside .before .loop .inv) (inside .loop-test .taken) _ _ (s .step-rows .ensures) _ (c .carry .ensures)
 
 returns : tie.Need-returns Inv-loop μ-loop
-returns c = followed-all _ _ _ _ _ _ _ _ _ _ (c .before .loop .inv) (c .loop-test .left)
+returns c = followed-all _ _ _ _ _ _ _ _ _ (c .before .loop .inv) (c .loop-test .left)
 
 pub follow-letters-spec : {M : Type 1} → statement M
 follow-letters-spec =
@@ -84,8 +75,6 @@ follow-letters-spec =
     index-1-step-rows
     step-rows-requires
     sub-side
-    mul-carry
-    index-1-carry
     carry-requires
     add-at
     loop-less

@@ -6,11 +6,12 @@ use Rattle.table.specs.Rule.{Rule}
 use Rattle.table.specs.HeldRule.{HoldsRule}
 use Rattle.word.specs.Judging.{Judgeable}
 use Rattle.history.specs.Tree.{startTree}
+use Rattle.tree.specs.Sides.{treeOn}
 use Rattle.treejudge.specs.JudgeCall.{nameRoom}
-use Rattle.treejudge.specs.Reading.{treeAt, Reads, Readable, ReadsTo}
+use Rattle.treejudge.specs.Reading.{Reads, Readable, ReadsTo}
 use Rattle.treejudge.specs.Cycles.{AtRound, FirstRound}
 use Rattle.treejudge.specs.Repeats.{RepeatFound}
-use Rattle.treejudge.proofs.LettersRead.{tree-laid, reads-taken}
+use Rattle.treejudge.proofs.LettersRead.{laid-first, reads-taken}
 use Rattle.treejudge.proofs.Judging.{sets-small, lead-reads, first-round, says-no, some-node, says-yes}
 use Rattle.treejudge.proofs.judge.judge_walk.Statement.{statement}
 use Rattle.treejudge.proofs.judge.judge_walk.Tie as tie
@@ -23,24 +24,23 @@ known c = c .before .before .before .before .before .before .pre
 
 -- where the tables are made
 abbrev made-tables : tie.After-on-first-side → tie.After-walk-tables
-made-tables c = c .before .before .before .before .before .before .before
+made-tables c = c .before .before .before .before .before .before
 
 -- u is read from the starting tree, over a rule that the table holds
 lead-read : (c : tie.After-on-first-side) →
     let tables = made-tables c in
     let args = tables .before .before .before .before .before .before .args in
-    let lead = c .before .before .before in
+    let lead = c .before .before in
     (R : Rule) → HoldsRule R (args .header) (args .words .now)
     → Reads R (startTree R) (tables .walk-tables .last .1 .1 .1 .0) (args .header .sets) (lead .letters-left .result .now)
-    (treeAt (lead .before .before .laid .result) (c .on-first-side .result))
+    (treeOn (lead .before .before .laid .result) (c .on-first-side .result))
 lead-read c R holds =
-    let counted = c .before in
-    let lead = counted .before .before in
+    let lead = c .before .before in
     let laid = lead .before .before in
     let made = laid .before in
     let tables = made .before in
     lead-reads R _ _ holds _ (made .start .ensures) _ _ _ (lead .letters-left .ensures) (known tables .lead) (known tables .tail)
-    _ _ (tables .walk-tables .ensures) _ (tree-laid _ _ (laid .laid .ensures) _ (counted .nodes .ensures) _ (c .on-first-side .ensures))
+    _ _ (tables .walk-tables .ensures) _ (laid-first (laid .laid .ensures) (c .on-first-side .ensures) .1)
 
 -- t(0) of the walk
 first-place : (c : tie.After-taken) →
@@ -51,15 +51,13 @@ first-place : (c : tie.After-taken) →
 first-place c R holds =
     let read = c .before .before in
     let placed = read .before in
-    let counted = placed .before in
-    let lead = counted .before .before in
+    let lead = placed .before .before in
     let laid = lead .before .before in
     let made = laid .before in
     let tables = made .before in
     first-round R _ _ holds _ (made .start .ensures) _ _ _ (lead .letters-left .ensures) (known tables .lead) (known tables .tail)
     _ _ (tables .walk-tables .ensures) _
-    (reads-taken _ _ _ _ _ _ _ (tree-laid _ _ (laid .laid .ensures) _ (counted .nodes .ensures) _ (placed .on-first-side .ensures))
-    (c .taken .ensures) (read .read-letters .ensures .1))
+    (reads-taken _ _ _ (laid-first (laid .laid .ensures) (placed .on-first-side .ensures) .1) (c .taken .ensures) (read .read-letters .ensures .1))
 
 cast-k : tie.Need-cast-k
 cast-k c = let pre = c .before .before .before .before .pre in omega (arith, sets-small (pre .rule) _ _ (pre .holds))
@@ -76,9 +74,6 @@ laid-requires c κs = search needs
 letters-left-requires : tie.Need-letters-left-requires
 letters-left-requires c κs = search needs
 
-nodes-requires : tie.Need-nodes-requires
-nodes-requires c κs = search needs
-
 on-first-side-requires : tie.Need-on-first-side-requires
 on-first-side-requires c κs = search needs
 
@@ -86,7 +81,7 @@ read-letters-requires : tie.Need-read-letters-requires
 unfolding Readable
 read-letters-requires c κs =
     let pre = known (made-tables c) in (
-      (c .before .before .before .before .before .laid .ensures .arrays, rw (c .on-first-side .ensures) (omega arith)),
+      laid-first (c .before .before .before .before .laid .ensures) (c .on-first-side .ensures) .0,
       (pre .rule, startTree (pre .rule), lead-read c (pre .rule) (pre .holds)),
     )
 
@@ -155,7 +150,6 @@ judge-walk-spec =
     start-requires
     laid-requires
     letters-left-requires
-    nodes-requires
     on-first-side-requires
     read-letters-requires
     taken-requires

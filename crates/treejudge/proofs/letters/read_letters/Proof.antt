@@ -2,15 +2,15 @@
 use borrow.Author.Needs.{needs}
 use Prim.Native.Nat.{_-_}
 use native.Mathlib.Omega.{arith}
-use mathlib.Core.List.{[]}
-use lib.ListN.{length, getD}
+use lib.ListN.{length}
+use Rattle.tree.specs.Sides.{treeOn}
 use Rattle.treejudge.proofs.LettersRead.{ReadUpTo, letter-small, upto-none, upto-ready, upto-more, upto-all}
 use Rattle.treejudge.proofs.letters.read_letters.Statement.{statement}
 use Rattle.treejudge.proofs.letters.read_letters.Tie as tie
 
 abbrev Inv-loop : tie.InvT-loop
 Inv-loop tables k w sides₀ side₀ count₀ at₀ sides side count at =
-    ReadUpTo tables k w (record { rows = getD sides₀ side₀ []; count = count₀ }) at sides side count
+    ReadUpTo tables k w (treeOn sides₀ (record { side = side₀; count = count₀ })) at sides (record { side = side; count = count })
 
 abbrev μ-loop : tie.MeasureT-loop
 μ-loop tables k w sides₀ side₀ count₀ at₀ sides side count at = length w - at
@@ -31,10 +31,10 @@ mul-step-rows : tie.Need-mul-step-rows Inv-loop μ-loop
 mul-step-rows c = omega (arith, index-1-step-rows c)
 
 step-rows-requires : tie.Need-step-rows-requires Inv-loop μ-loop
-step-rows-requires c κs = let at = c .before .before .before .before in upto-ready _ _ _ _ _ _ _ _ (at .loop .inv) (at .before .before .pre .1)
+step-rows-requires c κs = let at = c .before .before .before .before in upto-ready _ _ _ _ _ _ _ (at .loop .inv) (at .before .before .pre .1)
 
 sub-side : tie.Need-sub-side Inv-loop μ-loop
-sub-side c = omega (arith, c .before .before .before .before .before .loop .inv .on)
+sub-side c = omega (arith, c .before .before .before .before .before .loop .inv .stands .1)
 
 add-at : tie.Need-add-at Inv-loop μ-loop
 add-at c = search needs
@@ -45,10 +45,10 @@ loop-less c = search needs
 loop-again : tie.Need-loop-again Inv-loop μ-loop
 loop-again c =
     let inside = c .before .before .before .before in
-    upto-more _ _ _ _ _ _ _ _ (inside .before .loop .inv) (inside .loop-test .taken) _ _ (c .step-rows .ensures)
+    upto-more _ _ _ _ _ _ _ (inside .before .loop .inv) (inside .loop-test .taken) _ _ (c .step-rows .ensures)
 
 returns : tie.Need-returns Inv-loop μ-loop
-returns c = upto-all _ _ _ _ _ _ _ _ (c .before .loop .inv) (c .loop-test .left)
+returns c = upto-all _ _ _ _ _ _ _ (c .before .loop .inv) (c .loop-test .left)
 
 pub read-letters-spec : {M : Type 1} → statement M
 read-letters-spec =

@@ -31,14 +31,24 @@ early-repeat-requires c κs =
     rw (two-parts (cut .cut-of .result) (start .args .u .now) (start .args .v .now) (rest .letters-left .result .now) (rest .letters-left .ensures))
     (start .pre)
 
+enum-known-early : tie.Need-enum-known-early
+enum-known-early c = search needs
+
 returns : tie.Need-returns
 returns c =
-    let early = c .before .before in
+    let told = c .before in
+    let early = told .before .before .before in
     let rest = early .before .before in
     let cut = rest .before .before in
     let start = cut .before .before .before in
-    rw (two-parts (cut .cut-of .result) (start .args .u .now) (start .args .v .now) (rest .letters-left .result .now) (rest .letters-left .ensures))
-    at (early .early-repeat .ensures (c .if2 .taken))
+    rw (
+      told .early .given .1,
+      two-parts (cut .cut-of .result) (start .args .u .now) (start .args .v .now) (rest .letters-left .result .now) (rest .letters-left .ensures),
+    )
+    at (early .early-repeat .ensures)
+
+enum-told : tie.Need-enum-told
+enum-told c = search needs
 
 letters-left-requires-2 : tie.Need-letters-left-requires-2
 letters-left-requires-2 c κs = search needs
@@ -74,7 +84,9 @@ find-repeat-spec =
     part-early-repeat-start
     part-early-repeat-end
     early-repeat-requires
+    enum-known-early
     returns
+    enum-told
     letters-left-requires-2
     find-cycle-requires
     find-entry-requires

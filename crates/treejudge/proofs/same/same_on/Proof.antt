@@ -9,10 +9,11 @@ use Rattle.treejudge.proofs.same.same_on.Tie as tie
 
 returns : tie.Need-returns
 returns c =
-    let ((few, less), ((arrays, from), (others, side))) = c .before .pre in
-    let args = c .before .args in
-    counts-differ _ _ _ _ (rows-many (getD (args .a .now) (args .from) []) (arrays .long _ from))
-    (rows-many (getD (args .b .now) (args .side) []) (others .long _ side)) few less (c .if1 .taken)
+    let start = c .before .before .before in
+    let ((few, less), ((arrays, from), (others, side))) = start .pre in
+    let args = start .args in
+    counts-differ _ _ _ _ (rows-many (getD (args .a .now) (args .on .side) []) (arrays .long _ from))
+    (rows-many (getD (args .b .now) (args .other .side) []) (others .long _ side)) few less (c .if1 .taken)
 
 mul-same-rows : tie.Need-mul-same-rows
 mul-same-rows c = search needs
@@ -28,7 +29,7 @@ index-1-same-rows-2 c = search needs
 
 same-rows-requires : tie.Need-same-rows-requires
 same-rows-requires c κs =
-    let ((few, less), ((arrays, from), (others, side))) = c .before .before .before .pre in
+    let ((few, less), ((arrays, from), (others, side))) = c .before .before .before .before .before .pre in
     (few, (arrays .long _ from, others .long _ side))
 
 returns-2 : tie.Need-returns-2

@@ -15,11 +15,11 @@ long c = simp length-map at (c .good .0 .1 .1 .0 .1 .0 .1)
 
 returns : tie.Need-returns
 returns c =
-    let counted = c .before in
+    let counted = c .before .before in
     let start = counted .before in
     let (arrays, side) = start .pre .1 in
     counts-differ _ _ _ _ (rows-many (start .args .tree .rows) (long start))
-    (rows-many (getD (start .args .sides .now) (start .args .side) []) (arrays .long _ side)) (start .pre .0 .0) (start .pre .0 .1)
+    (rows-many (getD (start .args .sides .now) (start .args .on .side) []) (arrays .long _ side)) (start .pre .0 .0) (start .pre .0 .1)
     (λ e. c .if1 .taken (counted .nodes .ensures ∙ e))
 
 nodes-requires : tie.Need-nodes-requires
@@ -37,14 +37,14 @@ index-1-same-rows c = search needs
 same-rows-requires : tie.Need-same-rows-requires
 same-rows-requires c κs =
     let given = c .before .before in
-    let start = given .before .before .before in
+    let start = given .before .before .before .before in
     let (arrays, side) = start .pre .1 in
     (start .pre .0 .1, (rw (given .rows .ensures) (long start), arrays .long _ side))
 
 returns-2 : tie.Need-returns-2
 returns-2 c =
     let given = c .before .before .before in
-    let counted = given .before .before in
+    let counted = given .before .before .before in
     rw (← given .rows .ensures, ← counted .nodes .ensures, given .before .if1 .left) (c .same-rows .ensures)
 
 pub same-tree-spec : {M : Type 1} → statement M
