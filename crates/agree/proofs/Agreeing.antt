@@ -9,14 +9,15 @@ use Rattle.table.specs.Table.{readRule}
 use Rattle.word.specs.Walk.{SameLetters}
 use Rattle.word.proofs.JudgeQuestions.{Accepted, accepted-call}
 use Rattle.word.proofs.SameAlong.{along-spellings, verdicts-along}
-use Rattle.treejudge.specs.JudgeCall.{nameRoom, treeOutcome, Judged, TreeAnswers}
+use Rattle.treejudge.specs.JudgeCall.{nameRoom, treeOutcome, Judged, TreeAnswers, TreeCall}
 use Rattle.treejudge.specs.declared.judge.TreeAnswer.{TreeAnswer}
 use Rattle.treejudge.proofs.TreeVerdict.{tree-decides, tree-determined, tree-number}
-use Rattle.plain.specs.PlainCall.{scratchLength, plainOutcome, PlainAnswers}
+use Rattle.plain.specs.PlainCall.{scratchLength, plainOutcome, PlainAnswers, PlainCall}
 use Rattle.plain.specs.declared.judge.PlainAnswer.{PlainAnswer}
 use Rattle.plain.proofs.PlainVerdict.{plain-decides, plain-determined, plain-number}
 use Rattle.agree.specs.Agreement.{Right, Demand3}
-use Rattle.agree.specs.BothCall.{BothDetermined, BothNumbers}
+use Rattle.agree.specs.BothCall.{BothAnswer, BothDetermined, BothNumbers}
+use Rattle.agree.specs.declared.both.BothAnswers.{BothAnswers}
 
 -- RIGHT VERDICTS
 
@@ -59,8 +60,8 @@ pub rules-one : (table : List ℕ) (R S : Rule) → readRule table ≡ accepted 
 rules-one table R S reads other = let both : accepted R ≡ accepted S = sym reads ∙ other in cc
 
 -- and two verdicts that are right of it, on walks with the same letters, are the same
-pub right-one : (table : List ℕ) {u v u′ v′ : List ℕ} {a b : ℕ} → SameLetters u v u′ v′ → Right table u v a → Right table u′ v′ b → a ≡ b
-right-one table {u} {v} {u′} {v′} same (R, reads, d) (S, other, e) =
+pub right-one : (table u v u′ v′ : List ℕ) {a b : ℕ} → SameLetters u v u′ v′ → Right table u v a → Right table u′ v′ b → a ≡ b
+right-one table u v u′ v′ same (R, reads, d) (S, other, e) =
     verdicts-along (along-spellings R u v u′ v′ same) d (rw (rules-one table R S reads other) e)
 
 -- DEMAND 3
@@ -70,9 +71,21 @@ unfolding Demand3
 demand-3 table u v names scratch tree after plain T P =
     let on-tree = tree-right table u v names tree after T in
     let on-plain = plain-right table u v scratch plain P in
-    record { tree-right = on-tree; plain-right = on-plain; same = λ s t. right-one table (λ p. refl) (on-tree s) (on-plain t) }
+    record { tree-right = on-tree; plain-right = on-plain; same = λ s t. right-one table u v u v (λ p. refl) (on-tree s) (on-plain t) }
 
 -- BOTH JUDGES SIDE BY SIDE
+
+-- what the two contracts allow
+pub both-answer : (table u v names scratch : List ℕ) {answers : BothAnswers} {names′ scratch′ : List ℕ}
+    → TreeCall table u v names (answers .tree) names′ → PlainCall table u v scratch (answers .plain) scratch′
+    → BothAnswer table u v names scratch answers names′ scratch′
+unfolding Demand3
+both-answer table u v names scratch {answers} {names′} T (P, clears) = record {
+  tree = T;
+  plain = P;
+  clears = clears;
+  agreement = demand-3 table u v names scratch (answers .tree) names′ (answers .plain) T P;
+}
 
 pub both-numbers : BothNumbers
 both-numbers table u v names scratch answers names′ scratch′ B =

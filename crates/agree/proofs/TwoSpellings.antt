@@ -32,7 +32,7 @@ says-right {table} {u} {v} (plain-says scratch answer P zero is) =
     subst (λ x. Right table u v x) is (plain-right table u v scratch answer P zero)
 
 pub two-spellings : TwoSpellings
-two-spellings table u v u′ v′ verdict verdict′ same says says′ = right-one table same (says-right says) (says-right says′)
+two-spellings table u v u′ v′ verdict verdict′ same says says′ = right-one table u v u′ v′ same (says-right says) (says-right says′)
 
 -- the answer 1 of `same_walk`
 one-means-same : (o : Outcome (Unit {0})) (u v u′ v′ : List ℕ) (answer : SameAnswer) → SameAnswers o u v u′ v′ answer → answer .same ≡ 1
@@ -50,15 +50,15 @@ same-walk-verdicts table u v u′ v′ answer verdict verdict′ allowed one =
 
 -- entry and period stand in the answer
 own-numbers : {R : Rule} {u v names : List ℕ} {answer : TreeAnswer} {after : List ℕ} (J : Judged R u v names answer after)
-    → answer ≡ treeAnswer (answer .entry) (answer .period) (J .finding)
+    → answer ≡ treeAnswer (answer .entry) (answer .period) (J .walk .finding)
 unfolding treeAnswer
-own-numbers {R} {u} {v} {names} {answer} {after} J = go (J .finding) (J .answers)
+own-numbers {R} {u} {v} {names} {answer} {after} J = go (J .walk .finding) (J .answers)
   where
-    with : (f : Finding) → answer .entry ≡ J .entry → answer .period ≡ J .period → answer ≡ treeAnswer (J .entry) (J .period) f
-        → answer ≡ treeAnswer (answer .entry) (answer .period) f
+    with : (f : Finding) → answer .entry ≡ J .walk .entry → answer .period ≡ J .walk .period
+        → answer ≡ treeAnswer (J .walk .entry) (J .walk .period) f → answer ≡ treeAnswer (answer .entry) (answer .period) f
     with f entry period is = is ∙ sym (ap₂ (λ e p. treeAnswer e p f) entry period)
 
-    go : (f : Finding) → answer ≡ treeAnswer (J .entry) (J .period) f → answer ≡ treeAnswer (answer .entry) (answer .period) f
+    go : (f : Finding) → answer ≡ treeAnswer (J .walk .entry) (J .walk .period) f → answer ≡ treeAnswer (answer .entry) (answer .period) f
     go (yes-node w) is = with (yes-node w) (ap (λ (x : TreeAnswer). x .entry) is) (ap (λ (x : TreeAnswer). x .period) is) is
     go no-node is = with no-node (ap (λ (x : TreeAnswer). x .entry) is) (ap (λ (x : TreeAnswer). x .period) is) is
 
@@ -69,12 +69,14 @@ same-node table u v u′ v′ names names′ answer answer′ after after′ sam
     let J = A .judged in
     let rules : B .rule ≡ A .rule = rules-one table (B .rule) (A .rule) (B .about .read) (A .about .read) in
     let K : Judged (A .rule) u′ v′ names′ answer′ after′ = subst (λ R. Judged R u′ v′ names′ answer′ after′) rules (B .judged) in
-    let one : K .finding ≡ J .finding =
-    found-one (A .rule) u′ v′ (K .entry) (K .period) (K .finding) (J .finding) (K .found)
+    let W = J .walk in
+    let X = K .walk in
+    let one : X .finding ≡ W .finding =
+    found-one (A .rule) u′ v′ (X .entry) (X .period) (X .finding) (W .finding) (X .found)
     (found-along (along-spellings (A .rule) u v u′ v′ same) (filled v (A .about .nonempty)) (filled v′ (B .about .nonempty))
-    (J .repeat) (K .repeat) (J .finding) (J .found)) in
+    (W .repeat) (X .repeat) (W .finding) (W .found)) in
     record {
-      finding = J .finding;
+      finding = W .finding;
       answers = own-numbers J;
       answers′ = own-numbers K ∙ ap (λ (f : Finding). treeAnswer (answer′ .entry) (answer′ .period) f) one;
       leaves = J .leaves;

@@ -46,7 +46,7 @@ judged-alike : {R : Rule} {u v names names′ : List ℕ} {answer answer′ : Tr
     → (answer ≡ answer′) × WriteAlike (nameBytes answer) names names′ after after′
 judged-alike {R} {u} {v} {names} {names′} J K =
     let (same, found) = judged-one J K in
-    (same, rw (same, K .answers, J .leaves, found, K .leaves) (write-name (K .entry) (K .period) (K .finding) names names′))
+    (same, rw (same, K .answers, J .leaves, found, K .leaves) (write-name (K .walk .entry) (K .walk .period) (K .walk .finding) names names′))
 
 module _ (table table′ u v : List ℕ) (R S : Rule) (reads : readRule table ≡ accepted R) (reads′ : readRule table′ ≡ accepted S)
     (equal : EqualOn R S u v) where

@@ -5,7 +5,7 @@ use Prim.Native.Nat.{ℕ}
 use Rattle.table.specs.Outcome.{accepted}
 use Rattle.table.specs.Rule.{Rule}
 use Rattle.table.specs.Table.{readRule}
-use Rattle.word.specs.Run.{AcceptingRun}
+use Rattle.word.specs.Keeps.{Keeps}
 use Rattle.word.specs.Verdict.{Decides}
 use Rattle.treejudge.specs.JudgeCall.{treeOutcome, TreeAnswers}
 use Rattle.treejudge.specs.declared.judge.TreeAnswer.{TreeAnswer}
@@ -16,7 +16,7 @@ use Rattle.plain.specs.declared.judge.PlainAnswer.{PlainAnswer}
 -- endless run of the rule, over the lead-in followed by the tail for ever, goes through every accepting set infinitely often, and
 -- no otherwise"
 abbrev pub Right : List ℕ → List ℕ → List ℕ → ℕ → Type 0
-Right table u v verdict = (R : Rule) × (readRule table ≡ accepted R) × Decides verdict (AcceptingRun R u v)
+Right table u v verdict = (R : Rule) × (readRule table ≡ accepted R) × Decides verdict (Keeps R u v)
 
 -- two answers to one table and one walk are right and agree. A call is accepted where its number is 0.
 pub record Agreement (table u v : List ℕ) (tree : TreeAnswer) (plain : PlainAnswer) : Type 0 where

@@ -1,8 +1,12 @@
 // Both judges on one table and one walk.
 use plain::judge::PlainAnswer;
-use plain::judge::plain_judge;
+use plain::judge::plain_refusal;
+use table::limits::LETTERS;
+use table::lookup::ENTRIES;
+use table::reader::Reading;
 use treejudge::judge::TreeAnswer;
-use treejudge::judge::tree_judge;
+use treejudge::judge::tree_refusal;
+use word::questions::walk_questions;
 ghost use Rattle.agree.specs.BothCall.{BothAnswer};
 
 // The answers of the two judges.
@@ -11,7 +15,8 @@ pub struct BothAnswers {
     pub plain: PlainAnswer,
 }
 
-// BOTH JUDGES: each puts its own questions and answers as it does alone. Neither sees the other's buffer.
+// BOTH JUDGES: the questions to the table and the walk are put once, and a refusal by one of them is both judges' refusal. Then each judge puts
+// 10 to its own buffer and answers as it does alone. Neither sees the other's buffer.
 pub fn judge_both<'a>(
     table: &[u8],
     u: &'a [u8],
@@ -22,10 +27,23 @@ pub fn judge_both<'a>(
     ensures { λ r. ⌜ BothAnswer (now (table .entry)) (now (u .entry)) (now (v .entry)) (now (names .entry)) (now (scratch .entry))
         r (now (names .exit)) (now (scratch .exit)) ⌝ }
 {
-    let tree = tree_judge(table, u, v, names);
-    let plain = plain_judge(table, u, v, scratch);
-    BothAnswers {
-        tree: tree,
-        plain: plain,
+    let mut tables = [[0u64; ENTRIES]; LETTERS];
+    match walk_questions(table, u, v, &mut tables) {
+        Reading::Refused(number) => {
+            let tree = tree_refusal(number);
+            let plain = plain_refusal(number);
+            BothAnswers {
+                tree: tree,
+                plain: plain,
+            }
+        }
+        Reading::Rule(header) => {
+            let tree = treejudge::judge::judge_prepared(&tables, header, u, v, names);
+            let plain = plain::judge::judge_prepared(&tables, header, u, v, scratch);
+            BothAnswers {
+                tree: tree,
+                plain: plain,
+            }
+        }
     }
 }

@@ -16,19 +16,17 @@ use tree::calls::start;
 use tree::calls::step;
 use treejudge::judge::TreeAnswer;
 use treejudge::judge::tree_judge;
-ghost use mathlib.Core.Path.{_≡_};
-ghost use Rattle.plain.specs.PlainCall.{PlainAnswers, plainOutcome, scratchAfter};
-ghost use Rattle.spelling.specs.SameCall.{SameAnswers, sameOutcome};
-ghost use Rattle.successors.specs.SuccessorsCall.{successorsAnswer, successorsOutcome};
-ghost use Rattle.table.specs.ReadCall.{gridAfter, readAnswer, readOutcome};
-ghost use Rattle.table.specs.WriteCall.{tableAfter, writeAnswer, writeOutcome};
-ghost use Rattle.tree.specs.TreeCalls.{startAfter, startAnswer, startOutcome, stepAfter, stepAnswer, stepOutcome};
-ghost use Rattle.treejudge.specs.JudgeCall.{TreeAnswers, treeOutcome};
+ghost use Rattle.plain.specs.PlainCall.{PlainCall};
+ghost use Rattle.spelling.specs.SameCall.{SameCall};
+ghost use Rattle.successors.specs.SuccessorsCall.{SuccessorsCall};
+ghost use Rattle.table.specs.ReadCall.{ReadCall};
+ghost use Rattle.table.specs.WriteCall.{WriteCall};
+ghost use Rattle.tree.specs.TreeCalls.{StartCall, StepCall};
+ghost use Rattle.treejudge.specs.JudgeCall.{TreeCall};
 
 #[no_mangle]
 pub extern "C" fn suthreldo_read(table: &[u8], grid: &mut [u8]) -> ReadAnswer
-    ensures { λ r. ⌜ (r ≡ readAnswer (readOutcome (now (table .entry)) (now (grid .entry))))
-        × (now (grid .exit) ≡ gridAfter (readOutcome (now (table .entry)) (now (grid .entry))) (now (grid .entry))) ⌝ }
+    ensures { λ r. ⌜ ReadCall (now (table .entry)) (now (grid .entry)) r (now (grid .exit)) ⌝ }
 {
     read(table, grid)
 }
@@ -42,16 +40,14 @@ pub extern "C" fn suthreldo_write(
     grid: &[u8],
     table: &mut [u8],
 ) -> WriteAnswer
-    ensures { λ r. ⌜ (r ≡ writeAnswer (writeOutcome n m k start (now (grid .entry)) (now (table .entry))))
-        × (now (table .exit) ≡ tableAfter (writeOutcome n m k start (now (grid .entry)) (now (table .entry))) (now (table .entry))) ⌝ }
+    ensures { λ r. ⌜ WriteCall n m k start (now (grid .entry)) (now (table .entry)) r (now (table .exit)) ⌝ }
 {
     write(n, m, k, start, grid, table)
 }
 
 #[no_mangle]
 pub extern "C" fn suthreldo_start(table: &[u8], buffer: &mut [u8]) -> StartAnswer
-    ensures { λ r. ⌜ (r ≡ startAnswer (startOutcome (now (table .entry)) (now (buffer .entry))))
-        × (now (buffer .exit) ≡ startAfter (startOutcome (now (table .entry)) (now (buffer .entry))) (now (buffer .entry))) ⌝ }
+    ensures { λ r. ⌜ StartCall (now (table .entry)) (now (buffer .entry)) r (now (buffer .exit)) ⌝ }
 {
     start(table, buffer)
 }
@@ -63,9 +59,7 @@ pub extern "C" fn suthreldo_step(
     bytes: &[u8],
     buffer: &mut [u8],
 ) -> StepAnswer
-    ensures { λ r. ⌜ (r ≡ stepAnswer (stepOutcome (now (table .entry)) letter (now (bytes .entry)) (now (buffer .entry))))
-        × (now (buffer .exit) ≡ stepAfter (stepOutcome (now (table .entry)) letter (now (bytes .entry)) (now (buffer .entry)))
-        (now (buffer .entry))) ⌝ }
+    ensures { λ r. ⌜ StepCall (now (table .entry)) letter (now (bytes .entry)) (now (buffer .entry)) r (now (buffer .exit)) ⌝ }
 {
     step(table, letter, bytes, buffer)
 }
@@ -77,8 +71,7 @@ pub extern "C" fn suthreldo_tree_judge<'a>(
     v: &'a [u8],
     names: &mut [u8],
 ) -> TreeAnswer
-    ensures { λ r. ⌜ TreeAnswers (treeOutcome (now (table .entry)) (now (u .entry)) (now (v .entry)) (now (names .entry)))
-        (now (u .entry)) (now (v .entry)) (now (names .entry)) r (now (names .exit)) ⌝ }
+    ensures { λ r. ⌜ TreeCall (now (table .entry)) (now (u .entry)) (now (v .entry)) (now (names .entry)) r (now (names .exit)) ⌝ }
 {
     tree_judge(table, u, v, names)
 }
@@ -90,25 +83,21 @@ pub extern "C" fn suthreldo_plain_judge<'a>(
     v: &'a [u8],
     scratch: &mut [u8],
 ) -> PlainAnswer
-    ensures { λ r. ⌜ PlainAnswers (plainOutcome (now (table .entry)) (now (u .entry)) (now (v .entry)) (now (scratch .entry)))
-        (now (u .entry)) (now (v .entry)) r
-        × (now (scratch .exit)
-        ≡ scratchAfter (plainOutcome (now (table .entry)) (now (u .entry)) (now (v .entry)) (now (scratch .entry))) (now (scratch .entry))) ⌝ }
+    ensures { λ r. ⌜ PlainCall (now (table .entry)) (now (u .entry)) (now (v .entry)) (now (scratch .entry)) r (now (scratch .exit)) ⌝ }
 {
     plain_judge(table, u, v, scratch)
 }
 
 #[no_mangle]
 pub extern "C" fn suthreldo_same_walk(u: &[u8], v: &[u8], u2: &[u8], v2: &[u8]) -> SameAnswer
-    ensures { λ r. ⌜ SameAnswers (sameOutcome (now (u .entry)) (now (v .entry)) (now (u2 .entry)) (now (v2 .entry)))
-        (now (u .entry)) (now (v .entry)) (now (u2 .entry)) (now (v2 .entry)) r ⌝ }
+    ensures { λ r. ⌜ SameCall (now (u .entry)) (now (v .entry)) (now (u2 .entry)) (now (v2 .entry)) r ⌝ }
 {
     same_walk(u, v, u2, v2)
 }
 
 #[no_mangle]
 pub extern "C" fn suthreldo_successors(table: &[u8], letter: u8, states: u16) -> SuccessorsAnswer
-    ensures { λ r. ⌜ r ≡ successorsAnswer (successorsOutcome (now (table .entry)) letter) letter states ⌝ }
+    ensures { λ r. ⌜ SuccessorsCall (now (table .entry)) letter states r ⌝ }
 {
     successors(table, letter, states)
 }

@@ -1,5 +1,5 @@
 -- The tree theorem: the tree judge's verdict is right. Some node is stable at every letter of rounds e+1 to e+p and
--- accepting at one of them just if the walk has an accepting run, and just if it has a loop. It holds for every well-formed
+-- accepting at one of them just if the walk keeps the rule, and just if it has a loop. It holds for every well-formed
 -- rule with at least one set, whatever the numbers of states, letters and sets, and for every walk whose tail is not empty.
 use mathlib.Core.Path.{_≡_}
 use mathlib.Core.Logic.{_↔_}
@@ -7,10 +7,10 @@ use mathlib.Core.List.{List, []}
 use Prim.Native.Nat.{ℕ, _≤_}
 use Rattle.table.specs.Rule.{Rule}
 use Rattle.table.specs.Table.{WellFormed}
-use Rattle.word.specs.Run.{AcceptingRun}
+use Rattle.word.specs.Keeps.{Keeps, KeepsByLoop}
 use Rattle.word.specs.Loop.{Loop}
 use Rattle.word.proofs.Positions.{filled}
-use Rattle.word.proofs.LoopTheorem.{run-loop, loop-run}
+use Rattle.word.proofs.LoopTheorem.{loop-theorem}
 use Rattle.history.specs.Rounds.{roundTree, FirstRepeat}
 use Rattle.history.specs.Verdict.{Witness}
 use Rattle.history.proofs.WitnessToLoop as To
@@ -26,13 +26,13 @@ module _ (R : Rule) (well : WellFormed R) (sets : 1 ≤ R .sets) (u v : List ℕ
   pub loop-witness : Loop R u v → (w : List ℕ) × Witness R u v entry period w
   loop-witness = From.loop-witness R well sets u v (filled v nonempty) entry period F
 
-  -- so the verdict is yes just if there is a loop,
-  pub tree-loop : ((w : List ℕ) × Witness R u v entry period w) ↔ Loop R u v
+  -- so the verdict is yes just if the walk keeps the rule by a loop,
+  pub tree-loop : ((w : List ℕ) × Witness R u v entry period w) ↔ KeepsByLoop R u v
+  unfolding KeepsByLoop
   tree-loop = (λ x. witness-loop (x .0) (x .1), loop-witness)
 
-  -- and just if there is an accepting run
-  pub tree-theorem : ((w : List ℕ) × Witness R u v entry period w) ↔ AcceptingRun R u v
-  tree-theorem = (
-    (λ x. loop-run R u v well nonempty (witness-loop (x .0) (x .1))),
-    (λ A. loop-witness (run-loop R u v well nonempty A)),
-  )
+  -- and so just if it keeps the rule
+  pub tree-theorem : ((w : List ℕ) × Witness R u v entry period w) ↔ Keeps R u v
+  tree-theorem =
+      let (to-loop, from-loop) = loop-theorem R u v well nonempty in
+      (λ x. from-loop (tree-loop .0 x), λ keeps. tree-loop .1 (to-loop keeps))

@@ -4,41 +4,24 @@ use mathlib.Core.Bool.{Bool, true, false, cond}
 use mathlib.Core.List.{List}
 use Prim.Native.Nat.{ℕ, _+_, _≤_}
 use native.Mathlib.Omega.{arith}
-use borrow.Author.Tests.{le-leb}
 use lib.Dec.{eqb}
 use lib.ListN.{length, take, drop, length-append}
 use lib.Seq.{take-at}
 use Rattle.table.specs.Outcome.{Outcome, refused, accepted}
 use Rattle.table.specs.Rule.{Rule}
 use Rattle.table.specs.Storing.{stored}
-use Rattle.table.specs.Table.{readRule}
-use Rattle.table.proofs.RefusalNumbers.{IfRefused, NotZero, then-number, rule-number}
+use Rattle.table.proofs.RefusalNumbers.{IfRefused, NotZero}
 use Rattle.history.specs.Finding.{Finding, yes-node, no-node}
-use Rattle.word.specs.Judging.{judgeQuestions}
-use Rattle.word.proofs.RefusalNumbers.{ask-walk-number}
+use Rattle.word.specs.Judging.{walkQuestions}
+use Rattle.word.proofs.JudgeQuestions.{with-room}
+use Rattle.word.proofs.RefusalNumbers.{walk-number}
 use Rattle.treejudge.specs.JudgeCall.{nameRoom, treeOutcome, treeAnswer, namesAfter, TreeAnswers}
 use Rattle.treejudge.specs.declared.judge.TreeAnswer.{TreeAnswer}
 use Rattle.plain.specs.PlainCall.{scratchLength, plainOutcome, PlainAnswers}
 use Rattle.plain.specs.declared.judge.PlainAnswer.{PlainAnswer}
-use Rattle.job.specs.JobCall.{judgeOutcome, yesNo, findingVerdict, fiveLines, refusalText, textOf, PartsAnswers}
+use Rattle.job.specs.JobCall.{yesNo, findingVerdict, fiveLines, refusalText, textOf, PartsAnswers}
 use Rattle.job.specs.TextCode.{findingOf}
 use Rattle.job.specs.declared.call.Text.{Text}
-
--- THE QUESTIONS
-
--- with a name buffer, or scratch bytes, of enough length a judge puts the questions that are put to a job
-pub tree-outcome : (table u v names : List ℕ) → nameRoom ≤ length names → treeOutcome table u v names ≡ judgeOutcome table u v
-unfolding treeOutcome judgeQuestions judgeOutcome
-tree-outcome table u v names h = rw (le-leb nameRoom (length names) h)
-
-pub plain-outcome : (table u v scratch : List ℕ) → scratchLength ≤ length scratch → plainOutcome table u v scratch ≡ judgeOutcome table u v
-unfolding plainOutcome judgeQuestions judgeOutcome
-plain-outcome table u v scratch h = rw (le-leb scratchLength (length scratch) h)
-
--- none of them has the number 0
-pub judge-number : (table u v : List ℕ) → IfRefused NotZero (judgeOutcome table u v)
-unfolding judgeOutcome
-judge-number table u v = then-number NotZero (readRule table) _ (rule-number table) (λ R. ask-walk-number (R .letters) u v (accepted R) tt)
 
 -- THE FINDING
 
@@ -81,9 +64,9 @@ module _ (u v names : List ℕ) (answer : TreeAnswer) (after : List ℕ) where
   answer-fits : (o : Outcome Rule) → TreeAnswers o u v names answer after → answer .verdict ≡ 1 → answer .length ≤ length after
   unfolding treeAnswer namesAfter
   answer-fits (refused number) (is, _) one = absurd (omega (arith, ap (λ (x : TreeAnswer). x .verdict) is))
-  answer-fits (accepted R) J one = go (J .finding) (J .answers) (J .leaves)
+  answer-fits (accepted R) J one = go (J .walk .finding) (J .answers) (J .leaves)
     where
-      go : (f : Finding) → answer ≡ treeAnswer (J .entry) (J .period) f → after ≡ namesAfter f names → answer .length ≤ length after
+      go : (f : Finding) → answer ≡ treeAnswer (J .walk .entry) (J .walk .period) f → after ≡ namesAfter f names → answer .length ≤ length after
       go (yes-node w) is left = rw (left, is) (name-fits w names)
       go no-node is left = absurd (omega (arith, ap (λ (x : TreeAnswer). x .verdict) is))
 
@@ -93,7 +76,7 @@ module _ (u v names : List ℕ) (answer : TreeAnswer) (after : List ℕ) where
   answer-refused (refused number) text (is, _) some says =
       says ∙ ap (λ (x : ℕ). textOf (refusalText x)) (ap (λ (x : TreeAnswer). x .number) is)
   answer-refused (accepted R) text J some says =
-      absurd (some (ap (λ (x : TreeAnswer). x .number) (J .answers) ∙ answer-parts (J .entry) (J .period) (J .finding) .0))
+      absurd (some (ap (λ (x : TreeAnswer). x .number) (J .answers) ∙ answer-parts (J .walk .entry) (J .walk .period) (J .walk .finding) .0))
 
   -- the number 0 is none, and the five lines say what both judges answer
   answer-judged : (o : Outcome Rule) (text : Text) (plain : PlainAnswer) → TreeAnswers o u v names answer after → PlainAnswers o u v plain
@@ -101,39 +84,35 @@ module _ (u v names : List ℕ) (answer : TreeAnswer) (after : List ℕ) where
       → text ≡ textOf (fiveLines (answer .entry) (answer .period) (findingOf answer after) (plain .verdict)) → PartsAnswers o u v text
   answer-judged (refused number) text plain (is, _) P some none says = absurd (some (sym (ap (λ (x : TreeAnswer). x .number) is) ∙ none))
   answer-judged (accepted R) text plain J (_, decides) some none says =
-      let (_, entry, period) = answer-parts (J .entry) (J .period) (J .finding) in
+      let W = J .walk in
+      let (_, entry, period) = answer-parts (W .entry) (W .period) (W .finding) in
       record {
-        entry = J .entry;
-        period = J .period;
-        repeat = J .repeat;
-        finding = J .finding;
-        found = J .found;
+        walk = W;
         plain = plain .verdict;
         decides = decides;
-        says = says ∙ rw (J .answers, J .leaves, finding-same (J .entry) (J .period) (J .finding) names, entry, period);
+        says = says ∙ rw (J .answers, J .leaves, finding-same (W .entry) (W .period) (W .finding) names, entry, period);
       }
 
--- a job's parts, with a name buffer and scratch bytes of the lengths needed
+-- a job's parts: with a name buffer and scratch bytes of the lengths needed, a judge asks no more than is asked of a job
 module _ (table u v names : List ℕ) (tree : TreeAnswer) (after : List ℕ) (T : TreeAnswers (treeOutcome table u v names) u v names tree after)
     (room : length names ≡ nameRoom) where
-  same-questions : treeOutcome table u v names ≡ judgeOutcome table u v
-  same-questions = tree-outcome table u v names (omega arith)
-
-  tree-answers : TreeAnswers (judgeOutcome table u v) u v names tree after
-  tree-answers = subst (λ (o : Outcome Rule). TreeAnswers o u v names tree after) same-questions T
+  tree-answers : TreeAnswers (walkQuestions table u v) u v names tree after
+  unfolding treeOutcome
+  tree-answers = subst (λ (o : Outcome Rule). TreeAnswers o u v names tree after) (with-room nameRoom table u v names (omega arith)) T
 
   pub parts-fit : length after ≡ nameRoom → tree .verdict ≡ 1 → tree .length ≤ nameRoom
-  parts-fit kept one = omega (arith, answer-fits u v names tree after (judgeOutcome table u v) tree-answers one)
+  parts-fit kept one = omega (arith, answer-fits u v names tree after (walkQuestions table u v) tree-answers one)
 
   pub parts-refused : (text : Text) → (tree .number ≡ 0 → ⊥) → text ≡ textOf (refusalText (tree .number))
-      → PartsAnswers (judgeOutcome table u v) u v text
-  parts-refused text some says = answer-refused u v names tree after (judgeOutcome table u v) text tree-answers some says
+      → PartsAnswers (walkQuestions table u v) u v text
+  parts-refused text some says = answer-refused u v names tree after (walkQuestions table u v) text tree-answers some says
 
   pub parts-judged : (scratch : List ℕ) → length scratch ≡ scratchLength → (plain : PlainAnswer)
       → PlainAnswers (plainOutcome table u v scratch) u v plain → (text : Text) → tree .number ≡ 0
       → text ≡ textOf (fiveLines (tree .entry) (tree .period) (findingOf tree after) (plain .verdict))
-      → PartsAnswers (judgeOutcome table u v) u v text
+      → PartsAnswers (walkQuestions table u v) u v text
+  unfolding plainOutcome
   parts-judged scratch size plain P text none says =
-      let same = plain-outcome table u v scratch (omega arith) in
-      answer-judged u v names tree after (judgeOutcome table u v) text plain tree-answers
-      (subst (λ (o : Outcome Rule). PlainAnswers o u v plain) same P) (judge-number table u v) none says
+      let same = with-room scratchLength table u v scratch (omega arith) in
+      answer-judged u v names tree after (walkQuestions table u v) text plain tree-answers
+      (subst (λ (o : Outcome Rule). PlainAnswers o u v plain) same P) (walk-number table u v) none says

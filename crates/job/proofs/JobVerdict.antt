@@ -6,11 +6,10 @@ use native.Mathlib.Omega.{arith}
 use lib.ListN.{length, replicate, length-append, length-replicate}
 use Rattle.table.specs.Outcome.{Outcome, refused, accepted}
 use Rattle.table.specs.Rule.{Rule}
+use Rattle.word.specs.Judging.{walkQuestions}
 use Rattle.word.proofs.Verdicts.{decides-one}
-use Rattle.history.specs.Rounds.{roundTree}
-use Rattle.history.proofs.FirstRepeats.{repeat-unique}
-use Rattle.treejudge.proofs.TreeVerdict.{found-one}
-use Rattle.job.specs.JobCall.{Parts, jobParts, judgeOutcome, fiveLines, refusalText, textRoom, textOf, PartsAnswers, SplitAnswers, JobAnswer}
+use Rattle.treejudge.proofs.TreeVerdict.{walk-one}
+use Rattle.job.specs.JobCall.{Parts, jobParts, fiveLines, refusalText, textRoom, textOf, PartsAnswers, SplitAnswers, JobAnswer}
 use Rattle.job.specs.declared.call.Text.{Text}
 
 -- THE CONTRACT DETERMINES THE TEXT
@@ -18,9 +17,7 @@ use Rattle.job.specs.declared.call.Text.{Text}
 parts-determined : (o : Outcome Rule) (u v : List ℕ) (a b : Text) → PartsAnswers o u v a → PartsAnswers o u v b → a ≡ b
 parts-determined (refused number) u v a b x y = x ∙ sym y
 parts-determined (accepted R) u v a b J K =
-    let (e, p) = repeat-unique (roundTree R u v) (J .entry) (J .period) (K .entry) (K .period) (J .repeat) (K .repeat) in
-    let f : J .finding ≡ K .finding =
-    found-one R u v (K .entry) (K .period) (J .finding) (K .finding) (rw (e, p) at (J .found)) (K .found) in
+    let (e, p, f) = walk-one (J .walk) (K .walk) in
     let d : J .plain ≡ K .plain = decides-one (J .decides) (K .decides) in
     J .says ∙ rw (e, p, f, d) (sym (K .says))
 
@@ -31,7 +28,7 @@ job-determined job a b x y = go (jobParts job) x y
   where
     go : (o : Outcome Parts) → SplitAnswers o a → SplitAnswers o b → a ≡ b
     go (refused number) x y = x ∙ sym y
-    go (accepted p) x y = parts-determined (judgeOutcome (p .table) (p .lead) (p .tail)) (p .lead) (p .tail) a b x y
+    go (accepted p) x y = parts-determined (walkQuestions (p .table) (p .lead) (p .tail)) (p .lead) (p .tail) a b x y
 
 -- THE TEXT FITS ITS ARRAY
 
@@ -50,7 +47,7 @@ module _ (text : Text) (size : length (text .bytes) ≡ textRoom) where
 
   parts-fit : (o : Outcome Rule) (u v : List ℕ) → PartsAnswers o u v text → text .length ≤ textRoom
   parts-fit (refused number) u v x = text-fits (refusalText number) x
-  parts-fit (accepted R) u v J = text-fits (fiveLines (J .entry) (J .period) (J .finding) (J .plain)) (J .says)
+  parts-fit (accepted R) u v J = text-fits (fiveLines (J .walk .entry) (J .walk .period) (J .walk .finding) (J .plain)) (J .says)
 
   pub job-fits : (job : List ℕ) → JobAnswer job text → text .length ≤ textRoom
   unfolding JobAnswer
@@ -58,4 +55,4 @@ module _ (text : Text) (size : length (text .bytes) ≡ textRoom) where
     where
       go : (o : Outcome Parts) → SplitAnswers o text → text .length ≤ textRoom
       go (refused number) x = text-fits (refusalText number) x
-      go (accepted p) x = parts-fit (judgeOutcome (p .table) (p .lead) (p .tail)) (p .lead) (p .tail) x
+      go (accepted p) x = parts-fit (walkQuestions (p .table) (p .lead) (p .tail)) (p .lead) (p .tail) x

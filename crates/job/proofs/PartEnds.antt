@@ -12,12 +12,13 @@ use Rattle.table.specs.Outcome.{Outcome, refused, accepted, ask, _then_}
 use Rattle.table.specs.Table.{Read, ended}
 use Rattle.table.proofs.Accepted.{IfAccepted, asked}
 use Rattle.table.proofs.RefusalNumbers.{IfRefused, ask-number, then-number}
+use Rattle.word.specs.Judging.{walkQuestions}
 use Rattle.job.specs.declared.split.End.the-variants.{Past, At}
 use Rattle.job.specs.declared.split.Ends.{Ends}
 use Rattle.job.specs.declared.split.Split.{Split}
 use Rattle.job.specs.declared.call.Text.{Text}
 use Rattle.job.specs.declared.split.Split.the-variants.{Refused, Parts as Split·Parts}
-use Rattle.job.specs.JobCall.{shortestJob, longestJob, Parts, readPart, jobParts, judgeOutcome, refusalText, textOf, PartsAnswers, SplitAnswers, JobAnswer}
+use Rattle.job.specs.JobCall.{shortestJob, longestJob, Parts, readPart, jobParts, refusalText, textOf, PartsAnswers, SplitAnswers, JobAnswer}
 use Rattle.job.specs.SplitCode.{endAs, partEnd, between, EndsAt, Splits}
 
 -- WHERE A PART ENDS
@@ -218,7 +219,7 @@ module _ (job : List ℕ) (split : Split) (S : Splits (jobParts job) job split) 
 
 -- the answer to the bytes between the places is the answer to the job
 pub job-answered : (job : List ℕ) (ends : Ends) (S : JobSplit job ends) (text : Text)
-    → PartsAnswers (judgeOutcome (between 2 (ends .table) job) (between (ends .table + 2) (ends .lead) job) (between (ends .lead + 2) (length job) job))
+    → PartsAnswers (walkQuestions (between 2 (ends .table) job) (between (ends .table + 2) (ends .lead) job) (between (ends .lead + 2) (length job) job))
     (between (ends .table + 2) (ends .lead) job) (between (ends .lead + 2) (length job) job) text
     → JobAnswer job text
 unfolding JobAnswer

@@ -1,78 +1,64 @@
 -- What the printed text of a job says: the tree theorem for its first line, the loop theorem for its last.
 use mathlib.Core.Path.{_≡_, refl, sym, _∙_, ap}
 use mathlib.Core.Logic.{_⊎_, inl, inr, ⊎-elim, _↔_}
-use mathlib.Core.List.{List, [], _++_, append-assoc}
+use mathlib.Core.List.{List, _++_, append-assoc}
 use Prim.Native.Nat.{ℕ}
 use native.Mathlib.Omega.{arith}
 use lib.ListN.{getD}
 use Rattle.table.specs.Outcome.{Outcome, refused, accepted}
 use Rattle.table.specs.Rule.{Rule}
 use Rattle.table.proofs.RefusalNumbers.{IfRefused, NotZero}
-use Rattle.word.specs.Judging.{judgeQuestions}
-use Rattle.word.specs.Run.{AcceptingRun}
+use Rattle.word.specs.Judging.{walkQuestions}
+use Rattle.word.specs.Keeps.{Keeps}
 use Rattle.word.specs.Verdict.{Decides}
-use Rattle.word.proofs.JudgeQuestions.{Accepted, accepted-call}
+use Rattle.word.proofs.JudgeQuestions.{Accepted, accepted-walk}
+use Rattle.word.proofs.RefusalNumbers.{walk-number}
 use Rattle.word.proofs.Verdicts.{decides-one}
-use Rattle.history.specs.Finding.{Finding, yes-node, no-node, Found}
-use Rattle.history.proofs.TreeTheorem.{tree-theorem}
+use Rattle.history.specs.Finding.{Finding}
+use Rattle.treejudge.proofs.TreeVerdict.{walk-decides}
 use Rattle.plain.proofs.PlainVerdict.{plain-decides}
 use Rattle.job.specs.Ascii.{ascii}
-use Rattle.job.specs.JobCall.{Parts, jobParts, judgeOutcome, jobOutcome, digits, line, yesNo, findingVerdict, nodeText}
+use Rattle.job.specs.JobCall.{Parts, jobParts, jobOutcome, digits, line, yesNo, findingVerdict, nodeText}
 use Rattle.job.specs.JobCall.{fiveLines, refusalText, textOf}
 use Rattle.job.specs.JobCall.{JobJudged, PartsAnswers, SplitAnswers, JobAnswer}
 use Rattle.job.specs.PrintedVerdict.{AcceptedJob, Begins, TextTells, JobNumber, Says, PrintedVerdict, Prints, PrintedYesNo}
 use Rattle.job.specs.declared.call.Text.{Text}
 use Rattle.job.proofs.PartEnds.{parts-number}
-use Rattle.job.proofs.JobJudging.{judge-number}
-
--- the questions of a judge that needs no buffer are those that are put to a job
-job-accepted : (table u v : List ℕ) (R : Rule) → judgeOutcome table u v ≡ accepted R → Accepted table v R
-unfolding judgeOutcome judgeQuestions
-job-accepted table u v R e = accepted-call 0 table u v [] R e
 
 -- A JUDGED JOB SAYS WHAT IS SO
 
 module _ (R : Rule) (table u v : List ℕ) (a : Accepted table v R) (text : Text) (J : JobJudged R u v text) where
   -- the first line's verdict is right, by the tree theorem
-  first-decides : (f : Finding) → Found R u v (J .entry) (J .period) f → Decides (findingVerdict f) (AcceptingRun R u v)
+  first-decides : Decides (findingVerdict (J .walk .finding)) (Keeps R u v)
   unfolding findingVerdict
-  first-decides (yes-node w) found =
-      inl (refl, tree-theorem R (a .well) (a .sets) u v (a .nonempty) (J .entry) (J .period) (J .repeat) .0 (w, found .witness))
-  first-decides no-node none = inr (
-    refl,
-    λ run. let (w, W) = tree-theorem R (a .well) (a .sets) u v (a .nonempty) (J .entry) (J .period) (J .repeat) .1 run in none w W,
-  )
+  first-decides = walk-decides R u v (J .walk) (a .well) (a .sets) (a .nonempty) findingVerdict (λ w. refl) refl
 
   -- the last line's, by the loop theorem
-  last-decides : Decides (J .plain) (AcceptingRun R u v)
+  last-decides : Decides (J .plain) (Keeps R u v)
   last-decides = plain-decides R u v (record { number = 0; verdict = J .plain }) (refl, J .decides) (a .well) (a .nonempty)
 
   judged-says : Says R u v text
-  judged-says =
-      let first = first-decides (J .finding) (J .found) in
-      record {
-        entry = J .entry;
-        period = J .period;
-        finding = J .finding;
-        plain = J .plain;
-        lines = J .says;
-        first = first;
-        last = decides-one first last-decides;
-      }
+  judged-says = record {
+    walk = J .walk;
+    plain = J .plain;
+    lines = J .says;
+    first = first-decides;
+    last = decides-one first-decides last-decides;
+  }
 
 -- THE TWO WAYS OF A JOB
 
 -- it is refused by a number, or its parts and its rule are judged
 pub data JobWay (job : List ℕ) (text : Text) : Type 0 where
   refused-way : (number : ℕ) → jobOutcome job ≡ refused number → (number ≡ 0 → ⊥) → text ≡ textOf (refusalText number) → JobWay job text
-  judged-way : (p : Parts) (R : Rule) → AcceptedJob job p R → judgeOutcome (p .table) (p .lead) (p .tail) ≡ accepted R
+  judged-way : (p : Parts) (R : Rule) → AcceptedJob job p R → walkQuestions (p .table) (p .lead) (p .tail) ≡ accepted R
       → JobJudged R (p .lead) (p .tail) text → JobWay job text
 
 pub job-way : (job : List ℕ) (text : Text) → JobAnswer job text → JobWay job text
 unfolding JobAnswer jobOutcome
 job-way job text answers = split (jobParts job) refl (parts-number job) answers
   where
-    judge : (p : Parts) → jobParts job ≡ accepted p → (o : Outcome Rule) → judgeOutcome (p .table) (p .lead) (p .tail) ≡ o
+    judge : (p : Parts) → jobParts job ≡ accepted p → (o : Outcome Rule) → walkQuestions (p .table) (p .lead) (p .tail) ≡ o
         → IfRefused NotZero o → PartsAnswers o (p .lead) (p .tail) text → JobWay job text
     judge p is (refused number) asks some says = refused-way number (rw (is, asks)) some says
     judge p is (accepted R) asks some J = judged-way p R (rw (is, asks)) asks J
@@ -80,7 +66,7 @@ job-way job text answers = split (jobParts job) refl (parts-number job) answers
     split : (o : Outcome Parts) → jobParts job ≡ o → IfRefused (λ number. number ≡ 12) o → SplitAnswers o text → JobWay job text
     split (refused number) is twelve says = refused-way number (rw is) (λ z. omega (arith, twelve, z)) says
     split (accepted p) is twelve S =
-        judge p is (judgeOutcome (p .table) (p .lead) (p .tail)) refl (judge-number (p .table) (p .lead) (p .tail)) S
+        judge p is (walkQuestions (p .table) (p .lead) (p .tail)) refl (walk-number (p .table) (p .lead) (p .tail)) S
 
 -- no job goes both
 one-way : {A : Type 0} {number : ℕ} {a : A} → (o : Outcome A) → o ≡ refused number → o ≡ accepted a → ⊥
@@ -101,7 +87,7 @@ printed-verdict job p R text A answers = go (job-way job text answers)
     go (refused-way number is some says) = absurd (one-way (jobOutcome job) is A)
     go (judged-way q S is asks J) =
         one-job (λ X x. Says X (x .lead) (x .tail) text) job p q R S A is
-        (judged-says S (q .table) (q .lead) (q .tail) (job-accepted (q .table) (q .lead) (q .tail) S asks) text J)
+        (judged-says S (q .table) (q .lead) (q .tail) (accepted-walk (q .table) (q .lead) (q .tail) S asks) text J)
 
 -- THE SAME IN LETTERS
 
@@ -135,17 +121,17 @@ split-lines entry period f plain = ap (line (ascii "verdict ") (yesNo (findingVe
 
 module _ {R : Rule} {u v : List ℕ} {text : Text} (S : Says R u v text) where
   abbrev between : List ℕ
-  between = middle (S .entry) (S .period) (S .finding)
+  between = middle (S .walk .entry) (S .walk .period) (S .walk .finding)
 
-  by-verdict : text ≡ textOf (line (ascii "verdict ") (yesNo (findingVerdict (S .finding)))
-      ++ (between ++ (ascii "\nplain " ++ (yesNo (findingVerdict (S .finding)) ++ ascii "\n"))))
-  by-verdict = S .lines ∙ ap textOf (split-lines (S .entry) (S .period) (S .finding) (S .plain) ∙ rw (S .last))
+  by-verdict : text ≡ textOf (line (ascii "verdict ") (yesNo (findingVerdict (S .walk .finding)))
+      ++ (between ++ (ascii "\nplain " ++ (yesNo (findingVerdict (S .walk .finding)) ++ ascii "\n"))))
+  by-verdict = S .lines ∙ ap textOf (split-lines (S .walk .entry) (S .walk .period) (S .walk .finding) (S .plain) ∙ rw (S .last))
 
-  prints-yes : findingVerdict (S .finding) ≡ 1 → PrintsYes text
+  prints-yes : findingVerdict (S .walk .finding) ≡ 1 → PrintsYes text
   unfolding line yesNo
   prints-yes is = (between, rw is at by-verdict)
 
-  prints-no : findingVerdict (S .finding) ≡ 0 → PrintsNo text
+  prints-no : findingVerdict (S .walk .finding) ≡ 0 → PrintsNo text
   unfolding line yesNo
   prints-no is = (between, rw is at by-verdict)
 
@@ -172,7 +158,7 @@ job-number job text answers = go (job-way job text answers)
           rw (← e) (says, some);
     }
     go (judged-way p R A _ J) = record {
-      accepts = ((λ _. (p, R, A)), (λ _. rw (J .says) (begins-verdict (J .entry) (J .period) (J .finding) (J .plain))));
+      accepts = ((λ _. (p, R, A)), (λ _. rw (J .says) (begins-verdict (J .walk .entry) (J .walk .period) (J .walk .finding) (J .plain))));
       refuses = λ number is. absurd (one-way (jobOutcome job) is A);
     }
 
@@ -194,15 +180,15 @@ yes-begins text (between, is) = (ascii "yes\n" ++ (between ++ ascii "\nplain yes
 no-begins : (text : Text) → PrintsNo text → Begins (ascii "verdict ") text
 no-begins text (between, is) = (ascii "no\n" ++ (between ++ ascii "\nplain no\n"), is)
 
-abbrev HasRun : Rule → Parts → Type 0
-HasRun R p = AcceptingRun R (p .lead) (p .tail)
+abbrev KeptBy : Rule → Parts → Type 0
+KeptBy R p = Keeps R (p .lead) (p .tail)
 
 pub printed-yes-no : PrintedYesNo
 unfolding PrintedVerdict PrintedYesNo
 printed-yes-no job text answers = go (job-way job text answers)
   where
-    go : JobWay job text → (PrintsYes text ↔ ((p : Parts) × (R : Rule) × AcceptedJob job p R × HasRun R p))
-        × (PrintsNo text ↔ ((p : Parts) × (R : Rule) × AcceptedJob job p R × (HasRun R p → ⊥)))
+    go : JobWay job text → (PrintsYes text ↔ ((p : Parts) × (R : Rule) × AcceptedJob job p R × KeptBy R p))
+        × (PrintsNo text ↔ ((p : Parts) × (R : Rule) × AcceptedJob job p R × (KeptBy R p → ⊥)))
     go (refused-way number is some says) = (
       ((λ y. absurd (no-verdict text number says (yes-begins text y))), (λ (p, R, A, _). absurd (one-way (jobOutcome job) is A))),
       ((λ n. absurd (no-verdict text number says (no-begins text n))), (λ (p, R, A, _). absurd (one-way (jobOutcome job) is A))),
@@ -210,6 +196,6 @@ printed-yes-no job text answers = go (job-way job text answers)
     go (judged-way p R A _ _) =
         let S = printed-verdict job p R text A answers in
         let (said-yes, said-no) = said-right (not-both text) (⊎-elim (λ x. inl (prints-yes S (x .0), x .1)) (λ x. inr (prints-no S (x .0), x .1)) (S .first)) in (
-          ((λ y. (p, R, A, said-yes .0 y)), (λ (q, Q, B, run). said-yes .1 (one-job HasRun job p q R Q A B run))),
-          ((λ n. (p, R, A, said-no .0 n)), (λ (q, Q, B, none). said-no .1 (one-job (λ X x. HasRun X x → ⊥) job p q R Q A B none))),
+          ((λ y. (p, R, A, said-yes .0 y)), (λ (q, Q, B, keeps). said-yes .1 (one-job KeptBy job p q R Q A B keeps))),
+          ((λ n. (p, R, A, said-no .0 n)), (λ (q, Q, B, none). said-no .1 (one-job (λ X x. KeptBy X x → ⊥) job p q R Q A B none))),
         )

@@ -8,12 +8,11 @@ use lib.Dec.{eqb, leb, ltb}
 use lib.ListN.{length, take, drop, replicate}
 use Rattle.table.specs.Outcome.{Outcome, refused, accepted, ask, _then_}
 use Rattle.table.specs.Rule.{Rule}
-use Rattle.table.specs.Table.{Read, readRule, ended}
-use Rattle.word.specs.Walk.{askWalk}
-use Rattle.word.specs.Loop.{Loop}
+use Rattle.table.specs.Table.{Read, ended}
+use Rattle.word.specs.Judging.{walkQuestions}
+use Rattle.word.specs.Keeps.{KeepsByLoop}
 use Rattle.word.specs.Verdict.{Decides}
-use Rattle.history.specs.Rounds.{roundTree, FirstRepeat}
-use Rattle.history.specs.Finding.{Finding, yes-node, no-node, Found}
+use Rattle.history.specs.Finding.{Finding, yes-node, no-node, WalkJudged}
 use Rattle.job.specs.Ascii.{ascii}
 use Rattle.job.specs.declared.call.Text.{Text}
 
@@ -51,13 +50,9 @@ jobParts job =
     ask (ended (tail .1)) 12
     (accepted (record { table = table .0; lead = lead .0; tail = tail .0 })))
 
--- the questions behind it: 1 to 6 to the table, 7 and 8 to the walk
-unfoldable pub judgeOutcome : List ℕ → List ℕ → List ℕ → Outcome Rule
-judgeOutcome table u v = readRule table then λ R. askWalk (R .letters) u v (accepted R)
-
--- all questions to a job: accepted, its parts and the rule of its table
+-- all questions to a job: behind 12, those to its table and its walk; accepted, its parts and the rule of its table
 unfoldable pub jobOutcome : List ℕ → Outcome (Parts × Rule)
-jobOutcome job = jobParts job then λ p. judgeOutcome (p .table) (p .lead) (p .tail) then λ R. accepted (p, R)
+jobOutcome job = jobParts job then λ p. walkQuestions (p .table) (p .lead) (p .tail) then λ R. accepted (p, R)
 
 -- THE LINES
 
@@ -118,17 +113,13 @@ textRoom = 128
 unfoldable pub textOf : List ℕ → Text
 textOf bytes = record { bytes = bytes ++ replicate (textRoom - length bytes) 0; length = length bytes }
 
--- a job that is judged: entry and period are those of the first repeated tree at a round end, the finding is right, the plain
--- verdict says whether the walk keeps the rule, and the text has the five lines that say so
+-- a job that is judged: the walk is judged, the plain verdict says whether it keeps the rule, by a loop, and the text has the five lines
+-- that say so
 pub record JobJudged (R : Rule) (u v : List ℕ) (text : Text) : Type 0 where
-  pub entry : ℕ
-  pub period : ℕ
-  pub repeat : FirstRepeat (roundTree R u v) entry period
-  pub finding : Finding
-  pub found : Found R u v entry period finding
+  pub walk : WalkJudged R u v
   pub plain : ℕ
-  pub decides : Decides plain (Loop R u v)
-  pub says : text ≡ textOf (fiveLines entry period finding plain)
+  pub decides : Decides plain (KeepsByLoop R u v)
+  pub says : text ≡ textOf (fiveLines (walk .entry) (walk .period) (walk .finding) plain)
 
 -- the answer to a job's parts: on a refusal its one line
 abbrev pub PartsAnswers : Outcome Rule → List ℕ → List ℕ → Text → Type 0
@@ -138,7 +129,7 @@ PartsAnswers (accepted R) u v text = JobJudged R u v text
 -- the answer to a job that question 12 was put to
 abbrev pub SplitAnswers : Outcome Parts → Text → Type 0
 SplitAnswers (refused number) text = text ≡ textOf (refusalText number)
-SplitAnswers (accepted p) text = PartsAnswers (judgeOutcome (p .table) (p .lead) (p .tail)) (p .lead) (p .tail) text
+SplitAnswers (accepted p) text = PartsAnswers (walkQuestions (p .table) (p .lead) (p .tail)) (p .lead) (p .tail) text
 
 -- THE CALL: this text answers this job
 unfoldable pub JobAnswer : List ℕ → Text → Type 0

@@ -5,9 +5,9 @@ use mathlib.Core.List.{List, _++_}
 use Prim.Native.Nat.{ℕ}
 use Rattle.table.specs.Outcome.{refused, accepted}
 use Rattle.table.specs.Rule.{Rule}
-use Rattle.word.specs.Run.{AcceptingRun}
+use Rattle.word.specs.Keeps.{Keeps}
 use Rattle.word.specs.Verdict.{Decides}
-use Rattle.history.specs.Finding.{Finding}
+use Rattle.history.specs.Finding.{WalkJudged}
 use Rattle.job.specs.Ascii.{ascii}
 use Rattle.job.specs.JobCall.{Parts, jobOutcome, findingVerdict, fiveLines, refusalText, textOf, JobAnswer}
 use Rattle.job.specs.declared.call.Text.{Text}
@@ -29,18 +29,16 @@ pub record TextTells (job : List ℕ) (text : Text) : Type 0 where
 abbrev pub JobNumber : Type 0
 JobNumber = (job : List ℕ) (text : Text) → JobAnswer job text → TextTells job text
 
--- a text that says what is so of the rule and the walk: five lines, the first and the last of which are right
+-- a text that says what is so of the rule and the walk: five lines with what is judged of the walk, and the first and the last are right
 pub record Says (R : Rule) (u v : List ℕ) (text : Text) : Type 0 where
-  pub entry : ℕ
-  pub period : ℕ
-  pub finding : Finding
+  pub walk : WalkJudged R u v
   pub plain : ℕ
-  pub lines : text ≡ textOf (fiveLines entry period finding plain)
+  pub lines : text ≡ textOf (fiveLines (walk .entry) (walk .period) (walk .finding) plain)
   -- the first line "says yes exactly when some endless run of the rule, over the lead-in followed by the tail for ever, goes through
   -- every accepting set infinitely often, and no otherwise"
-  pub first : Decides (findingVerdict finding) (AcceptingRun R u v)
+  pub first : Decides (findingVerdict (walk .finding)) (Keeps R u v)
   -- the last line says the same
-  pub last : findingVerdict finding ≡ plain
+  pub last : findingVerdict (walk .finding) ≡ plain
 
 -- THE PRINTED VERDICT: whatever the job, if it is not refused, a text that the contract allows is so
 unfoldable pub PrintedVerdict : Type 0
@@ -53,11 +51,11 @@ abbrev pub Prints : List ℕ → List ℕ → Text → Type 0
 Prints begin end text = (middle : List ℕ) × (text ≡ textOf (begin ++ (middle ++ end)))
 
 -- the same in letters, from what is seen alone: whatever the job, the lines `verdict yes` and `plain yes` stand there exactly when the job
--- is accepted and there is such a run, `verdict no` and `plain no` exactly when it is accepted and there is none
+-- is accepted and its walk keeps its rule, `verdict no` and `plain no` exactly when it is accepted and its walk does not
 unfoldable pub PrintedYesNo : Type 0
 PrintedYesNo =
     (job : List ℕ) (text : Text) → JobAnswer job text
     → (Prints (ascii "verdict yes\n") (ascii "\nplain yes\n") text
-    ↔ ((p : Parts) × (R : Rule) × AcceptedJob job p R × AcceptingRun R (p .lead) (p .tail)))
+    ↔ ((p : Parts) × (R : Rule) × AcceptedJob job p R × Keeps R (p .lead) (p .tail)))
     × (Prints (ascii "verdict no\n") (ascii "\nplain no\n") text
-    ↔ ((p : Parts) × (R : Rule) × AcceptedJob job p R × (AcceptingRun R (p .lead) (p .tail) → ⊥)))
+    ↔ ((p : Parts) × (R : Rule) × AcceptedJob job p R × (Keeps R (p .lead) (p .tail) → ⊥)))

@@ -6,7 +6,8 @@ use crate::split::split_job;
 use agree::both::judge_both;
 use plain::limits::SCRATCH_LENGTH;
 use tree::rows::Tree;
-ghost use Rattle.job.specs.JobCall.{JobAnswer, PartsAnswers, judgeOutcome};
+ghost use Rattle.word.specs.Judging.{walkQuestions};
+ghost use Rattle.job.specs.JobCall.{JobAnswer, PartsAnswers};
 
 // The length of a text's array: no answer to a job has more bytes.
 pub const ROOM: usize = 128;
@@ -19,7 +20,7 @@ pub struct Text {
 
 // Questions 1 to 6 to the table, 7 and 8 to the walk; then the five lines.
 fn judge_parts<'a>(table: &[u8], u: &'a [u8], v: &'a [u8]) -> Text
-    ensures { λ r. ⌜ PartsAnswers (judgeOutcome (now (table .entry)) (now (u .entry)) (now (v .entry))) (now (u .entry)) (now (v .entry)) r ⌝ }
+    ensures { λ r. ⌜ PartsAnswers (walkQuestions (now (table .entry)) (now (u .entry)) (now (v .entry))) (now (u .entry)) (now (v .entry)) r ⌝ }
 {
     let mut names = [0u8; Tree::NAME];
     let mut scratch = [0u8; SCRATCH_LENGTH];

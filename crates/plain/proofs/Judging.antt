@@ -1,4 +1,4 @@
--- The judge on a read table: what its calls need, and that its verdict is right for every rule that the table holds.
+-- The judge on look-ups that are ready for a walk: what its calls need, and that its verdict is right for every rule that they are of.
 use mathlib.Core.Path.{_≡_, sym, _∙_}
 use mathlib.Core.List.{List}
 use Prim.Native.Nat.{ℕ, _≤_, _<_}
@@ -7,41 +7,22 @@ use lib.ListN.{getD}
 use Rattle.table.specs.Limits.{maxStates, maxLetters, maxSets}
 use Rattle.table.specs.Rule.{Rule}
 use Rattle.table.specs.Table.{Every}
-use Rattle.table.specs.HeldRule.{HoldsRule}
 use Rattle.table.specs.declared.header.Header.{Header}
 use Rattle.table.proofs.Every.{every-weaker}
-use Rattle.word.specs.Loop.{Loop}
+use Rattle.word.specs.Keeps.{KeepsByLoop}
+use Rattle.word.specs.Prepared.{Prepared}
 use Rattle.word.specs.Verdict.{Decides}
-use Rattle.word.specs.WalkTables.{Tables, Tabled, tablesAfter}
-use Rattle.word.proofs.WalkTables.{tables-for}
+use Rattle.word.specs.WalkTables.{Tables, Tabled}
 use Rattle.word.proofs.Verdicts.{decides-same}
 use Rattle.plain.specs.Ways.{ways, AreWays}
 use Rattle.plain.specs.Letters.{statesAfter, ownRow, rowAfter}
 use Rattle.plain.specs.Rounds.{widened}
 use Rattle.plain.specs.Search.{SomeLoop}
-use Rattle.plain.specs.Walks.{Walks}
 use Rattle.plain.proofs.WaysLead.{states-out, states-in, tail-out, tail-in}
 use Rattle.plain.proofs.RoundsLead.{TailWays, RoundsWays, rounds-ways}
 use Rattle.plain.proofs.LoopSearch.{LeadStates, found-loop, loop-found}
 
--- THE TABLES
-
--- with the tables of its letters a walk can be judged
-pub held-walks : {R : Rule} {header : Header} {words : List (List ℕ)} → HoldsRule R header words
-    → (u v : List ℕ) → Every (λ a. a < header .letters) u → Every (λ a. a < header .letters) v
-    → (before tables : Tables) → tables ≡ tablesAfter words u v before → Walks R header tables u v
-held-walks h u v lead tail before tables made =
-    let (lead-tabled, tail-tabled) = tables-for h u v lead tail before tables made in
-    record {
-      numbers = h .numbers;
-      limits = h .limits;
-      lead = lead-tabled;
-      tail = tail-tabled;
-    }
-
--- THE VERDICT
-
-module _ {R : Rule} {header : Header} {tables : Tables} {u v : List ℕ} (w : Walks R header tables u v) where
+module _ {R : Rule} {header : Header} {tables : Tables} {u v : List ℕ} (w : Prepared R header tables u v) where
   -- the numbers and the letters are within the limits
   pub states-few : header .states ≤ maxStates
   states-few = rw (w .numbers) (w .limits .states)
@@ -62,8 +43,8 @@ module _ {R : Rule} {header : Header} {tables : Tables} {u v : List ℕ} (w : Wa
   pub verdict-right : (verdict from : ℕ) (tail wide : List ℕ) → from ≡ statesAfter tables u (header .start)
       → ((s : ℕ) → s < header .states → getD tail s 0 ≡ rowAfter tables v (ownRow s))
       → AreWays (header .states) (widened (header .states) (ways tail)) wide
-      → Decides verdict (SomeLoop (ways wide) (header .states) (header .sets) from) → Decides verdict (Loop R u v)
-  unfolding ways
+      → Decides verdict (SomeLoop (ways wide) (header .states) (header .sets) from) → Decides verdict (KeepsByLoop R u v)
+  unfolding ways KeepsByLoop
   verdict-right verdict from tail wide start rows more d =
       decides-same (found-loop R (w .limits .well) (w .limits .sets) u v from lead (ways wide) rounds)
       (loop-found R (w .limits .well) (w .limits .sets) u v from lead (ways wide) rounds) (rw (w .numbers) at d)

@@ -9,5 +9,4 @@ pub mod LoopSearch
 pub mod Searching
 pub mod ScratchBytes
 pub mod Judging
-pub mod PlainCalls
 pub mod PlainVerdict

@@ -1,14 +1,14 @@
--- What the plain judge's contract says: its verdict decides whether an endless run goes through every set infinitely
--- often, its number tells whether the call is accepted, and the contract leaves no choice of the answer. How many scratch
--- bytes are wanted does not matter to the answer.
+-- What the plain judge's contract says: its verdict decides whether the walk keeps the rule, its number tells whether the
+-- call is accepted, and the contract leaves no choice of the answer. How many scratch bytes are wanted does not matter to the
+-- answer.
 use mathlib.Core.Path.{_≡_, sym, _∙_, ap}
 use mathlib.Core.List.{List, []}
 use Prim.Native.Nat.{ℕ}
 use Rattle.table.specs.Outcome.{Outcome, refused, accepted, numberOf}
 use Rattle.table.specs.Rule.{Rule}
 use Rattle.table.specs.Table.{WellFormed}
-use Rattle.word.specs.Judging.{judgeQuestions}
-use Rattle.word.specs.Run.{AcceptingRun}
+use Rattle.word.specs.Judging.{walkQuestions}
+use Rattle.word.specs.Keeps.{Keeps}
 use Rattle.word.specs.Verdict.{Decides}
 use Rattle.word.proofs.JudgeQuestions.{with-room}
 use Rattle.word.proofs.LoopTheorem.{loop-theorem}
@@ -17,12 +17,12 @@ use Rattle.word.proofs.Verdicts.{decides-one, decides-same}
 use Rattle.plain.specs.PlainCall.{scratchLength, plainOutcome, PlainAnswers, PlainNumber, SameAsBefore}
 use Rattle.plain.specs.declared.judge.PlainAnswer.{PlainAnswer}
 
--- an accepted call says yes just if some endless run goes through every accepting set infinitely often, and no otherwise
+-- an accepted call says yes just if the walk keeps the rule, and no otherwise
 pub plain-decides : (R : Rule) (u v : List ℕ) (answer : PlainAnswer) → PlainAnswers (accepted R) u v answer → WellFormed R → (v ≡ [] → ⊥)
-    → Decides (answer .verdict) (AcceptingRun R u v)
+    → Decides (answer .verdict) (Keeps R u v)
 plain-decides R u v answer (_, d) well nonempty =
-    let (run-to-loop, loop-to-run) = loop-theorem R u v well nonempty in
-    decides-same loop-to-run run-to-loop d
+    let (to-loop, from-loop) = loop-theorem R u v well nonempty in
+    decides-same from-loop to-loop d
 
 -- the number of an answer that the contract allows
 plain-answers : (o : Outcome Rule) (u v : List ℕ) (answer : PlainAnswer) → PlainAnswers o u v answer → answer .number ≡ numberOf o
@@ -44,6 +44,6 @@ plain-determined (accepted R) u v a b (x, d) (y, e) =
 
 pub same-as-before : SameAsBefore
 same-as-before needed needed′ table u v scratch scratch′ answer answer′ h h′ P Q =
-    plain-determined (judgeQuestions 0 table u v []) u v answer answer′
+    plain-determined (walkQuestions table u v) u v answer answer′
     (rw (with-room needed table u v scratch h) at P)
     (rw (with-room needed′ table u v scratch′ h′) at Q)

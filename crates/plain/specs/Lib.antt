@@ -5,4 +5,3 @@ pub mod Ways
 pub mod Letters
 pub mod Rounds
 pub mod Search
-pub mod Walks

@@ -8,7 +8,7 @@ use Rattle.table.specs.Outcome.{Outcome, refused, accepted, Tells}
 use Rattle.table.specs.Rule.{Rule}
 use Rattle.table.specs.Storing.{stored}
 use Rattle.word.specs.Judging.{judgeQuestions}
-use Rattle.word.specs.Loop.{Loop}
+use Rattle.word.specs.Keeps.{KeepsByLoop}
 use Rattle.word.specs.Verdict.{Decides}
 use Rattle.plain.specs.declared.judge.PlainAnswer.{PlainAnswer}
 
@@ -20,15 +20,23 @@ scratchLength = 256
 unfoldable pub plainOutcome : List ℕ → List ℕ → List ℕ → List ℕ → Outcome Rule
 plainOutcome table u v scratch = judgeQuestions scratchLength table u v scratch
 
--- the answer: yes exactly when the walk keeps the rule, that is, when there is a loop; on a refusal its number and zero
+-- the answer: yes exactly when the walk keeps the rule, by a loop; on a refusal its number and zero
 abbrev pub PlainAnswers : Outcome Rule → List ℕ → List ℕ → PlainAnswer → Type 0
 PlainAnswers (refused number) u v answer = answer ≡ record { number = number; verdict = 0 }
-PlainAnswers (accepted R) u v answer = (answer .number ≡ 0) × Decides (answer .verdict) (Loop R u v)
+PlainAnswers (accepted R) u v answer = (answer .number ≡ 0) × Decides (answer .verdict) (KeepsByLoop R u v)
 
 -- the scratch bytes afterwards: "the bytes it wants are still left zero, those past them unchanged"; on a refusal all unchanged
 unfoldable pub scratchAfter : Outcome Rule → List ℕ → List ℕ
 scratchAfter (refused number) scratch = scratch
 scratchAfter (accepted R) scratch = stored 0 (replicate scratchLength 0) scratch
+
+-- answer and scratch bytes together
+abbrev pub PlainDone : Outcome Rule → List ℕ → List ℕ → List ℕ → PlainAnswer → List ℕ → Type 0
+PlainDone o u v scratch answer after = PlainAnswers o u v answer × (after ≡ scratchAfter o scratch)
+
+-- the contract of the call: for a table, a walk and lent scratch bytes, this answer, and these scratch bytes afterwards
+abbrev pub PlainCall : List ℕ → List ℕ → List ℕ → List ℕ → PlainAnswer → List ℕ → Type 0
+PlainCall table u v scratch answer after = PlainDone (plainOutcome table u v scratch) u v scratch answer after
 
 -- the number that a caller sees tells whether the call is accepted
 abbrev pub PlainNumber : Type 0

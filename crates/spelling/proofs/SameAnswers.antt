@@ -10,28 +10,24 @@ use Rattle.table.proofs.RefusalNumbers.{NotZero, ask-number, tells}
 use Rattle.word.specs.Verdict.{Decides}
 use Rattle.word.specs.Walk.{lengthsFit, SameLetters}
 use Rattle.word.proofs.Verdicts.{decides-one}
-use Rattle.spelling.specs.SameCall.{sameOutcome, SameAnswers, SameNumber}
+use Rattle.spelling.specs.SameCall.{sameOutcome, SameAnswers, SameCall, SameNumber}
 use Rattle.spelling.specs.declared.same.SameAnswer.{SameAnswer}
 
 module _ (u v u′ v′ : List ℕ) where
-  -- what the contract says of an answer
-  abbrev Allowed : SameAnswer → Type 0
-  Allowed answer = SameAnswers (sameOutcome u v u′ v′) u v u′ v′ answer
-
   -- the first walk has no allowed length
-  pub first-refused : lengthsFit u v ≡ false → Allowed (record { number = 7; same = 0 })
+  pub first-refused : lengthsFit u v ≡ false → SameCall u v u′ v′ (record { number = 7; same = 0 })
   unfolding sameOutcome
   first-refused e = rw e refl
 
   module _ (fit : lengthsFit u v ≡ true) where
     -- the second has none
-    pub second-refused : lengthsFit u′ v′ ≡ false → Allowed (record { number = 7; same = 0 })
+    pub second-refused : lengthsFit u′ v′ ≡ false → SameCall u v u′ v′ (record { number = 7; same = 0 })
     unfolding sameOutcome
     second-refused e = rw (fit, e) refl
 
     -- both have
     pub walks-compared : lengthsFit u′ v′ ≡ true → (same : ℕ) → Decides same (SameLetters u v u′ v′)
-        → Allowed (record { number = 0; same = same })
+        → SameCall u v u′ v′ (record { number = 0; same = same })
     unfolding sameOutcome
     walks-compared fit′ same d = rw (fit, fit′) (refl, d)
 

@@ -17,8 +17,11 @@ abbrev pub SameAnswers : Outcome (Unit {0}) → List ℕ → List ℕ → List �
 SameAnswers (refused number) u v u′ v′ answer = answer ≡ record { number = number; same = 0 }
 SameAnswers (accepted _) u v u′ v′ answer = (answer .number ≡ 0) × Decides (answer .same) (SameLetters u v u′ v′)
 
+-- the contract of the call: for two walks, this answer
+abbrev pub SameCall : List ℕ → List ℕ → List ℕ → List ℕ → SameAnswer → Type 0
+SameCall u v u′ v′ answer = SameAnswers (sameOutcome u v u′ v′) u v u′ v′ answer
+
 -- the number that a caller sees tells whether the call is accepted
 abbrev pub SameNumber : Type 0
 SameNumber =
-    (u v u′ v′ : List ℕ) (answer : SameAnswer) → SameAnswers (sameOutcome u v u′ v′) u v u′ v′ answer
-    → Tells (sameOutcome u v u′ v′) (answer .number)
+    (u v u′ v′ : List ℕ) (answer : SameAnswer) → SameCall u v u′ v′ answer → Tells (sameOutcome u v u′ v′) (answer .number)

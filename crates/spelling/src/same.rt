@@ -7,7 +7,7 @@ ghost use lib.ListN.{length};
 ghost use Rattle.word.specs.Verdict.{Decides};
 ghost use Rattle.word.specs.Walk.{SameLetters, lengthsFit, letterAt};
 ghost use Rattle.spelling.specs.Comparing.{wrapped};
-ghost use Rattle.spelling.specs.SameCall.{SameAnswers, sameOutcome};
+ghost use Rattle.spelling.specs.SameCall.{SameCall};
 
 // The answer: 0 and whether the walks are one (1 yes, 0 no), or the number of the question that failed and zero.
 #[repr(C)]
@@ -75,8 +75,7 @@ fn same_letters(u: &[u8], v: &[u8], u2: &[u8], v2: &[u8]) -> u8
 
 // ARE TWO WALKS ONE: question 7 to the first, then to the second; then whether they have the same letter at every position.
 pub fn same_walk(u: &[u8], v: &[u8], u2: &[u8], v2: &[u8]) -> SameAnswer
-    ensures { λ r. ⌜ SameAnswers (sameOutcome (now (u .entry)) (now (v .entry)) (now (u2 .entry)) (now (v2 .entry)))
-        (now (u .entry)) (now (v .entry)) (now (u2 .entry)) (now (v2 .entry)) r ⌝ }
+    ensures { λ r. ⌜ SameCall (now (u .entry)) (now (v .entry)) (now (u2 .entry)) (now (v2 .entry)) r ⌝ }
 {
     if !lengths_fit(u, v) {
         return SameAnswer { number: 7, same: 0 };

@@ -6,18 +6,20 @@ use mathlib.Core.List.{List}
 use Prim.Native.Nat.{ℕ, suc, _%_, _^_, _<_, _≤_}
 use native.Mathlib.Decide.{decLt}
 use native.Mathlib.Omega.{arith}
-use borrow.Author.Tests.{lt-ltb, ltb-true}
+use borrow.Author.Tests.{lt-ltb}
 use lib.Dec.{ltb}
 use lib.ListN.{getD, List·getD-eq-default}
 use Rattle.table.specs.BitSet.{member, collect}
 use Rattle.table.specs.Limits.{maxSets}
-use Rattle.table.specs.Outcome.{Outcome, refused, accepted, ask, _then_}
+use Rattle.table.specs.LetterQuestions.{letterQuestions}
+use Rattle.table.specs.Outcome.{Outcome, refused, accepted}
 use Rattle.table.specs.Rule.{Rule, edge, edgeIn, image, successors, successorsIn}
-use Rattle.table.specs.Table.{WellFormed, inRange, readRule}
+use Rattle.table.specs.Table.{WellFormed, inRange}
 use Rattle.table.specs.Tabulate.{tabulate}
-use Rattle.table.proofs.Accepted.{IfAccepted, of-accepted, asked}
+use Rattle.table.proofs.Accepted.{IfAccepted, asked}
 use Rattle.table.proofs.BitSet.{empty-set, image-in, image-out, image-mod, some-member, member-none, member-collect}
 use Rattle.table.proofs.Edges.{edge-inside, edgeIn-edge, edgeIn-set}
+use Rattle.table.proofs.LetterAsked.{letter-accepted}
 use Rattle.table.proofs.Logic.{clash, never, and-both}
 use Rattle.table.proofs.Ranges.{in-range}
 use Rattle.table.proofs.RoundTrip.{read-well-formed}
@@ -64,24 +66,13 @@ module _ (R : Rule) (well : WellFormed R) (a : ℕ) where
       go i large (yes small) = getD-tabulate maxSets (λ i. successorsIn R (suc i) a s) i 0 small ∙ no-set i s large
       go i large (no other) = List·getD-eq-default maps 0 (omega (arith, length-tabulate maxSets (λ i. successorsIn R (suc i) a s)))
 
--- an accepted call: the table is read as the rule, and the letter is one of its letters
-accepted-call : (table : List ℕ) (a : ℕ) (R : Rule) → successorsOutcome table a ≡ accepted R → (readRule table ≡ accepted R) × (a < R .letters)
-unfolding successorsOutcome
-accepted-call table a R e = go (readRule table) refl e
-  where
-    Known : Rule → Type 0
-    Known S = (readRule table ≡ accepted S) × (a < S .letters)
-
-    go : (o : Outcome Rule) → readRule table ≡ o → (o then λ S. ask (ltb a (S .letters)) 8 (accepted S)) ≡ accepted R → Known R
-    go (refused number) is e = let z : _≡_ {A = ℕ} 0 1 = cc in absurd (omega arith)
-    go (accepted S) is e = of-accepted Known _ R e (asked Known (ltb a (S .letters)) 8 (accepted S) (λ t. (is, ltb-true _ _ t)))
-
 -- THE THEOREMS
 
 pub reached-exactly : ReachedExactly
+unfolding successorsOutcome
 reached-exactly table a s answer e none =
     let (R, is) = successors-number table a s .accepts .0 (rw e at none) in
-    let (reads, small) = accepted-call table a R is in
+    let (reads, small) = letter-accepted table a R is in
     (R, reads, small, rw (e, is) (reached R (read-well-formed table R reads .0) a s))
 
 -- sets with the same members below n have the same image
@@ -98,7 +89,7 @@ same-answer (accepted R) a s t h = rw (
 )
 
 pub states-from-n : StatesFromN
-unfolding successorsOutcome
+unfolding successorsOutcome letterQuestions
 states-from-n table a s t R reads same = same-answer (successorsOutcome table a) a s t
     (rw reads (asked (λ R. s % 2 ^ (R .states) ≡ t % 2 ^ (R .states)) (ltb a (R .letters)) 8 (accepted R) (λ _. same)))
 

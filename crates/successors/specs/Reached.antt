@@ -10,7 +10,7 @@ use Rattle.table.specs.Limits.{maxSets}
 use Rattle.table.specs.Outcome.{accepted}
 use Rattle.table.specs.Rule.{Rule, edge, edgeIn}
 use Rattle.table.specs.Table.{readRule}
-use Rattle.successors.specs.SuccessorsCall.{successorsOutcome, successorsAnswer}
+use Rattle.successors.specs.SuccessorsCall.{successorsOutcome, successorsAnswer, SuccessorsCall}
 use Rattle.successors.specs.declared.call.SuccessorsAnswer.{SuccessorsAnswer}
 
 -- some state of s, below n, has a transition to r, of those that E names
@@ -31,7 +31,7 @@ pub record Reached (R : Rule) (a s : ℕ) (answer : SuccessorsAnswer) : Type 0 w
 -- is read as, the letter is one of its letters, and the answer has exactly the states reached
 abbrev pub ReachedExactly : Type 0
 ReachedExactly =
-    (table : List ℕ) (a s : ℕ) (answer : SuccessorsAnswer) → answer ≡ successorsAnswer (successorsOutcome table a) a s
+    (table : List ℕ) (a s : ℕ) (answer : SuccessorsAnswer) → SuccessorsCall table a s answer
     → answer .number ≡ 0 → (R : Rule) × (readRule table ≡ accepted R) × (a < R .letters) × Reached R a s answer
 
 -- "States from n up in the given set add nothing.": sets with the same states below n have the same answer
@@ -48,6 +48,6 @@ everyState = 65535
 -- the letter belongs to the set
 abbrev pub Serves : Type 0
 Serves =
-    (table : List ℕ) (a : ℕ) (answer : SuccessorsAnswer) → answer ≡ successorsAnswer (successorsOutcome table a) a everyState
+    (table : List ℕ) (a : ℕ) (answer : SuccessorsAnswer) → SuccessorsCall table a everyState answer
     → answer .number ≡ 0 → (R : Rule) × (readRule table ≡ accepted R)
     × ((i : ℕ) → i < maxSets → (getD (answer .reached) i 0 ≡ 0 → ⊥) ↔ ((q : ℕ) × (r : ℕ) × (edgeIn (R .grid) (suc i) a q r ≡ true)))

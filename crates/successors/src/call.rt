@@ -1,21 +1,17 @@
 // The look-up of a set's successors as a call: for screens that show which accepting sets a letter can serve.
 use table::lanes::map_of;
-use table::limits::LETTERS;
-use table::limits::NO_TRANSITION;
+use table::letter::letter_questions;
 use table::limits::SETS;
-use table::limits::STATES;
 use table::lookup::ENTRIES;
-use table::lookup::fill_table;
 use table::lookup::look_up;
 use table::reader::Reading;
-use table::reader::read_rule;
 ghost use mathlib.Core.Path.{_≡_};
 ghost use Prim.Native.Nat.{ℕ, suc};
 ghost use Rattle.table.specs.Limits.{maxSets};
 ghost use Rattle.table.specs.Lanes.{mapOf};
 ghost use Rattle.table.specs.Outcome.{refused};
 ghost use Rattle.table.specs.Tabulate.{tabulate};
-ghost use Rattle.successors.specs.SuccessorsCall.{successorsAnswer, successorsOutcome};
+ghost use Rattle.successors.specs.SuccessorsCall.{SuccessorsCall, successorsAnswer};
 
 // 0, the map of the next states, and for each accepting set the map of those that a transition of it reaches: set i at place i − 1,
 // 0 for a set that the rule does not have. Or the number of the question that failed and zeros.
@@ -52,20 +48,13 @@ fn maps_by_set(images: u64) -> [u16; SETS]
 
 // THE SUCCESSORS of some states under a letter. Questions 1 to 6, then 8.
 pub fn successors(table: &[u8], letter: u8, states: u16) -> SuccessorsAnswer
-    ensures { λ r. ⌜ r ≡ successorsAnswer (successorsOutcome (now (table .entry)) letter) letter states ⌝ }
+    ensures { λ r. ⌜ SuccessorsCall (now (table .entry)) letter states r ⌝ }
 {
-    let mut cells = [[[NO_TRANSITION; STATES]; STATES]; LETTERS];
-    let mut words = [[0u64; STATES]; LETTERS];
-    match read_rule(table, &mut cells, &mut words) {
+    let mut lookup = [0u64; ENTRIES];
+    match letter_questions(table, letter, &mut lookup) {
         Reading::Refused(number) => refusal(number),
-        Reading::Rule(header) => {
-            let a = letter as usize;
-            if header.letters <= a {
-                return refusal(8);
-            }
-            let mut letter_table = [0u64; ENTRIES];
-            fill_table(&words[a], &mut letter_table);
-            let images = look_up(&letter_table, states);
+        Reading::Rule(_) => {
+            let images = look_up(&lookup, states);
             let next = map_of(images, 0);
             let reached = maps_by_set(images);
             SuccessorsAnswer {

@@ -10,6 +10,11 @@ abbrev pub IfAccepted : {A : Type 0} → (A → Type 0) → Outcome A → Type 0
 IfAccepted P (refused number) = Unit {0}
 IfAccepted P (accepted a) = P a
 
+-- an accepted outcome is that of its value
+pub itself : {A : Type 0} (o : Outcome A) → IfAccepted (λ a. o ≡ accepted a) o
+itself (refused number) = tt
+itself (accepted a) = refl
+
 module _ {A : Type 0} (P : A → Type 0) where
   -- the property of an accepted value
   pub of-accepted : (o : Outcome A) (a : A) → o ≡ accepted a → IfAccepted P o → P a

@@ -22,6 +22,7 @@ pub mod RowWords
 pub mod ManyReading
 pub mod HeldReading
 pub mod RuleReading
+pub mod Asked
 pub mod GridReading
 pub mod Holding
 -- Output into lent buffers, and the writer.
@@ -37,3 +38,4 @@ pub mod LaneLaws
 pub mod ByRelation
 pub mod LookupSteps
 pub mod LookupTable
+pub mod LetterAsked

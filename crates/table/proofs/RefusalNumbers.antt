@@ -9,6 +9,7 @@ use lib.ListN.{length, getD, drop}
 use Rattle.table.specs.Outcome.{Outcome, refused, accepted, ask, _then_, numberOf, Tells}
 use Rattle.table.specs.Table.{Read, inRange, startFits, askHeader, readByte, readTransition, readRow, readCell, readMany, readGrid}
 use Rattle.table.specs.Table.{ended, readBody, readRule, gridFits, writeRule}
+use Rattle.table.specs.LetterQuestions.{letterQuestions}
 
 -- if the outcome is a refusal, its number has the property P
 abbrev pub IfRefused : {A : Type 0} → (ℕ → Type 0) → Outcome A → Type 0
@@ -96,6 +97,13 @@ rule-number table =
     let start = getD table 3 0 in
     ask-number NotZero (leb 4 (length table)) 1 _ (λ e. omega arith)
     (header-number n m k start _ (body-number n m k start (drop 4 table)))
+
+-- QUESTIONS 1 TO 6, AND 8 TO A LETTER
+
+pub letter-number : (table : List ℕ) (a : ℕ) → IfRefused NotZero (letterQuestions table a)
+unfolding letterQuestions
+letter-number table a = then-number NotZero (readRule table) _ (rule-number table) (λ R.
+    ask-number NotZero (ltb a (R .letters)) 8 _ (λ e. omega arith) tt)
 
 -- QUESTIONS 2, 3 AND 11
 

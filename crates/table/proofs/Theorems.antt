@@ -12,18 +12,13 @@ use Rattle.table.specs.Table.{WellFormed, tableBytes, gridBytes, readRul
 use Rattle.table.specs.ReadCall.{readOutcome, readAnswer, gridAfter}
 use Rattle.table.specs.WriteCall.{writeOutcome, writeAnswer}
 use Rattle.table.specs.Theorems.{WrittenReadsBack, ReadWritesBack, ReadNumber, WriteNumber, AcceptedTables, AcceptedLengths}
-use Rattle.table.proofs.Accepted.{IfAccepted, of-accepted, asked, followed}
+use Rattle.table.proofs.Accepted.{itself, of-accepted, asked, followed}
 use Rattle.table.proofs.RefusalNumbers.{NotZero, ask-number, then-number, tells, rule-number, write-number}
 use Rattle.table.proofs.Parts.{fits-squares, grid-length}
 use Rattle.table.proofs.RoundTrip.{read-well-formed, read-bytes, bytes-read, written-well-formed, table-length}
 use Rattle.table.proofs.RoundTrip.{rule-written-reads-back, rule-read-writes-back}
 
 -- THE CALLS AND THE RULE
-
--- an accepted outcome is that of its value
-itself : {A : Type 0} (o : Outcome A) → IfAccepted (λ a. o ≡ accepted a) o
-itself (refused number) = tt
-itself (accepted a) = refl
 
 -- an accepted call read the rule that the table says
 rule-read : (table buffer : List ℕ) (R : Rule) → readOutcome table buffer ≡ accepted R → readRule table ≡ accepted R

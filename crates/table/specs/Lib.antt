@@ -5,6 +5,7 @@ pub mod Tabulate
 pub mod Outcome
 pub mod Rule
 pub mod Table
+pub mod LetterQuestions
 pub mod Cells
 pub mod Storing
 pub mod ReadCall
@@ -19,3 +20,4 @@ pub mod Writing
 pub mod Lanes
 pub mod Lookup
 pub mod LookupSteps
+pub mod Preparing

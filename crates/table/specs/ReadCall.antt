@@ -1,4 +1,5 @@
 -- The reader's calls: what they answer, and what they leave in the lent bytes, for all inputs.
+use mathlib.Core.Path.{_≡_}
 use mathlib.Core.List.{List}
 use Prim.Native.Nat.{ℕ, _*_}
 use lib.Dec.{leb}
@@ -30,6 +31,10 @@ readAnswer (accepted R) = record { number = 0; states = R .states; letters = R .
 unfoldable pub gridAfter : Outcome Rule → List ℕ → List ℕ
 gridAfter (refused number) buffer = buffer
 gridAfter (accepted R) buffer = stored 0 (gridBytes (R .grid)) buffer
+
+-- the contract of the call: for a table and a lent buffer, this answer, and these bytes in the buffer afterwards
+abbrev pub ReadCall : List ℕ → List ℕ → ReadAnswer → List ℕ → Type 0
+ReadCall table grid answer after = (answer ≡ readAnswer (readOutcome table grid)) × (after ≡ gridAfter (readOutcome table grid) grid)
 
 -- INSIDE: `read_rule`, for the crates above
 

@@ -1,4 +1,5 @@
 -- The writer's call: what it answers, and what it leaves in the lent bytes, for all inputs.
+use mathlib.Core.Path.{_≡_}
 use mathlib.Core.List.{List}
 use Prim.Native.Nat.{ℕ}
 use lib.Dec.{leb}
@@ -24,3 +25,8 @@ writeAnswer (accepted table) = record { number = 0; written = length table }
 unfoldable pub tableAfter : Outcome (List ℕ) → List ℕ → List ℕ
 tableAfter (refused number) buffer = buffer
 tableAfter (accepted table) buffer = stored 0 table buffer
+
+-- the contract of the call: for numbers, a grid and a lent buffer, this answer, and these bytes in the buffer afterwards
+abbrev pub WriteCall : ℕ → ℕ → ℕ → ℕ → List ℕ → List ℕ → WriteAnswer → List ℕ → Type 0
+WriteCall n m k start grid table answer after =
+    (answer ≡ writeAnswer (writeOutcome n m k start grid table)) × (after ≡ tableAfter (writeOutcome n m k start grid table) table)

@@ -4,6 +4,7 @@ mod cursor;
 mod grid;
 pub mod header;
 pub mod lanes;
+pub mod letter;
 pub mod limits;
 pub mod lookup;
 pub mod reader;

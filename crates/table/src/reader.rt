@@ -15,10 +15,9 @@ ghost use Prim.Native.Nat.{_≤_};
 ghost use lib.ListN.{drop};
 ghost use Rattle.table.specs.Limits.{maxLetters, maxSets, maxStates};
 ghost use Rattle.table.specs.Outcome.{refused};
-ghost use Rattle.table.specs.Held.{blankCells};
-ghost use Rattle.table.specs.Lookup.{gridWords};
 ghost use Rattle.table.specs.Table.{readBody, readRule};
-ghost use Rattle.table.specs.ReadCall.{cellsAfter, gridAfter, readAnswer, readOutcome, readingOf};
+ghost use Rattle.table.specs.Preparing.{Blank, ReadInto};
+ghost use Rattle.table.specs.ReadCall.{ReadCall, readAnswer};
 
 // The numbers of the rule that was read, or the number of the question that failed.
 pub enum Reading {
@@ -38,20 +37,18 @@ pub struct ReadAnswer {
 
 // No transition anywhere, and no image.
 fn blank(cells: &mut Cells, words: &mut Words)
-    ensures { λ _. ⌜ (now (cells .exit) ≡ blankCells) × (now (words .exit) ≡ gridWords (now (cells .exit))) ⌝ }
+    ensures { λ _. ⌜ Blank (now (cells .exit)) (now (words .exit)) ⌝ }
 {
     *cells = [[[NO_TRANSITION; STATES]; STATES]; LETTERS];
     *words = [[0u64; STATES]; LETTERS];
 }
 
-// Questions 4, 5 and 6: the cells behind the header, and the end of the table.
+// Questions 4, 5 and 6: the cells behind the header, into blank arrays, and the end of the table.
 fn read_body(table: &[u8], header: Header, cells: &mut Cells, words: &mut Words) -> Reading
-    requires { ⌜ (header .states ≤ maxStates) × ((header .letters ≤ maxLetters) × (header .sets ≤ maxSets)) ⌝ }
-    ensures { λ r. ⌜ (r ≡ readingOf (readBody (header .states) (header .letters) (header .sets) (header .start) (drop 4 (now (table .entry)))))
-        × (now (cells .exit) ≡ cellsAfter (readBody (header .states) (header .letters) (header .sets) (header .start) (drop 4 (now (table .entry)))))
-        × (now (words .exit) ≡ gridWords (now (cells .exit))) ⌝ }
+    requires { ⌜ ((header .states ≤ maxStates) × ((header .letters ≤ maxLetters) × (header .sets ≤ maxSets))) × Blank (now cells) (now words) ⌝ }
+    ensures { λ r. ⌜ ReadInto (readBody (header .states) (header .letters) (header .sets) (header .start) (drop 4 (now (table .entry))))
+        r (now (cells .exit)) (now (words .exit)) ⌝ }
 {
-    blank(cells, words);
     match read_cells(
         table,
         Cursor { at: 4 },
@@ -75,13 +72,12 @@ fn read_body(table: &[u8], header: Header, cells: &mut Cells, words: &mut Words)
     }
 }
 
-// Questions 1 to 6. On yes the arrays hold the rule's grid; on no they are blank. The words are those of the grid.
+// Questions 1 to 6, with blank arrays. On yes they hold the rule's grid; on no they are blank. The words are those of the grid.
 pub fn read_rule(table: &[u8], cells: &mut Cells, words: &mut Words) -> Reading
-    ensures { λ r. ⌜ (r ≡ readingOf (readRule (now (table .entry)))) × (now (cells .exit) ≡ cellsAfter (readRule (now (table .entry))))
-        × (now (words .exit) ≡ gridWords (now (cells .exit))) ⌝ }
+    requires { ⌜ Blank (now cells) (now words) ⌝ }
+    ensures { λ r. ⌜ ReadInto (readRule (now (table .entry))) r (now (cells .exit)) (now (words .exit)) ⌝ }
 {
     if table.len() < 4 {
-        blank(cells, words);
         return Reading::Refused(1);
     }
     let header = Header {
@@ -92,7 +88,6 @@ pub fn read_rule(table: &[u8], cells: &mut Cells, words: &mut Words) -> Reading
     };
     let number = header_number(header.states, header.letters, header.sets, header.start);
     if number != 0 {
-        blank(cells, words);
         return Reading::Refused(number);
     }
     read_body(table, header, cells, words)
@@ -113,8 +108,7 @@ fn refusal(number: u8) -> ReadAnswer
 
 // THE READER: table bytes to grid bytes in a lent buffer. Questions 1 to 6, then 10.
 pub fn read(table: &[u8], grid: &mut [u8]) -> ReadAnswer
-    ensures { λ r. ⌜ (r ≡ readAnswer (readOutcome (now (table .entry)) (now (grid .entry))))
-        × (now (grid .exit) ≡ gridAfter (readOutcome (now (table .entry)) (now (grid .entry))) (now (grid .entry))) ⌝ }
+    ensures { λ r. ⌜ ReadCall (now (table .entry)) (now (grid .entry)) r (now (grid .exit)) ⌝ }
 {
     let mut cells = [[[NO_TRANSITION; STATES]; STATES]; LETTERS];
     let mut words = [[0u64; STATES]; LETTERS];

@@ -9,7 +9,7 @@ ghost use Rattle.table.specs.Limits.{maxStates};
 ghost use Rattle.table.specs.Outcome.{refused};
 ghost use Rattle.table.specs.Storing.{stored};
 ghost use Rattle.table.specs.Table.{cellBytes, mapByte, setBytes, writeRule};
-ghost use Rattle.table.specs.WriteCall.{tableAfter, writeAnswer, writeOutcome};
+ghost use Rattle.table.specs.WriteCall.{WriteCall, writeAnswer};
 ghost use Rattle.table.specs.Writing.{countedAs, lengthOf, rowCells, transitionCount};
 
 // The writer's answer: 0 and the table's length, or the number of the question that failed and zero.
@@ -159,8 +159,7 @@ fn refusal(number: u8) -> WriteAnswer
 // THE WRITER: a rule's numbers and grid bytes to table bytes in a lent buffer. Questions 2, 3 and 11, then 10; only then
 // the table is written.
 pub fn write(n: usize, m: usize, k: usize, start: u16, grid: &[u8], table: &mut [u8]) -> WriteAnswer
-    ensures { λ r. ⌜ (r ≡ writeAnswer (writeOutcome n m k start (now (grid .entry)) (now (table .entry))))
-        × (now (table .exit) ≡ tableAfter (writeOutcome n m k start (now (grid .entry)) (now (table .entry))) (now (table .entry))) ⌝ }
+    ensures { λ r. ⌜ WriteCall n m k start (now (grid .entry)) (now (table .entry)) r (now (table .exit)) ⌝ }
 {
     match table_length(n, m, k, start, grid) {
         Length::Refused(number) => refusal(number),

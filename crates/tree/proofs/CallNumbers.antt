@@ -3,13 +3,14 @@ use mathlib.Core.Path.{_≡_, refl}
 use mathlib.Core.List.{List}
 use Prim.Native.Nat.{ℕ}
 use native.Mathlib.Omega.{arith}
-use lib.Dec.{leb, ltb}
+use lib.Dec.{leb}
 use lib.ListN.{length}
+use Rattle.table.specs.LetterQuestions.{letterQuestions}
 use Rattle.table.specs.Outcome.{Outcome, refused, accepted, numberOf}
 use Rattle.table.specs.Table.{readRule}
-use Rattle.table.proofs.RefusalNumbers.{IfRefused, NotZero, ask-number, then-number, tells, rule-number}
+use Rattle.table.proofs.RefusalNumbers.{IfRefused, NotZero, ask-number, then-number, tells, rule-number, letter-number}
 use Rattle.history.specs.Record.{isRecord, readTree}
-use Rattle.tree.specs.TreeCalls.{recordRoom, startOutcome, startAnswer, Moved, stepOutcome, stepAnswer, StartNumber, StepNumber}
+use Rattle.tree.specs.TreeCalls.{recordRoom, startOutcome, startAnswer, Moved, stepUnder, stepOutcome, stepAnswer, StartNumber, StepNumber}
 
 -- THE STARTING RECORD
 
@@ -34,11 +35,10 @@ unfolding readTree
 tree-questions n k bytes = ask-number NotZero (isRecord n k bytes) 9 _ (λ e. omega arith) tt
 
 step-questions : (table : List ℕ) (a : ℕ) (bytes buffer : List ℕ) → IfRefused NotZero (stepOutcome table a bytes buffer)
-unfolding stepOutcome
-step-questions table a bytes buffer = then-number NotZero (readRule table) _ (rule-number table) (λ R.
-    ask-number NotZero (ltb a (R .letters)) 8 _ (λ e. omega arith)
-    (then-number NotZero (readTree (R .states) (R .sets) bytes) _ (tree-questions (R .states) (R .sets) bytes) (λ T.
-    ask-number NotZero (leb recordRoom (length buffer)) 10 _ (λ e. omega arith) tt)))
+unfolding stepOutcome stepUnder
+step-questions table a bytes buffer = then-number NotZero (letterQuestions table a) _ (letter-number table a) (λ R.
+    then-number NotZero (readTree (R .states) (R .sets) bytes) _ (tree-questions (R .states) (R .sets) bytes) (λ T.
+    ask-number NotZero (leb recordRoom (length buffer)) 10 _ (λ e. omega arith) tt))
 
 step-answers : (o : Outcome Moved) → stepAnswer o .number ≡ numberOf o
 unfolding stepAnswer

@@ -1,9 +1,12 @@
 -- The calls on trees: what they answer, and what they leave in the lent buffer, for all inputs.
+use mathlib.Core.Path.{_≡_}
 use mathlib.Core.List.{List}
 use Prim.Native.Nat.{ℕ}
-use lib.Dec.{leb, ltb}
+use lib.Dec.{leb}
 use lib.ListN.{length}
+use Rattle.table.specs.LetterQuestions.{letterQuestions}
 use Rattle.table.specs.Outcome.{Outcome, refused, accepted, ask, _then_, Tells}
+use Rattle.table.specs.Rule.{Rule}
 use Rattle.table.specs.Table.{readRule}
 use Rattle.table.specs.Storing.{stored}
 use Rattle.history.specs.Tree.{startTree}
@@ -33,6 +36,11 @@ unfoldable pub startAfter : Outcome (List ℕ) → List ℕ → List ℕ
 startAfter (refused number) buffer = buffer
 startAfter (accepted bytes) buffer = stored 0 bytes buffer
 
+-- the contract of the call: for a table and a lent buffer, this answer, and these bytes in the buffer afterwards
+abbrev pub StartCall : List ℕ → List ℕ → StartAnswer → List ℕ → Type 0
+StartCall table buffer answer after =
+    (answer ≡ startAnswer (startOutcome table buffer)) × (after ≡ startAfter (startOutcome table buffer) buffer)
+
 -- ONE LETTER
 
 -- "The step answers the new record and two map bytes by old node number, accepting and stable."
@@ -41,14 +49,16 @@ pub record Moved : Type 0 where
   pub accepting : ℕ
   pub stable : ℕ
 
--- questions 1 to 6, 8, 9 and 10
-unfoldable pub stepOutcome : List ℕ → ℕ → List ℕ → List ℕ → Outcome Moved
-stepOutcome table a bytes buffer =
-    readRule table then λ R.
-    ask (ltb a (R .letters)) 8
-    (readTree (R .states) (R .sets) bytes then λ T.
+-- questions 9 and 10, under a rule and one of its letters
+unfoldable pub stepUnder : Rule → ℕ → List ℕ → List ℕ → Outcome Moved
+stepUnder R a bytes buffer =
+    readTree (R .states) (R .sets) bytes then λ T.
     ask (leb recordRoom (length buffer)) 10
-    (accepted (record { bytes = recordOf (R .states) (nextTree R a T); accepting = acceptingMap R a T; stable = stableMap R a T })))
+    (accepted (record { bytes = recordOf (R .states) (nextTree R a T); accepting = acceptingMap R a T; stable = stableMap R a T }))
+
+-- questions 1 to 6 and 8, then 9 and 10
+unfoldable pub stepOutcome : List ℕ → ℕ → List ℕ → List ℕ → Outcome Moved
+stepOutcome table a bytes buffer = letterQuestions table a then λ R. stepUnder R a bytes buffer
 
 unfoldable pub stepAnswer : Outcome Moved → StepAnswer
 stepAnswer (refused number) = record { number = number; written = 0; accepting = 0; stable = 0 }
@@ -59,6 +69,14 @@ stepAnswer (accepted moved) =
 unfoldable pub stepAfter : Outcome Moved → List ℕ → List ℕ
 stepAfter (refused number) buffer = buffer
 stepAfter (accepted moved) buffer = stored 0 (moved .bytes) buffer
+
+-- answer and buffer together
+abbrev pub StepDone : Outcome Moved → List ℕ → StepAnswer → List ℕ → Type 0
+StepDone o buffer answer after = (answer ≡ stepAnswer o) × (after ≡ stepAfter o buffer)
+
+-- the contract of the call: for a table, a letter, a record and a lent buffer, this answer, and these bytes in the buffer afterwards
+abbrev pub StepCall : List ℕ → ℕ → List ℕ → List ℕ → StepAnswer → List ℕ → Type 0
+StepCall table letter bytes buffer answer after = StepDone (stepOutcome table letter bytes buffer) buffer answer after
 
 -- THE NUMBERS that a caller sees: each tells whether the call is accepted
 

@@ -4,16 +4,21 @@ use crate::rows::Tree;
 use crate::sides::OnSide;
 use crate::step::step_rows;
 use crate::writing::put_record;
+use table::header::Header;
+use table::letter::letter_questions;
 use table::limits::LETTERS;
 use table::limits::NO_TRANSITION;
 use table::limits::STATES;
 use table::lookup::ENTRIES;
-use table::lookup::fill_table;
+use table::lookup::LetterTable;
 use table::reader::Reading;
 use table::reader::read_rule;
 ghost use mathlib.Core.Path.{_≡_};
+ghost use Prim.Native.Nat.{ℕ};
 ghost use Rattle.table.specs.Outcome.{refused};
-ghost use Rattle.tree.specs.TreeCalls.{startOutcome, startAnswer, startAfter, stepOutcome, stepAnswer, stepAfter};
+ghost use Rattle.table.specs.Preparing.{PreparedLetter};
+ghost use Rattle.table.specs.Rule.{Rule};
+ghost use Rattle.tree.specs.TreeCalls.{StartCall, StepCall, StepDone, startAnswer, stepAnswer, stepUnder};
 
 // 0 and the record's length, or the number of the question that failed and zero.
 #[repr(C)]
@@ -44,8 +49,7 @@ fn start_refusal(number: u8) -> StartAnswer
 
 // THE STARTING RECORD of a table, in a lent buffer. Questions 1 to 6, then 10.
 pub fn start(table: &[u8], buffer: &mut [u8]) -> StartAnswer
-    ensures { λ r. ⌜ (r ≡ startAnswer (startOutcome (now (table .entry)) (now (buffer .entry))))
-        × (now (buffer .exit) ≡ startAfter (startOutcome (now (table .entry)) (now (buffer .entry))) (now (buffer .entry))) ⌝ }
+    ensures { λ r. ⌜ StartCall (now (table .entry)) (now (buffer .entry)) r (now (buffer .exit)) ⌝ }
 {
     let mut cells = [[[NO_TRANSITION; STATES]; STATES]; LETTERS];
     let mut words = [[0u64; STATES]; LETTERS];
@@ -65,6 +69,7 @@ pub fn start(table: &[u8], buffer: &mut [u8]) -> StartAnswer
     }
 }
 
+// A refusal: its number and zero for all else.
 fn step_refusal(number: u8) -> StepAnswer
     ensures { λ r. ⌜ r ≡ stepAnswer (refused number) ⌝ }
 {
@@ -76,45 +81,48 @@ fn step_refusal(number: u8) -> StepAnswer
     }
 }
 
+// Questions 9 and 10, then the letter, by its table and the numbers of a rule. It is right for every rule and letter that these are of.
+fn step_prepared(
+    lookup: &LetterTable,
+    header: Header,
+    bytes: &[u8],
+    buffer: &mut [u8],
+) -> StepAnswer
+    requires { ⌜ ((R : Rule) × (a : ℕ) × PreparedLetter R header a (now lookup)) ⌝ }
+    ensures { λ r. ⌜ ((R : Rule) (a : ℕ) → PreparedLetter R header a (now (lookup .entry))
+        → StepDone (stepUnder R a (now (bytes .entry)) (now (buffer .entry))) (now (buffer .entry)) r (now (buffer .exit))) ⌝ }
+{
+    let checked = Tree::checked(bytes, header.states, header.sets);
+    let nodes = checked.count;
+    let tree = checked.tree;
+    let Count::Nodes(count) = nodes else {
+        return step_refusal(9);
+    };
+    if buffer.len() < Tree::RECORD {
+        return step_refusal(10);
+    }
+    let mut sides = tree.laid();
+    let next = step_rows(lookup, header.sets as u8, &mut sides, 0, count);
+    let after = OnSide {
+        side: 1,
+        count: next.count,
+    };
+    let written = put_record(Tree::taken(&sides, after), header.states, buffer);
+    StepAnswer {
+        number: 0,
+        written: written,
+        accepting: next.accepting,
+        stable: next.stable,
+    }
+}
+
 // ONE LETTER on a record: the next tree's record in a lent buffer, and the two maps. Questions 1 to 6, 8, 9, then 10.
 pub fn step(table: &[u8], letter: u8, bytes: &[u8], buffer: &mut [u8]) -> StepAnswer
-    ensures { λ r. ⌜ (r ≡ stepAnswer (stepOutcome (now (table .entry)) letter (now (bytes .entry)) (now (buffer .entry))))
-        × (now (buffer .exit) ≡ stepAfter (stepOutcome (now (table .entry)) letter (now (bytes .entry)) (now (buffer .entry)))
-        (now (buffer .entry))) ⌝ }
+    ensures { λ r. ⌜ StepCall (now (table .entry)) letter (now (bytes .entry)) (now (buffer .entry)) r (now (buffer .exit)) ⌝ }
 {
-    let mut cells = [[[NO_TRANSITION; STATES]; STATES]; LETTERS];
-    let mut words = [[0u64; STATES]; LETTERS];
-    match read_rule(table, &mut cells, &mut words) {
+    let mut lookup = [0u64; ENTRIES];
+    match letter_questions(table, letter, &mut lookup) {
         Reading::Refused(number) => step_refusal(number),
-        Reading::Rule(header) => {
-            let a = letter as usize;
-            if header.letters <= a {
-                return step_refusal(8);
-            }
-            let checked = Tree::checked(bytes, header.states, header.sets);
-            let nodes = checked.count;
-            let tree = checked.tree;
-            let Count::Nodes(count) = nodes else {
-                return step_refusal(9);
-            };
-            if buffer.len() < Tree::RECORD {
-                return step_refusal(10);
-            }
-            let mut letter_table = [0u64; ENTRIES];
-            fill_table(&words[a], &mut letter_table);
-            let mut sides = tree.laid();
-            let next = step_rows(&letter_table, header.sets as u8, &mut sides, 0, count);
-            let after = OnSide {
-                side: 1,
-                count: next.count,
-            };
-            let written = put_record(Tree::taken(&sides, after), header.states, buffer);
-            StepAnswer {
-                number: 0,
-                written: written,
-                accepting: next.accepting,
-                stable: next.stable,
-            }
-        }
+        Reading::Rule(header) => step_prepared(&lookup, header, bytes, buffer),
     }
 }

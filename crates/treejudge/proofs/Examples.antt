@@ -7,12 +7,13 @@ use Prim.Native.Nat.{ℕ}
 use native.Mathlib.Omega.{arith}
 use lib.Count.{ones, onesIn}
 use lib.ListN.{replicate, length-replicate}
+use Rattle.table.specs.LetterQuestions.{letterQuestions}
 use Rattle.table.specs.Outcome.{Outcome, refused, accepted}
 use Rattle.table.specs.Rule.{Rule}
 use Rattle.table.specs.Table.{Every, readRule}
 use Rattle.table.proofs.Every.{every-weaker}
 use Rattle.table.proofs.Logic.{and-in}
-use Rattle.word.specs.Judging.{judgeQuestions}
+use Rattle.word.specs.Judging.{walkQuestions, judgeQuestions}
 use Rattle.word.specs.Walk.{lengthsFit, lettersBelow, askWalk}
 use Rattle.word.proofs.JudgeQuestions.{with-room}
 use Rattle.word.proofs.WalkQuestions.{lengths-in}
@@ -22,7 +23,7 @@ use Rattle.history.specs.Letter.{byNumber, acceptingMap, stableMap}
 use Rattle.history.specs.Record.{hostFrom, host, membersFrom, members, marks, recordOf, rank, hostedIn, planted, decoded, isRecord, readTree}
 use Rattle.history.specs.Finding.{Finding}
 use Rattle.history.proofs.VerdictTest.{verdictTest, verdict-by-test, ruleTest, rule-by-test}
-use Rattle.tree.specs.TreeCalls.{recordRoom, startOutcome, stepOutcome}
+use Rattle.tree.specs.TreeCalls.{recordRoom, startOutcome, stepUnder, stepOutcome}
 use Rattle.treejudge.specs.JudgeCall.{nameRoom, treeOutcome, treeAnswer, namesAfter, TreeAnswers}
 use Rattle.treejudge.specs.Examples.{Example, starts, steps, judges, refuses, Holds, AlwaysAnswers, tableA, tableB, tableC, examples}
 use Rattle.treejudge.proofs.TreeVerdict.{tree-determined}
@@ -36,7 +37,7 @@ rowTest table u v entry period finding =
 -- all questions are answered yes
 call-accepted : (table u v : List ℕ) (R : Rule) → readRule table ≡ accepted R → lengthsFit u v ≡ true
     → (lettersBelow (R .letters) u && lettersBelow (R .letters) v) ≡ true → treeOutcome table u v (replicate nameRoom 0) ≡ accepted R
-unfolding treeOutcome judgeQuestions askWalk
+unfolding treeOutcome judgeQuestions walkQuestions askWalk
 call-accepted table u v R reads fit below = rw (reads, fit, below)
 
 row-holds : (table u v : List ℕ) (entry period : ℕ) (finding : Finding) → rowTest table u v entry period finding ≡ true
@@ -58,7 +59,11 @@ row-answers table u v entry period finding h names answer after room T =
     let (R, accepts, repeats, found) = row-holds table u v entry period finding h in
     tree-determined (accepted R) u v names answer (treeAnswer entry period finding) after (namesAfter finding names)
     (subst (λ (o : Outcome Rule). TreeAnswers o u v names answer after) (as-blank ∙ accepts) T)
-    (record { entry = entry; period = period; repeat = repeats; finding = finding; found = found; answers = refl; leaves = refl }) .0
+    (record {
+      walk = record { entry = entry; period = period; repeat = repeats; finding = finding; found = found };
+      answers = refl;
+      leaves = refl;
+    }) .0
   where
     blank : List ℕ
     blank = replicate nameRoom 0
@@ -85,6 +90,6 @@ computed-holds (refuses table u v number) h = h
 pub examples-hold : Every Holds examples
 unfolding rowTest ones onesIn size labels disjoint strictlyInside nodesFit isTree byNumber acceptingMap stableMap
     hostFrom host membersFrom members marks recordOf rank hostedIn planted decoded isRecord readTree
-    startOutcome stepOutcome askWalk judgeQuestions treeOutcome tableA tableB tableC examples
+    letterQuestions startOutcome stepUnder stepOutcome askWalk walkQuestions judgeQuestions treeOutcome tableA tableB tableC examples
 examples-hold = every-weaker Computes Holds examples computed-holds
     (refl, (refl, (refl, (refl, (refl, (refl, (refl, (refl, (refl, (refl, (refl, (refl, (refl, tt)))))))))))))

@@ -1,4 +1,4 @@
--- The judge on a read table: what its calls need, and that its answer is right for every rule that the table holds.
+-- The judge on look-ups that are ready for a walk: what its calls need, and that its answer is right for every rule that they are of.
 use mathlib.Core.Path.{_≡_, refl, sym, _∙_, ap}
 use mathlib.Core.Bool.{false, true}
 use mathlib.Core.List.{List, [], append-nil}
@@ -9,13 +9,13 @@ use lib.ListN.{length, getD, take, length-take}
 use Rattle.table.specs.BitSet.{member}
 use Rattle.table.specs.Limits.{maxStates}
 use Rattle.table.specs.Rule.{Rule}
-use Rattle.table.specs.Table.{Every}
 use Rattle.table.specs.Storing.{stored}
-use Rattle.table.specs.HeldRule.{HoldsRule}
 use Rattle.table.specs.declared.header.Header.{Header}
 use Rattle.table.proofs.BitSet.{some-member}
 use Rattle.table.proofs.Logic.{clash}
+use Rattle.word.specs.Prepared.{Prepared}
 use Rattle.word.specs.Walk.{rounds, lettersLeft}
+use Rattle.word.specs.WalkTables.{Tables}
 use Rattle.history.specs.Forest.{size, names}
 use Rattle.history.specs.Tree.{startTree}
 use Rattle.history.specs.Rounds.{roundTree}
@@ -25,8 +25,6 @@ use Rattle.history.proofs.TreesOf.{of-few}
 use Rattle.tree.specs.RecordRows.{startRows, HasRows}
 use Rattle.tree.proofs.StartCall.{start-holds}
 use Rattle.treejudge.specs.JudgeCall.{noName, treeAnswer, namesAfter, Judged}
-use Rattle.word.specs.WalkTables.{Tables, Tabled, tablesAfter}
-use Rattle.word.proofs.WalkTables.{tables-for}
 use Rattle.treejudge.specs.Reading.{HasSets, Reads, ReadsTo}
 use Rattle.treejudge.specs.Cycles.{AtRound}
 use Rattle.treejudge.specs.Repeats.{RepeatOf}
@@ -40,31 +38,25 @@ lead-left : (u v w : List ℕ) → w ≡ lettersLeft false u v 0 → u ≡ w
 unfolding lettersLeft
 lead-left u v w e = sym e
 
-module _ (R : Rule) (header : Header) (words : List (List ℕ)) (h : HoldsRule R header words) where
+module _ {R : Rule} {header : Header} {tables : Tables} {u v : List ℕ} (p : Prepared R header tables u v) where
   -- the rule is within the limits
   has-sets : HasSets R (header .sets)
   has-sets = record {
-    number = rw (h .numbers);
-    limits = h .limits;
+    number = rw (p .numbers);
+    limits = p .limits;
   }
 
   -- so its number of sets fits in a byte
   pub sets-small : header .sets < 256
-  sets-small = rw (h .numbers) (omega (arith, h .limits .sets))
+  sets-small = rw (p .numbers) (omega (arith, p .limits .sets))
 
-  module _ (start : CodeTree) (made : HasRows (startRows (header .start)) start) (u v w : List ℕ) (left : w ≡ lettersLeft false u v 0)
-      (lead : Every (λ a. a < header .letters) u) (tail : Every (λ a. a < header .letters) v) (before tables : Tables)
-      (filled : tables ≡ tablesAfter words u v before) where
-    -- the letters of the walk have their tables
-    tabled : Every (Tabled R tables) u × Every (Tabled R tables) v
-    tabled = tables-for h u v lead tail before tables filled
-
+  module _ (start : CodeTree) (made : HasRows (startRows (header .start)) start) (w : List ℕ) (left : w ≡ lettersLeft false u v 0) where
     -- u is read from the starting tree
     pub lead-reads : (x : CodeTree) → x ≡ start → Reads R (startTree R) tables (header .sets) w x
     lead-reads x is = rw is (record {
       holds = has-sets;
-      tabled = rw (lead-left u v w left) at (tabled .0);
-      tree = start-holds (h .limits) start (rw (h .numbers) at made);
+      tabled = rw (lead-left u v w left) at (p .lead);
+      tree = start-holds (p .limits) start (rw (p .numbers) at made);
     })
 
     -- and leads to t(0)
@@ -72,7 +64,7 @@ module _ (R : Rule) (header : Header) (words : List (List ℕ)) (h : HoldsRule R
     unfolding ReadsTo roundTree rounds
     first-round first to = record {
       holds = has-sets;
-      tabled = tabled .1;
+      tabled = p .tail;
       tree = rw (append-nil u, lead-left u v w left) (to R (startTree R) (lead-reads start refl));
     }
 
@@ -82,11 +74,7 @@ module _ (R : Rule) (u v : List ℕ) (r : Repeat) (S : RepeatOf R u v r) (before
       → Judged R u v before (record { number = 0; verdict = 0; entry = r .entry; period = r .period; length = noName }) before
   unfolding treeAnswer namesAfter
   says-no none = record {
-    entry = r .entry;
-    period = r .period;
-    repeat = S .repeat;
-    finding = no-node;
-    found = S .none none;
+    walk = record { entry = r .entry; period = r .period; repeat = S .repeat; finding = no-node; found = S .none none };
     answers = refl;
     leaves = refl;
   }
@@ -123,11 +111,13 @@ module _ (R : Rule) (u v : List ℕ) (r : Repeat) (S : RepeatOf R u v r) (before
         let w : take (name .length) (name .numbers) ≡ getD (names (S .tree)) j [] = is .numbers R (S .tree) (S .holds) in
         let l : name .length ≡ length (getD (names (S .tree)) j []) =
         omega (arith, length-take (name .length) (name .numbers), is .places, is .short, ap length w) in record {
-          entry = r .entry;
-          period = r .period;
-          repeat = S .repeat;
-          finding = yes-node (getD (names (S .tree)) j []);
-          found = first-witness;
+          walk = record {
+            entry = r .entry;
+            period = r .period;
+            repeat = S .repeat;
+            finding = yes-node (getD (names (S .tree)) j []);
+            found = first-witness;
+          };
           answers = λ i. record { number = 0; verdict = 1; entry = r .entry; period = r .period; length = l i };
           leaves = stores ∙ ap (λ (x : List ℕ). stored 0 x before) w;
         }

@@ -1,7 +1,6 @@
--- What the contract says, the examples of document 01, and the public call.
+-- What the contract says, the examples of document 01, and the judge on look-ups that are ready.
 pub mod TreeVerdict
 pub mod Examples
-pub mod JudgeCalls
 pub mod Judging
 -- Reading letters, and following names through them.
 pub mod LettersRead

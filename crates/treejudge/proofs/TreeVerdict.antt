@@ -1,6 +1,5 @@
--- What the tree judge's contract says: its verdict decides whether an endless run goes through every set infinitely often, its number
--- tells whether the call is accepted, and the contract leaves no choice of the answer or of the buffer. Two rules with the same cells along a
--- walk are judged alike.
+-- What the tree judge's contract says: its verdict decides whether the walk keeps the rule, its number tells whether the call is accepted,
+-- and the contract leaves no choice of the answer or of the buffer. Two rules with the same cells along a walk are judged alike.
 use mathlib.Core.Path.{_≡_, refl, sym, _∙_, ap}
 use mathlib.Core.Logic.{inl, inr}
 use mathlib.Core.List.{List, []}
@@ -9,10 +8,10 @@ use lib.ListN.{length}
 use Rattle.table.specs.Outcome.{Outcome, refused, accepted, numberOf}
 use Rattle.table.specs.Rule.{Rule}
 use Rattle.table.specs.Table.{WellFormed}
-use Rattle.word.specs.Run.{AcceptingRun}
+use Rattle.word.specs.Keeps.{Keeps}
 use Rattle.word.specs.Verdict.{Decides}
 use Rattle.history.specs.Rounds.{roundTree}
-use Rattle.history.specs.Finding.{Finding, yes-node, no-node, Found}
+use Rattle.history.specs.Finding.{Finding, yes-node, no-node, Found, WalkJudged}
 use Rattle.history.proofs.FirstRepeats.{repeat-unique}
 use Rattle.history.proofs.FirstWitness.{first-unique}
 use Rattle.history.proofs.SameAlong.{found-along, repeat-along}
@@ -24,20 +23,27 @@ use Rattle.treejudge.specs.declared.judge.TreeAnswer.{TreeAnswer}
 
 -- DEMAND 3, THE TREE JUDGE'S PART
 
--- an accepted call says yes just if some endless run goes through every accepting set infinitely often, and no otherwise
-pub tree-decides : (R : Rule) (u v names : List ℕ) (answer : TreeAnswer) (after : List ℕ) → Judged R u v names answer after
-    → WellFormed R → 1 ≤ R .sets → (v ≡ [] → ⊥) → Decides (answer .verdict) (AcceptingRun R u v)
-unfolding treeAnswer
-tree-decides R u v names answer after J well sets nonempty = go (J .finding) (J .found) (J .answers)
+-- what is judged of a walk decides whether it keeps the rule: whatever says 1 for a finding with a node, and 0 for one without
+pub walk-decides : (R : Rule) (u v : List ℕ) (J : WalkJudged R u v) → WellFormed R → 1 ≤ R .sets → (v ≡ [] → ⊥)
+    → (verdict : Finding → ℕ) → ((w : List ℕ) → verdict (yes-node w) ≡ 1) → verdict no-node ≡ 0
+    → Decides (verdict (J .finding)) (Keeps R u v)
+walk-decides R u v J well sets nonempty verdict one none = go (J .finding) (J .found)
   where
-    go : (f : Finding) → Found R u v (J .entry) (J .period) f → answer ≡ treeAnswer (J .entry) (J .period) f
-        → Decides (answer .verdict) (AcceptingRun R u v)
-    go (yes-node w) found is =
-        inl (ap (λ (x : TreeAnswer). x .verdict) is, tree-theorem R well sets u v nonempty (J .entry) (J .period) (J .repeat) .0 (w, found .witness))
-    go no-node none is = inr (
-      ap (λ (x : TreeAnswer). x .verdict) is,
-      λ run. let (w, W) = tree-theorem R well sets u v nonempty (J .entry) (J .period) (J .repeat) .1 run in none w W,
+    go : (f : Finding) → Found R u v (J .entry) (J .period) f → Decides (verdict f) (Keeps R u v)
+    go (yes-node w) found =
+        inl (one w, tree-theorem R well sets u v nonempty (J .entry) (J .period) (J .repeat) .0 (w, found .witness))
+    go no-node no-witness = inr (
+      none,
+      λ keeps. let (w, W) = tree-theorem R well sets u v nonempty (J .entry) (J .period) (J .repeat) .1 keeps in no-witness w W,
     )
+
+-- so an accepted call says yes just if the walk keeps the rule, and no otherwise
+pub tree-decides : (R : Rule) (u v names : List ℕ) (answer : TreeAnswer) (after : List ℕ) → Judged R u v names answer after
+    → WellFormed R → 1 ≤ R .sets → (v ≡ [] → ⊥) → Decides (answer .verdict) (Keeps R u v)
+unfolding treeAnswer
+tree-decides R u v names answer after J well sets nonempty =
+    rw (J .answers) (walk-decides R u v (J .walk) well sets nonempty
+    (λ f. treeAnswer (J .walk .entry) (J .walk .period) f .verdict) (λ w. refl) refl)
 
 -- THE NUMBER
 
@@ -50,7 +56,7 @@ tree-answers : (o : Outcome Rule) (u v names : List ℕ) (answer : TreeAnswer) (
     → answer .number ≡ numberOf o
 tree-answers (refused number) u v names answer after (is, _) = ap (λ (x : TreeAnswer). x .number) is
 tree-answers (accepted R) u v names answer after J =
-    ap (λ (x : TreeAnswer). x .number) (J .answers) ∙ found-number (J .entry) (J .period) (J .finding)
+    ap (λ (x : TreeAnswer). x .number) (J .answers) ∙ found-number (J .walk .entry) (J .walk .period) (J .walk .finding)
 
 pub tree-number : TreeNumber
 unfolding treeOutcome
@@ -66,15 +72,19 @@ found-one R u v entry period (yes-node w) no-node F none = absurd (none w (F .wi
 found-one R u v entry period no-node (yes-node p) none G = absurd (none p (G .witness))
 found-one R u v entry period no-node no-node F G = refl
 
+-- what is judged of a walk is determined
+pub walk-one : {R : Rule} {u v : List ℕ} (J K : WalkJudged R u v)
+    → (J .entry ≡ K .entry) × (J .period ≡ K .period) × (J .finding ≡ K .finding)
+walk-one {R} {u} {v} J K =
+    let (e, p) = repeat-unique (roundTree R u v) (J .entry) (J .period) (K .entry) (K .period) (J .repeat) (K .repeat) in
+    (e, p, found-one R u v (K .entry) (K .period) (J .finding) (K .finding) (rw (e, p) at (J .found)) (K .found))
+
 -- two calls that are accepted with one rule and one walk give one answer and have one finding, with whatever buffers
 pub judged-one : {R : Rule} {u v names names′ : List ℕ} {a b : TreeAnswer} {x y : List ℕ} (J : Judged R u v names a x)
-    (K : Judged R u v names′ b y) → (a ≡ b) × (J .finding ≡ K .finding)
-judged-one {R} {u} {v} J K =
-    let (e, p) = repeat-unique (roundTree R u v) (J .entry) (J .period) (K .entry) (K .period) (J .repeat) (K .repeat) in
-    let f : J .finding ≡ K .finding =
-    found-one R u v (K .entry) (K .period) (J .finding) (K .finding) (rw (e, p) at (J .found)) (K .found) in
-    let same : treeAnswer (J .entry) (J .period) (J .finding) ≡ treeAnswer (K .entry) (K .period) (K .finding) = rw (e, p, f) in
-    (J .answers ∙ same ∙ sym (K .answers), f)
+    (K : Judged R u v names′ b y) → (a ≡ b) × (J .walk .finding ≡ K .walk .finding)
+judged-one J K =
+    let (e, p, f) = walk-one (J .walk) (K .walk) in
+    (J .answers ∙ rw (e, p, f) (sym (K .answers)), f)
 
 pub tree-determined : (o : Outcome Rule) (u v names : List ℕ) (a b : TreeAnswer) (x y : List ℕ)
     → TreeAnswers o u v names a x → TreeAnswers o u v names b y → (a ≡ b) × (x ≡ y)
@@ -89,13 +99,16 @@ tree-determined (accepted R) u v names a b x y J K =
 pub judged-along : {R S : Rule} {u v names : List ℕ} {answer : TreeAnswer} {after : List ℕ} → SameAlong R S u v u v → 1 ≤ length v
     → Judged R u v names answer after → Judged S u v names answer after
 judged-along same filled J =
-    let repeat = repeat-along same filled (J .repeat) in
+    let W = J .walk in
+    let repeat = repeat-along same filled (W .repeat) in
     record {
-      entry = J .entry;
-      period = J .period;
-      repeat = repeat;
-      finding = J .finding;
-      found = found-along same filled filled (J .repeat) repeat (J .finding) (J .found);
+      walk = record {
+        entry = W .entry;
+        period = W .period;
+        repeat = repeat;
+        finding = W .finding;
+        found = found-along same filled filled (W .repeat) repeat (W .finding) (W .found);
+      };
       answers = J .answers;
       leaves = J .leaves;
     }

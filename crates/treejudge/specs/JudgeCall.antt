@@ -8,8 +8,7 @@ use Rattle.table.specs.Outcome.{Outcome, refused, accepted, Tells}
 use Rattle.table.specs.Rule.{Rule}
 use Rattle.table.specs.Storing.{stored}
 use Rattle.word.specs.Judging.{judgeQuestions}
-use Rattle.history.specs.Rounds.{roundTree, FirstRepeat}
-use Rattle.history.specs.Finding.{Finding, yes-node, no-node, Found}
+use Rattle.history.specs.Finding.{Finding, yes-node, no-node, WalkJudged}
 use Rattle.treejudge.specs.declared.judge.TreeAnswer.{TreeAnswer}
 
 -- "7 for a name"
@@ -34,16 +33,11 @@ unfoldable pub namesAfter : Finding → List ℕ → List ℕ
 namesAfter (yes-node w) names = stored 0 w names
 namesAfter no-node names = names
 
--- an accepted call: entry and period are those of the first repeated tree at a round end, the finding is right, and the answer
--- and the buffer are as it says
+-- an accepted call: the walk is judged, and the answer and the buffer are as that says
 pub record Judged (R : Rule) (u v names : List ℕ) (answer : TreeAnswer) (after : List ℕ) : Type 0 where
-  pub entry : ℕ
-  pub period : ℕ
-  pub repeat : FirstRepeat (roundTree R u v) entry period
-  pub finding : Finding
-  pub found : Found R u v entry period finding
-  pub answers : answer ≡ treeAnswer entry period finding
-  pub leaves : after ≡ namesAfter finding names
+  pub walk : WalkJudged R u v
+  pub answers : answer ≡ treeAnswer (walk .entry) (walk .period) (walk .finding)
+  pub leaves : after ≡ namesAfter (walk .finding) names
 
 -- the answer and the buffer afterwards: on a refusal its number and zero for all else, the buffer unchanged
 abbrev pub TreeAnswers : Outcome Rule → List ℕ → List ℕ → List ℕ → TreeAnswer → List ℕ → Type 0
@@ -51,8 +45,12 @@ TreeAnswers (refused number) u v names answer after =
     (answer ≡ record { number = number; verdict = 0; entry = 0; period = 0; length = 0 }) × (after ≡ names)
 TreeAnswers (accepted R) u v names answer after = Judged R u v names answer after
 
+-- the contract of the call: for a table, a walk and a lent name buffer, this answer, and these bytes in the buffer afterwards
+abbrev pub TreeCall : List ℕ → List ℕ → List ℕ → List ℕ → TreeAnswer → List ℕ → Type 0
+TreeCall table u v names answer after = TreeAnswers (treeOutcome table u v names) u v names answer after
+
 -- the number that a caller sees tells whether the call is accepted
 abbrev pub TreeNumber : Type 0
 TreeNumber =
     (table u v names : List ℕ) (answer : TreeAnswer) (after : List ℕ)
-    → TreeAnswers (treeOutcome table u v names) u v names answer after → Tells (treeOutcome table u v names) (answer .number)
+    → TreeCall table u v names answer after → Tells (treeOutcome table u v names) (answer .number)

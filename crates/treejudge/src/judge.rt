@@ -6,21 +6,19 @@ use crate::name::store_name;
 use crate::repeat::find_repeat;
 use table::header::Header;
 use table::limits::LETTERS;
-use table::limits::NO_TRANSITION;
-use table::limits::STATES;
-use table::limits::Words;
 use table::lookup::ENTRIES;
 use table::reader::Reading;
-use table::reader::read_rule;
 use tree::rows::Tree;
-use word::tables::walk_tables;
+use word::questions::walk_questions;
+use word::tables::AllTables;
 use word::walk::letters_left;
-use word::walk::walk_number;
 ghost use mathlib.Core.Path.{_≡_};
-ghost use Rattle.table.specs.HeldRule.{HoldsRule};
+ghost use Prim.Native.Nat.{_≤_};
+ghost use lib.ListN.{length};
 ghost use Rattle.table.specs.Rule.{Rule};
-ghost use Rattle.word.specs.Judging.{Judgeable};
-ghost use Rattle.treejudge.specs.JudgeCall.{treeOutcome, TreeAnswers, Judged, nameRoom};
+ghost use Rattle.word.specs.Judging.{askRoom};
+ghost use Rattle.word.specs.Prepared.{Prepared};
+ghost use Rattle.treejudge.specs.JudgeCall.{Judged, TreeAnswers, TreeCall, nameRoom};
 
 // The tree judge's answer: 0, the verdict (1 yes, 0 no), entry and period, and the length of the node's name (255 on no); or the
 // number of the question that failed and zeros.
@@ -36,33 +34,31 @@ pub struct TreeAnswer {
 // A name length that is none: "On no, the length is 255".
 const NO_NAME: u8 = 255;
 
-// The judge on a read table, for any walk over its letters. Its answer is right for every rule that the table holds.
+// The answer to a walk whose look-ups are ready, with room for a name. It is right for every rule that the look-ups are of.
 fn judge_walk<'a>(
-    words: &Words,
+    tables: &AllTables,
     header: Header,
     u: &'a [u8],
     v: &'a [u8],
     names: &mut [u8],
 ) -> TreeAnswer
-    requires { ⌜ Judgeable header (now words) (now u) (now v) nameRoom (now names) ⌝ }
-    ensures { λ r. ⌜ ((R : Rule) → HoldsRule R header (now (words .entry))
+    requires { ⌜ ((R : Rule) × Prepared R header (now tables) (now u) (now v)) × (nameRoom ≤ length (now names)) ⌝ }
+    ensures { λ r. ⌜ ((R : Rule) → Prepared R header (now (tables .entry)) (now (u .entry)) (now (v .entry))
         → Judged R (now (u .entry)) (now (v .entry)) (now (names .entry)) r (now (names .exit))) ⌝ }
 {
     let k = header.sets as u8;
-    let mut tables = [[0u64; ENTRIES]; LETTERS];
-    walk_tables(words, u, v, &mut tables);
     // t(0) follows u
     let start = Tree::start(header.start);
     let mut sides = start.laid();
     let led = read_letters(
-        &tables,
+        tables,
         k,
         letters_left(u, v, false, 0),
         &mut sides,
         start.on_first_side(),
     );
     let first = Tree::taken(&sides, led);
-    let found = find_repeat(&tables, k, u, v, first);
+    let found = find_repeat(tables, k, u, v, first);
     if found.witnesses == 0 {
         return TreeAnswer {
             number: 0,
@@ -83,7 +79,8 @@ fn judge_walk<'a>(
     }
 }
 
-fn tree_refusal(number: u8) -> TreeAnswer
+// A refusal: its number and zero for all else.
+pub fn tree_refusal(number: u8) -> TreeAnswer
     ensures { λ r. ⌜ r ≡ record { number = number; verdict = 0; entry = 0; period = 0; length = 0 } ⌝ }
 {
     TreeAnswer {
@@ -95,24 +92,33 @@ fn tree_refusal(number: u8) -> TreeAnswer
     }
 }
 
+// The judge on look-ups that are ready for a walk: question 10 to the name buffer, then the verdict. It is right for every rule that the
+// look-ups are of.
+pub fn judge_prepared<'a>(
+    tables: &AllTables,
+    header: Header,
+    u: &'a [u8],
+    v: &'a [u8],
+    names: &mut [u8],
+) -> TreeAnswer
+    requires { ⌜ ((R : Rule) × Prepared R header (now tables) (now u) (now v)) ⌝ }
+    ensures { λ r. ⌜ ((R : Rule) → Prepared R header (now (tables .entry)) (now (u .entry)) (now (v .entry))
+        → TreeAnswers (askRoom nameRoom (now (names .entry)) R) (now (u .entry)) (now (v .entry)) (now (names .entry))
+        r (now (names .exit))) ⌝ }
+{
+    if names.len() < Tree::NAME {
+        return tree_refusal(10);
+    }
+    judge_walk(tables, header, u, v, names)
+}
+
 // THE TREE JUDGE: questions 1 to 6 to the table, 7 and 8 to the walk, 10 to the name buffer, then the verdict.
 pub fn tree_judge<'a>(table: &[u8], u: &'a [u8], v: &'a [u8], names: &mut [u8]) -> TreeAnswer
-    ensures { λ r. ⌜ TreeAnswers (treeOutcome (now (table .entry)) (now (u .entry)) (now (v .entry)) (now (names .entry)))
-        (now (u .entry)) (now (v .entry)) (now (names .entry)) r (now (names .exit)) ⌝ }
+    ensures { λ r. ⌜ TreeCall (now (table .entry)) (now (u .entry)) (now (v .entry)) (now (names .entry)) r (now (names .exit)) ⌝ }
 {
-    let mut cells = [[[NO_TRANSITION; STATES]; STATES]; LETTERS];
-    let mut words = [[0u64; STATES]; LETTERS];
-    match read_rule(table, &mut cells, &mut words) {
+    let mut tables = [[0u64; ENTRIES]; LETTERS];
+    match walk_questions(table, u, v, &mut tables) {
         Reading::Refused(number) => tree_refusal(number),
-        Reading::Rule(header) => {
-            let number = walk_number(header.letters, u, v);
-            if number != 0 {
-                return tree_refusal(number);
-            }
-            if names.len() < Tree::NAME {
-                return tree_refusal(10);
-            }
-            judge_walk(&words, header, u, v, names)
-        }
+        Reading::Rule(header) => judge_prepared(&tables, header, u, v, names),
     }
 }

@@ -6,10 +6,10 @@ use mathlib.Core.List.{List, []}
 use Prim.Native.Nat.{ℕ}
 use Rattle.table.specs.Rule.{Rule}
 use Rattle.table.specs.Table.{WellFormed}
-use Rattle.word.specs.Run.{AcceptingRun}
-use Rattle.word.specs.Loop.{Loop}
-pub use Rattle.word.proofs.RunToLoop.{run-loop}
-pub use Rattle.word.proofs.LoopToRun.{loop-run}
+use Rattle.word.specs.Keeps.{Keeps, KeepsByLoop}
+use Rattle.word.proofs.RunToLoop.{run-loop}
+use Rattle.word.proofs.LoopToRun.{loop-run}
 
-pub loop-theorem : (R : Rule) (u v : List ℕ) → WellFormed R → (v ≡ [] → ⊥) → AcceptingRun R u v ↔ Loop R u v
+pub loop-theorem : (R : Rule) (u v : List ℕ) → WellFormed R → (v ≡ [] → ⊥) → Keeps R u v ↔ KeepsByLoop R u v
+unfolding Keeps KeepsByLoop
 loop-theorem R u v wf nonempty = (run-loop R u v wf nonempty, loop-run R u v wf nonempty)

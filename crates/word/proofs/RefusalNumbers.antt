@@ -9,10 +9,10 @@ use Rattle.table.specs.Outcome.{Outcome, accepted, numberOf, Tells}
 use Rattle.table.specs.Table.{readRule}
 use Rattle.table.proofs.RefusalNumbers.{IfRefused, NotZero, ask-number, then-number, tells, rule-number}
 use Rattle.word.specs.Walk.{lengthsFit, lettersBelow, askWalk, walkOutcome, WalkNumber}
-use Rattle.word.specs.Judging.{judgeQuestions}
+use Rattle.word.specs.Judging.{walkQuestions, judgeQuestions}
 
 -- questions 7 and 8, and what follows
-pub ask-walk-number : {A : Type 0} (m : ℕ) (u v : List ℕ) (next : Outcome A) → IfRefused NotZero next → IfRefused NotZero (askWalk m u v next)
+ask-walk-number : {A : Type 0} (m : ℕ) (u v : List ℕ) (next : Outcome A) → IfRefused NotZero next → IfRefused NotZero (askWalk m u v next)
 unfolding askWalk
 ask-walk-number m u v next later =
     ask-number NotZero (lengthsFit u v) 7 _ (λ e. omega arith)
@@ -23,12 +23,15 @@ pub walk-tells : WalkNumber
 unfolding walkOutcome
 walk-tells m u v = tells (walkOutcome m u v) (ask-walk-number m u v (accepted tt) tt)
 
--- the questions of a judge, 10 behind them
-pub judge-number : (needed : ℕ) (table u v buffer : List ℕ) → IfRefused NotZero (judgeQuestions needed table u v buffer)
-unfolding judgeQuestions
-judge-number needed table u v buffer = then-number NotZero (readRule table) _ (rule-number table) (λ R.
-    ask-walk-number (R .letters) u v _ (ask-number NotZero (leb needed (length buffer)) 10 (accepted R) (λ e. omega arith) tt))
+-- put to a table and a walk
+pub walk-number : (table u v : List ℕ) → IfRefused NotZero (walkQuestions table u v)
+unfolding walkQuestions
+walk-number table u v = then-number NotZero (readRule table) _ (rule-number table) (λ R. ask-walk-number (R .letters) u v (accepted R) tt)
 
+-- the questions of a judge, 10 behind them
 pub judge-tells : (needed : ℕ) (table u v buffer : List ℕ)
     → Tells (judgeQuestions needed table u v buffer) (numberOf (judgeQuestions needed table u v buffer))
-judge-tells needed table u v buffer = tells (judgeQuestions needed table u v buffer) (judge-number needed table u v buffer)
+unfolding judgeQuestions
+judge-tells needed table u v buffer = tells (judgeQuestions needed table u v buffer)
+    (then-number NotZero (walkQuestions table u v) _ (walk-number table u v) (λ R.
+    ask-number NotZero (leb needed (length buffer)) 10 (accepted R) (λ e. omega arith) tt))

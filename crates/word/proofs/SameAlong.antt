@@ -1,6 +1,6 @@
--- Two rules, each along a walk. Where they have the same starting states, the same sets and at every position the same cells, an accepting run
--- of one is an accepting run of the other. So it is with two spellings of a walk under one rule (document 02, U6), and with two rules that
--- differ only in the cells of letters that the walk does not have (U10).
+-- Two rules, each along a walk. Where they have the same starting states, the same sets and at every position the same cells, the one walk
+-- keeps the one rule just if the other keeps the other. So it is with two spellings of a walk under one rule (document 02, U6), and with two
+-- rules that differ only in the cells of letters that the walk does not have (U10).
 use mathlib.Core.Path.{_≡_, refl, sym, _∙_, ap}
 use mathlib.Core.List.{List}
 use Prim.Native.Nat.{ℕ, suc, _≤_}
@@ -8,6 +8,7 @@ use lib.ListN.{length}
 use Rattle.table.specs.Rule.{Rule, squareOf}
 use Rattle.table.proofs.SameSquares.{same-edge, same-edge-in}
 use Rattle.word.specs.EqualOn.{EqualOn}
+use Rattle.word.specs.Keeps.{Keeps}
 use Rattle.word.specs.Run.{AcceptingRun}
 use Rattle.word.specs.Verdict.{Decides}
 use Rattle.word.specs.Walk.{letterAt, SameLetters}
@@ -45,7 +46,7 @@ module _ {R S : Rule} {u v u′ v′ : List ℕ} (same : SameAlong R S u v u′ 
   -- THE RUNS
 
   -- an accepting run of one is one of the other
-  pub run-along : AcceptingRun R u v → AcceptingRun S u′ v′
+  run-along : AcceptingRun R u v → AcceptingRun S u′ v′
   run-along A = record {
     run = record {
       state = state;
@@ -63,7 +64,12 @@ module _ {R S : Rule} {u v u′ v′ : List ℕ} (same : SameAlong R S u v u′ 
       state : ℕ → ℕ
       state = A .run .state
 
--- so two right verdicts are the same
+  -- so where the one walk keeps the one rule, the other keeps the other
+  pub keeps-along : Keeps R u v → Keeps S u′ v′
+  unfolding Keeps
+  keeps-along = run-along
+
+-- and two right verdicts are the same
 pub verdicts-along : {R S : Rule} {u v u′ v′ : List ℕ} {a b : ℕ} → SameAlong R S u v u′ v′
-    → Decides a (AcceptingRun R u v) → Decides b (AcceptingRun S u′ v′) → a ≡ b
-verdicts-along same right right′ = decides-one (decides-same (run-along same) (run-along (along-back same)) right) right′
+    → Decides a (Keeps R u v) → Decides b (Keeps S u′ v′) → a ≡ b
+verdicts-along same right right′ = decides-one (decides-same (keeps-along same) (keeps-along (along-back same)) right) right′

@@ -8,13 +8,13 @@ use native.Mathlib.Omega.{arith}
 use lib.Dec.{leb}
 use lib.ListN.{length}
 use Rattle.table.specs.Cells.{letterCells}
-use Rattle.table.specs.Outcome.{Outcome, refused, accepted, ask}
+use Rattle.table.specs.Outcome.{Outcome, refused, accepted, ask, _then_}
 use Rattle.table.specs.Rule.{Rule, squareOf}
 use Rattle.table.specs.Table.{readRule}
 use Rattle.table.proofs.Every.{every-weaker}
 use Rattle.table.proofs.LetterCells.{same-numbers, same-headers, same-cells}
 use Rattle.word.specs.EqualOn.{EqualOn, EqualBytesOn, EqualByBytes}
-use Rattle.word.specs.Judging.{judgeQuestions}
+use Rattle.word.specs.Judging.{walkQuestions, judgeQuestions}
 use Rattle.word.specs.Walk.{lengthsFit, lettersBelow, askWalk}
 use Rattle.word.proofs.WalkQuestions.{fit-nonempty}
 
@@ -52,7 +52,7 @@ pub same-way : (needed : ℕ) (table table′ u v buffer buffer′ : List ℕ) (
     → R .letters ≡ S .letters → length buffer ≡ length buffer′ → (P : Outcome Rule → Outcome Rule → Type 0)
     → ((number : ℕ) → (number ≡ 0 → ⊥) → P (refused number) (refused number)) → ((v ≡ [] → ⊥) → P (accepted R) (accepted S))
     → P (judgeQuestions needed table u v buffer) (judgeQuestions needed table′ u v buffer′)
-unfolding judgeQuestions askWalk
+unfolding judgeQuestions walkQuestions askWalk
 same-way needed table table′ u v buffer buffer′ R S reads reads′ letters long P both-refused both-accepted =
     rw (reads, reads′, ← below, ← room) (go (lengthsFit u v) refl (both (R .letters)) (leb needed (length buffer)))
   where
@@ -66,7 +66,8 @@ same-way needed table table′ u v buffer buffer′ R S reads reads′ letters l
     room = ap (leb needed) long
 
     go : (fit : Bool) → lengthsFit u v ≡ fit → (below room : Bool)
-        → P (ask fit 7 (ask below 8 (ask room 10 (accepted R)))) (ask fit 7 (ask below 8 (ask room 10 (accepted S))))
+        → P (ask fit 7 (ask below 8 (accepted R)) then λ R. ask room 10 (accepted R))
+        (ask fit 7 (ask below 8 (accepted S)) then λ S. ask room 10 (accepted S))
     go true fits true true = both-accepted (fit-nonempty u v fits)
     go true fits true false = both-refused 10 (λ e. omega arith)
     go true fits false room = both-refused 8 (λ e. omega arith)

@@ -16,6 +16,7 @@ use Rattle.table.proofs.BitSet.{member-lt}
 use Rattle.word.specs.Walk.{letterAt, rounds}
 use Rattle.word.specs.Run.{Run, Takes, AcceptingRun}
 use Rattle.word.specs.Loop.{Leads, Loop}
+use Rattle.word.specs.Keeps.{Keeps, KeepsByLoop}
 use Rattle.word.proofs.Paths.{rounds-one, one-leads}
 use Rattle.word.proofs.Positions.{letter-cycle}
 use Rattle.word.proofs.LoopToRun.{loop-run}
@@ -96,7 +97,8 @@ once-run = record { run = run; once = once }
     once (suc (suc i)) h k = absurd (omega arith)
 
 -- but no run takes it infinitely often, and there is no loop
-once-no-run : AcceptingRun away [] cycle → ⊥
+once-no-run : Keeps away [] cycle → ⊥
+unfolding Keeps
 once-no-run A = go (A .often 1 (omega arith) (omega arith) 1)
   where
     go : (p : ℕ) × (1 ≤ p) × Takes (A .run) 1 p → ⊥
@@ -104,6 +106,7 @@ once-no-run A = go (A .often 1 (omega arith) (omega arith) 1)
     go (suc p, h, t) = away-set _ _ (rw (away-to _ _ _ (A .run .moves p)) at t)
 
 pub once-no-loop : Loop away [] cycle → ⊥
+unfolding Keeps
 once-no-loop = no-loop away away-fits once-no-run
 
 -- LOOPS WITH OTHER CLAUSES
@@ -186,12 +189,14 @@ any-start-loop = record {
   every = first-set;
 }
 
-any-start-no-run : AcceptingRun apart [] cycle → ⊥
+any-start-no-run : Keeps apart [] cycle → ⊥
+unfolding Keeps
 any-start-no-run A =
     let e : A .run .state 0 ≡ 0 = omega (arith, member-lt 1 1 (A .run .state 0) (lit< tt) (A .run .starts)) in
     apart-from _ _ (rw e at (A .run .moves 0))
 
-any-start-no-loop : Loop apart [] cycle → ⊥
+any-start-no-loop : KeepsByLoop apart [] cycle → ⊥
+unfolding Keeps KeepsByLoop
 any-start-no-loop = no-loop apart apart-fits any-start-no-run
 
 -- EVERY SET ON THE LOOP, NOT ANY SETS
@@ -228,10 +233,12 @@ any-sets-loop = record {
   every = tt;
 }
 
-any-sets-no-run : AcceptingRun bare [] cycle → ⊥
+any-sets-no-run : Keeps bare [] cycle → ⊥
+unfolding Keeps
 any-sets-no-run A = let (p, h, t) = A .often 1 (omega arith) (omega arith) 0 in bare-set _ _ _ t
 
-any-sets-no-loop : Loop bare [] cycle → ⊥
+any-sets-no-loop : KeepsByLoop bare [] cycle → ⊥
+unfolding Keeps KeepsByLoop
 any-sets-no-loop = no-loop bare bare-fits any-sets-no-run
 
 -- ONE OR MORE TAILS, NOT ONE ONLY
@@ -248,8 +255,8 @@ swing-moves zero (suc zero) e = clash refl e
 swing-moves zero (suc (suc q)) e = clash refl e
 
 -- a loop of two tails, but none of one tail
-two-tails-loop : Loop swing [] cycle
-unfolding rounds edge cellAt member
+two-tails-loop : KeepsByLoop swing [] cycle
+unfolding KeepsByLoop rounds edge cellAt member
 two-tails-loop = record {
   origin = 0;
   state = 0;

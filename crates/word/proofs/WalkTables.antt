@@ -28,6 +28,7 @@ use Rattle.table.proofs.Logic.{look, clash, never, or-l, or-r}
 use Rattle.table.proofs.LowestBit.{lowest-inside, lowest-stands, cleared-others, cleared-keeps}
 use Rattle.table.proofs.LookupSteps.{table-made}
 use Rattle.table.proofs.Tabulate.{length-tabulate, getD-tabulate, tabulate-ext}
+use Rattle.word.specs.Prepared.{Prepared}
 use Rattle.word.specs.WalkTables.{Tables, occurs, refilled, tablesAfter, Tabled}
 
 -- THE LETTERS THAT OCCUR
@@ -172,8 +173,11 @@ module _ {R : Rule} {header : Header} {words : List (List ℕ)} (h : HoldsRule R
         entries = table-made (held (R .grid)) (h .images) a (rw made (getD-tabulate maxLetters _ a [] small ∙ rw (rw same at m)));
       }
 
-  pub tables-for : Every (Tabled R tables) u × Every (Tabled R tables) v
-  tables-for = (
-    every-weaker _ _ u (λ a (less, m). has-table a less (or-l _ _ m)) (every-both _ _ u lead (occurs-all u)),
-    every-weaker _ _ v (λ a (less, m). has-table a less (or-r (occurs u (a % maxLetters)) _ m)) (every-both _ _ v tail (occurs-all v)),
-  )
+  -- and the walk can be judged
+  pub walk-prepared : Prepared R header tables u v
+  walk-prepared = record {
+    numbers = h .numbers;
+    limits = h .limits;
+    lead = every-weaker _ _ u (λ a (less, m). has-table a less (or-l _ _ m)) (every-both _ _ u lead (occurs-all u));
+    tail = every-weaker _ _ v (λ a (less, m). has-table a less (or-r (occurs u (a % maxLetters)) _ m)) (every-both _ _ v tail (occurs-all v));
+  }

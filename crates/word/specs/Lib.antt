@@ -1,9 +1,11 @@
--- What to believe: walks, what a judge asks, endless runs, loops, and what a verdict decides.
+-- What to believe: walks, what a judge asks, endless runs, loops, what it means to keep a rule, and what a verdict decides.
 pub mod Walk
 pub mod Judging
 pub mod Run
 pub mod Loop
+pub mod Keeps
 pub mod Verdict
 pub mod EqualOn
--- Inside: the look-up tables of a walk.
+-- Inside: the look-up tables of a walk, and what is ready once they are made.
 pub mod WalkTables
+pub mod Prepared

@@ -1,14 +1,13 @@
 -- The look-up tables of a walk's letters, for the judges that read letters by them.
-use mathlib.Core.Path.{_≡_}
 use mathlib.Core.Bool.{Bool, false, _||_, cond}
 use mathlib.Core.List.{List, [], _∷_}
-use Prim.Native.Nat.{ℕ, _%_, _<_}
+use Prim.Native.Nat.{ℕ, _%_}
 use lib.Dec.{eqb}
 use lib.ListN.{getD}
 use Rattle.table.specs.Limits.{maxLetters}
 use Rattle.table.specs.Rule.{Rule}
-use Rattle.table.specs.Held.{held}
-use Rattle.table.specs.Lookup.{LetterTable, letterTable, joinedTable}
+use Rattle.table.specs.Lookup.{LetterTable, joinedTable}
+use Rattle.table.specs.Preparing.{HasTable}
 use Rattle.table.specs.Tabulate.{tabulate}
 
 -- a table for each letter
@@ -29,6 +28,5 @@ unfoldable pub tablesAfter : List (List ℕ) → List ℕ → List ℕ → Table
 tablesAfter words u v tables = refilled (λ a. occurs u a || occurs v a) words tables
 
 -- a letter of the rule has its table
-pub record Tabled (R : Rule) (tables : Tables) (a : ℕ) : Type 0 where
-  pub below : a < R .letters
-  pub entries : getD tables a [] ≡ letterTable (getD (held (R .grid)) a [])
+abbrev pub Tabled : Rule → Tables → ℕ → Type 0
+Tabled R tables a = HasTable R a (getD tables a [])

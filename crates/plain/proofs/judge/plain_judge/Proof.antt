@@ -1,84 +1,56 @@
--- The plain judge, by the laws of the questions and of PlainCalls.
+-- The plain judge: the questions to the table and the walk, then the judge on the look-ups that are ready.
 use borrow.Author.Needs.{needs}
-use native.Mathlib.Omega.{arith}
-use mathlib.Core.Path.{sym, _∙_}
-use Rattle.table.proofs.GridReading.{read-holds, reading-refused, reading-rule}
-use Rattle.word.proofs.JudgeQuestions.{table-no, walk-no, room-no, all-yes, read-judgeable}
-use Rattle.plain.proofs.ScratchBytes.{scratch-length}
-use Rattle.plain.proofs.PlainCalls.{plain-refused, plain-judged}
+use mathlib.Core.Path.{refl}
+use Rattle.table.proofs.Asked.{asked-no, asked-yes}
+use Rattle.word.specs.Judging.{judgeQuestions}
+use Rattle.plain.specs.PlainCall.{plainOutcome, scratchAfter}
 use Rattle.plain.proofs.judge.plain_judge.Statement.{statement}
 use Rattle.plain.proofs.judge.plain_judge.Tie as tie
 
-read-rule-requires : tie.Need-read-rule-requires
-read-rule-requires c κs = search needs
+walk-questions-requires : tie.Need-walk-questions-requires
+walk-questions-requires c κs = search needs
 
 enum-known-number : tie.Need-enum-known-number
 enum-known-number c = search needs
 
+plain-refusal-requires : tie.Need-plain-refusal-requires
+plain-refusal-requires c κs = search needs
+
 enum-known-header : tie.Need-enum-known-header
 enum-known-header c = search needs
 
-walk-number-requires : tie.Need-walk-number-requires
-walk-number-requires c κs = search needs
+judge-prepared-requires : tie.Need-judge-prepared-requires
+judge-prepared-requires c κs =
+    let told = c .before .before .before in
+    let (R, _, ready) = asked-yes (told .before .before .walk-questions .ensures) (told .header .given .1) in
+    (R, ready)
 
 returns : tie.Need-returns
+unfolding plainOutcome judgeQuestions scratchAfter
 returns c =
-    let walk = c .before in
-    let told = walk .before .before in
-    let read = told .before .before .read-rule .ensures in
-    let r = reading-rule _ _ (read .1) _ (sym (told .header .given .1) ∙ read .0) in
-    plain-refused _ _ _ _ _ (walk-no _ _ _ _ _ _ _ r _ (walk .walk-number .ensures) (c .if1 .taken))
-
-returns-2 : tie.Need-returns-2
-returns-2 c =
-    let walk = c .before .before in
-    let told = walk .before .before in
-    let read = told .before .before .read-rule .ensures in
-    let r = reading-rule _ _ (read .1) _ (sym (told .header .given .1) ∙ read .0) in
-    plain-refused _ _ _ _ _
-    (room-no _ _ _ _ _ _ _ r _ (walk .walk-number .ensures) (c .before .if1 .left) (omega (arith, c .if2 .taken, scratch-length)))
-
-judge-walk-requires : tie.Need-judge-walk-requires
-judge-walk-requires c κs =
-    let walk = c .before .before .before .before in
-    let told = walk .before .before in
-    let read = told .before .before .read-rule .ensures in
-    let r = reading-rule _ _ (read .1) _ (sym (told .header .given .1) ∙ read .0) in
-    read-judgeable _ _ _ _ _ _ _ r _ (walk .walk-number .ensures) (c .before .before .before .if1 .left)
-    (omega (arith, c .before .before .if2 .left, scratch-length)) (read .2)
-
-returns-3 : tie.Need-returns-3
-returns-3 c =
-    let read = c .before .before .before .read-rule .ensures in
-    plain-refused _ _ _ _ _
-    (table-no _ _ _ _ _ _ (reading-refused _ _ (read .1) _ (sym (c .before .number .given .1) ∙ read .0)))
+    let told = c .before .before in
+    rw (asked-no (told .before .before .walk-questions .ensures) (told .number .given .1)) (c .plain-refusal .ensures, refl)
 
 same-length : tie.Need-same-length
 same-length c = search needs
 
-returns-4 : tie.Need-returns-4
-returns-4 c =
-    let walk = c .before .before .before .before .before .before .before in
-    let told = walk .before .before in
-    let read = told .before .before .read-rule .ensures in
-    let r = reading-rule _ _ (read .1) _ (sym (told .header .given .1) ∙ read .0) in
-    let judge = c .before .before .judge-walk .ensures in
-    let room = c .before .before .before .before .before in
-    plain-judged _ _ _ _ _
-    (all-yes _ _ _ _ _ _ _ r _ (walk .walk-number .ensures) (room .before .if1 .left) (omega (arith, room .if2 .left, scratch-length)))
-    _ _ (judge .0 (r .rule) (read-holds r (read .2))) (judge .1)
+returns-2 : tie.Need-returns-2
+unfolding plainOutcome judgeQuestions
+returns-2 c =
+    let judged = c .before .before in
+    let told = judged .before .before .before .before in
+    let (R, accepts, ready) = asked-yes (told .before .before .walk-questions .ensures) (told .header .given .1) in
+    rw accepts (judged .judge-prepared .ensures R ready)
 
 pub plain-judge-spec : {M : Type 1} → statement M
 plain-judge-spec =
     tie.close
     (tie.spec
-    read-rule-requires
+    walk-questions-requires
     enum-known-number
+    plain-refusal-requires
     enum-known-header
-    walk-number-requires
+    judge-prepared-requires
     returns
-    returns-2
-    judge-walk-requires
-    returns-3
     same-length
-    returns-4)
+    returns-2)

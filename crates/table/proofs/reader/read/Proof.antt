@@ -1,15 +1,19 @@
 -- The reader, by the laws of GridReading.
-use mathlib.Core.List.{[]}
-use mathlib.Core.Path.{sym, _∙_}
 use native.Mathlib.Omega.{arith}
 use native.Mathlib.Nat.{mul-assoc}
 use borrow.Author.Needs.{needs}
-use Rattle.table.proofs.GridReading.{reading-refused, reading-rule, read-refused, numbers-small, grid-small, read-no-room, read-done}
+use Rattle.table.proofs.Asked.{arrays-blank, RuleRead, read-no, read-yes}
+use Rattle.table.proofs.GridReading.{read-refused, numbers-small, grid-small, read-no-room, read-done}
 use Rattle.table.proofs.reader.read.Statement.{statement}
 use Rattle.table.proofs.reader.read.Tie as tie
 
+-- the rule that was read
+rule : (c : tie.After-header) → let r = c .before .before in
+    RuleRead (r .before .before .before .before .before .args .table .now) (c .header .given .0 .0) (r .read-rule .last .1 .0) (r .read-rule .last .1 .1 .0)
+rule c = read-yes (c .before .before .read-rule .ensures) (c .header .given .1)
+
 read-rule-requires : tie.Need-read-rule-requires
-read-rule-requires c κs = search needs
+read-rule-requires c κs = arrays-blank
 
 enum-known-number : tie.Need-enum-known-number
 enum-known-number c = search needs
@@ -21,46 +25,35 @@ enum-known-header : tie.Need-enum-known-header
 enum-known-header c = search needs
 
 mul-if1 : tie.Need-mul-if1
-mul-if1 c =
-    let r = c .before .before .before in
-    let v = reading-rule _ _ (r .read-rule .ensures .1) _ (sym (c .before .header .given .1) ∙ r .read-rule .ensures .0) in
-    omega (arith, grid-small _ [] _ _ v)
+mul-if1 c = omega (arith, grid-small (rule (c .before)))
 
 mul-if1-2 : tie.Need-mul-if1-2
-mul-if1-2 c =
-    let r = c .before .before .before in
-    let v = reading-rule _ _ (r .read-rule .ensures .1) _ (sym (c .before .header .given .1) ∙ r .read-rule .ensures .0) in
-    omega (arith, grid-small _ [] _ _ v)
+mul-if1-2 c = omega (arith, grid-small (rule (c .before)))
 
 refusal-requires-2 : tie.Need-refusal-requires-2
 refusal-requires-2 c κs = search needs
 
 returns : tie.Need-returns
-returns c =
-    let r = c .before .before .before .before .before in
-    let v = reading-rule _ _ (r .read-rule .ensures .1) _ (sym (c .before .before .before .header .given .1) ∙ r .read-rule .ensures .0) in
-    read-no-room _ _ _ _ v (c .before .if1 .taken) _ (c .refusal2 .ensures)
+returns c = read-no-room (rule (c .before .before .before)) _ (c .before .if1 .taken) _ (c .refusal2 .ensures)
 
 put-cells-requires : tie.Need-put-cells-requires
 put-cells-requires c κs =
-    let r = c .before .before .before .before .before .before in
-    let v = reading-rule _ _ (r .read-rule .ensures .1) _ (sym (c .before .before .before .before .header .given .1) ∙ r .read-rule .ensures .0) in
-    let h = c .before .before .before .before .header .given .0 .0 in
-    (numbers-small _ [] _ _ v, omega (arith, mul-assoc (h .letters) (h .states) (h .states)))
+    let told = c .before .before .before .before in
+    let h = told .header .given .0 .0 in
+    (numbers-small (rule told), omega (arith, mul-assoc (h .letters) (h .states) (h .states)))
 
 returns-2 : tie.Need-returns-2
 returns-2 c =
-    let r = c .before .before .before .before in
-    read-refused _ _ _ (reading-refused _ _ (r .read-rule .ensures .1) _ (sym (c .before .before .number .given .1) ∙ r .read-rule .ensures .0)) _ (c .refusal .ensures)
+    let told = c .before .before in
+    read-refused _ _ _ (read-no (told .before .before .read-rule .ensures) (told .number .given .1)) _ (c .refusal .ensures)
 
 same-length : tie.Need-same-length
 same-length c = search needs
 
 returns-3 : tie.Need-returns-3
 returns-3 c =
-    let r = c .before .before .before .before .before .before .before .before .before in
-    let v = reading-rule _ _ (r .read-rule .ensures .1) _ (sym (c .before .before .before .before .before .before .before .header .given .1) ∙ r .read-rule .ensures .0) in
-    read-done _ _ _ _ v (c .before .before .before .before .before .if1 .left) _ (c .before .before .put-cells .ensures)
+    let room = c .before .before .before .before .before in
+    read-done (rule (room .before .before)) _ (room .if1 .left) _ (c .before .before .put-cells .ensures)
 
 pub read-spec : {M : Type 1} → statement M
 read-spec =

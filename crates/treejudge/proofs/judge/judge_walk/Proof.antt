@@ -3,11 +3,9 @@ use borrow.Author.Needs.{needs}
 use native.Mathlib.Omega.{arith}
 use mathlib.Core.List.{[]}
 use Rattle.table.specs.Rule.{Rule}
-use Rattle.table.specs.HeldRule.{HoldsRule}
-use Rattle.word.specs.Judging.{Judgeable}
+use Rattle.word.specs.Prepared.{Prepared}
 use Rattle.history.specs.Tree.{startTree}
 use Rattle.tree.specs.Sides.{treeOn}
-use Rattle.treejudge.specs.JudgeCall.{nameRoom}
 use Rattle.treejudge.specs.Reading.{Reads, Readable, ReadsTo}
 use Rattle.treejudge.specs.Cycles.{AtRound, FirstRound}
 use Rattle.treejudge.specs.Repeats.{RepeatFound}
@@ -16,54 +14,41 @@ use Rattle.treejudge.proofs.Judging.{sets-small, lead-reads, first-roun
 use Rattle.treejudge.proofs.judge.judge_walk.Statement.{statement}
 use Rattle.treejudge.proofs.judge.judge_walk.Tie as tie
 
--- what the judge asks for
-known : (c : tie.After-walk-tables) →
-    let args = c .before .before .before .before .before .before .args in
-    Judgeable (args .header) (args .words .now) (args .u .now) (args .v .now) nameRoom (args .names .now)
-known c = c .before .before .before .before .before .before .pre
+-- the beginning
+abbrev begun : tie.After-on-first-side → tie.Start
+begun c = c .before .before .before .before .before .before .before .before .before
 
--- where the tables are made
-abbrev made-tables : tie.After-on-first-side → tie.After-walk-tables
-made-tables c = c .before .before .before .before .before .before
+-- and from where t(0) is taken up
+abbrev begun-first : tie.After-taken → tie.Start
+begun-first c = begun (c .before .before .before)
 
--- u is read from the starting tree, over a rule that the table holds
+-- u is read from the starting tree, over a rule that the look-ups are of
 lead-read : (c : tie.After-on-first-side) →
-    let tables = made-tables c in
-    let args = tables .before .before .before .before .before .before .args in
+    let args = begun c .args in
     let lead = c .before .before in
-    (R : Rule) → HoldsRule R (args .header) (args .words .now)
-    → Reads R (startTree R) (tables .walk-tables .last .1 .1 .1 .0) (args .header .sets) (lead .letters-left .result .now)
-    (treeOn (lead .before .before .laid .result) (c .on-first-side .result))
-lead-read c R holds =
+    (R : Rule) → Prepared R (args .header) (args .tables .now) (args .u .now) (args .v .now)
+    → Reads R (startTree R) (args .tables .now) (args .header .sets) (lead .letters-left .result .now)
+    (treeOn (lead .before .laid .result) (c .on-first-side .result))
+lead-read c R p =
     let lead = c .before .before in
-    let laid = lead .before .before in
-    let made = laid .before in
-    let tables = made .before in
-    lead-reads R _ _ holds _ (made .start .ensures) _ _ _ (lead .letters-left .ensures) (known tables .lead) (known tables .tail)
-    _ _ (tables .walk-tables .ensures) _ (laid-first (laid .laid .ensures) (c .on-first-side .ensures) .1)
+    let laid = lead .before in
+    lead-reads p _ (laid .before .start .ensures) _ (lead .letters-left .ensures) _ (laid-first (laid .laid .ensures) (c .on-first-side .ensures) .1)
 
 -- t(0) of the walk
 first-place : (c : tie.After-taken) →
-    let tables = made-tables (c .before .before .before) in
-    let args = tables .before .before .before .before .before .before .args in
-    (R : Rule) → HoldsRule R (args .header) (args .words .now)
-    → AtRound R (args .u .now) (args .v .now) (tables .walk-tables .last .1 .1 .1 .0) (args .header .sets) 0 (c .taken .result)
-first-place c R holds =
+    let args = begun-first c .args in
+    (R : Rule) → Prepared R (args .header) (args .tables .now) (args .u .now) (args .v .now)
+    → AtRound R (args .u .now) (args .v .now) (args .tables .now) (args .header .sets) 0 (c .taken .result)
+first-place c R p =
     let read = c .before .before in
     let placed = read .before in
     let lead = placed .before .before in
-    let laid = lead .before .before in
-    let made = laid .before in
-    let tables = made .before in
-    first-round R _ _ holds _ (made .start .ensures) _ _ _ (lead .letters-left .ensures) (known tables .lead) (known tables .tail)
-    _ _ (tables .walk-tables .ensures) _
+    let laid = lead .before in
+    first-round p _ (laid .before .start .ensures) _ (lead .letters-left .ensures) _
     (reads-taken _ _ _ (laid-first (laid .laid .ensures) (placed .on-first-side .ensures) .1) (c .taken .ensures) (read .read-letters .ensures .1))
 
 cast-k : tie.Need-cast-k
-cast-k c = let pre = c .before .before .before .before .pre in omega (arith, sets-small (pre .rule) _ _ (pre .holds))
-
-walk-tables-requires : tie.Need-walk-tables-requires
-walk-tables-requires c κs = search needs
+cast-k c = omega (arith, sets-small (c .before .before .before .before .pre .0 .1))
 
 start-requires : tie.Need-start-requires
 start-requires c κs = search needs
@@ -80,32 +65,26 @@ on-first-side-requires c κs = search needs
 read-letters-requires : tie.Need-read-letters-requires
 unfolding Readable
 read-letters-requires c κs =
-    let pre = known (made-tables c) in (
-      laid-first (c .before .before .before .before .laid .ensures) (c .on-first-side .ensures) .0,
-      (pre .rule, startTree (pre .rule), lead-read c (pre .rule) (pre .holds)),
-    )
+    let (R, p) = begun c .pre .0 in
+    (laid-first (c .before .before .before .laid .ensures) (c .on-first-side .ensures) .0, (R, startTree R, lead-read c R p))
 
 taken-requires : tie.Need-taken-requires
 unfolding ReadsTo
 taken-requires c κs =
     let read = c .before in
-    let placed = read .before in
-    let pre = known (made-tables placed) in
+    let (R, p) = begun (read .before) .pre .0 in
     let (on, to) = read .read-letters .ensures in
-    record { stands = on; rule = pre .rule; tree = _; holds = to (pre .rule) (startTree (pre .rule)) (lead-read placed (pre .rule) (pre .holds)) }
+    record { stands = on; rule = R; tree = _; holds = to R (startTree R) (lead-read (read .before) R p) }
 
 find-repeat-requires : tie.Need-find-repeat-requires
 unfolding FirstRound
-find-repeat-requires c κs =
-    let first = c .before in
-    let pre = known (made-tables (first .before .before .before)) in
-    (pre .rule, _, first-place first (pre .rule) (pre .holds))
+find-repeat-requires c κs = let (R, p) = begun-first c .pre .0 in (R, _, first-place c R p)
 
 returns : tie.Need-returns
 unfolding RepeatFound
-returns c R holds =
+returns c R p =
     let found = c .before .before in
-    says-no R _ _ _ (found .find-repeat .ensures R _ (first-place (found .before .before) R holds)) _ (c .if1 .taken)
+    says-no R _ _ _ (found .find-repeat .ensures R _ (first-place (found .before) R p)) _ (c .if1 .taken)
 
 first-node-requires : tie.Need-first-node-requires
 first-node-requires c κs = search needs
@@ -114,31 +93,29 @@ node-name-requires : tie.Need-node-name-requires
 unfolding RepeatFound
 node-name-requires c κs =
     let found = c .before .before .before in
-    let first = found .before .before in
-    let pre = known (made-tables (first .before .before .before)) in
-    let R = pre .rule in
-    some-node R _ _ _ (found .find-repeat .ensures R _ (first-place first R (pre .holds))) [] (pre .holds .limits .states)
+    let (R, p) = begun-first (found .before) .pre .0 in
+    some-node R _ _ _ (found .find-repeat .ensures R _ (first-place (found .before) R p)) [] (p .limits .states)
     (c .before .if1 .left) _ (c .first-node .ensures)
 
 store-name-requires : tie.Need-store-name-requires
 store-name-requires c κs =
-    let first = c .before .before .before .before .before .before .before in
-    (c .before .node-name .ensures .short, known (made-tables (first .before .before .before)) .room)
+    let found = c .before .before .before .before .before in
+    (c .before .node-name .ensures .short, begun-first (found .before) .pre .1)
 
-cast-t28 : tie.Need-cast-t28
-cast-t28 c = search needs
+cast-t23 : tie.Need-cast-t23
+cast-t23 c = search needs
 
 same-length : tie.Need-same-length
 same-length c = search needs
 
 returns-2 : tie.Need-returns-2
 unfolding RepeatFound
-returns-2 c R holds =
+returns-2 c R p =
     let stored = c .before .before .before in
     let named = stored .before .before in
     let told = named .before in
     let found = told .before .before .before in
-    says-yes R _ _ _ (found .find-repeat .ensures R _ (first-place (found .before .before) R holds)) _ (holds .limits .states)
+    says-yes R _ _ _ (found .find-repeat .ensures R _ (first-place (found .before) R p)) _ (p .limits .states)
     (told .before .if1 .left) _ (told .first-node .ensures) _ (named .node-name .ensures) _ (stored .store-name .ensures)
 
 pub judge-walk-spec : {M : Type 1} → statement M
@@ -146,7 +123,6 @@ judge-walk-spec =
     tie.close
     (tie.spec
     cast-k
-    walk-tables-requires
     start-requires
     laid-requires
     letters-left-requires
@@ -158,6 +134,6 @@ judge-walk-spec =
     first-node-requires
     node-name-requires
     store-name-requires
-    cast-t28
+    cast-t23
     same-length
     returns-2)

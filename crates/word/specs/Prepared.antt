@@ -1,14 +1,14 @@
--- What the verdict on a walk asks for.
+-- Look-ups that are ready for a walk: what a judge asks for that works on them.
 use mathlib.Core.List.{List}
 use Prim.Native.Nat.{ℕ}
 use Rattle.table.specs.Rule.{Rule}
 use Rattle.table.specs.Table.{Every}
 use Rattle.table.specs.HeldRule.{WithinLimits, NumbersOf}
 use Rattle.table.specs.declared.header.Header.{Header}
 use Rattle.word.specs.WalkTables.{Tables, Tabled}
 
 -- the rule R is within the limits and has these numbers, and each letter of the walk has its table
-pub record Walks (R : Rule) (header : Header) (tables : Tables) (u v : List ℕ) : Type 0 where
+pub record Prepared (R : Rule) (header : Header) (tables : Tables) (u v : List ℕ) : Type 0 where
   pub numbers : NumbersOf R header
   pub limits : WithinLimits R
   pub lead : Every (Tabled R tables) u
