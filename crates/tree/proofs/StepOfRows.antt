@@ -1,5 +1,5 @@
 -- The pass over the rows of a tree is the letter's step: it gives the rows of the next tree, the old numbers of its nodes
--- and the two maps.
+-- and the two maps. So it leads from a tree in place to the next one, on the other side.
 use mathlib.Core.Path.{_≡_, refl, sym, _∙_, ap, subst}
 use mathlib.Core.Bool.{Bool, true, false, cond}
 use mathlib.Core.List.{List, [], _∷_, _++_, map}

@@ -1,10 +1,10 @@
 -- A tree in the code: as many rows as nodes, in front of blank ones.
 use mathlib.Core.Path.{_≡_, refl, sym, _∙_, ap}
 use mathlib.Core.Bool.{true}
-use mathlib.Core.List.{List, map, map-append}
-use Prim.Native.Nat.{ℕ, suc, _-_, _≤_}
+use mathlib.Core.List.{List, [], map, map-append}
+use Prim.Native.Nat.{ℕ, suc, _-_, _≤_, _<_}
 use native.Mathlib.Omega.{arith}
-use lib.ListN.{length, replicate, length-append, length-map}
+use lib.ListN.{length, getD, replicate, length-append, length-map}
 use lib.Seq.{take-at}
 use Rattle.table.specs.Held.{pad}
 use Rattle.table.specs.Limits.{maxStates}
@@ -13,11 +13,13 @@ use Rattle.history.specs.Forest.{nil, node, size}
 use Rattle.history.specs.Tree.{Tree, isTreeOf}
 use Rattle.history.proofs.TreesOf.{of-few}
 use Rattle.tree.specs.Pass.{blankRow}
-use Rattle.tree.specs.PackedRows.{countedRows}
+use Rattle.tree.specs.PackedRows.{rowsIn, countedRows}
 use Rattle.tree.specs.Rows.{rowsFrom, rowsOf, withoutOld, AreRows, HoldsTree}
 use Rattle.tree.specs.RecordRows.{places, blankBehind, HasRows}
+use Rattle.tree.specs.Sides.{TwoSides}
 use Rattle.tree.specs.declared.rows.Row.{Row}
 use Rattle.tree.specs.declared.rows.Tree.{Tree as CodeTree}
+use Rattle.tree.proofs.PackedWords.{rows-many}
 
 -- THE ROWS OF A TREE
 
@@ -61,3 +63,7 @@ has-holds R T x fits has = record {
 -- a tree over a rule within the limits has few rows
 pub tree-small : {R : Rule} {T : Tree} {x : CodeTree} → R .states ≤ maxStates → HoldsTree R T x → x .count ≤ maxStates
 tree-small {R} {T} h held = omega (arith, held .nodes, of-few R T (held .fits))
+
+-- a side has a row for each place
+pub side-rows : {sides : List (List ℕ)} {side : ℕ} → TwoSides sides × (side < 2) → length (rowsIn (getD sides side [])) ≡ places
+side-rows {sides} {side} (arrays, on) = rows-many (getD sides side []) (arrays .long side on)

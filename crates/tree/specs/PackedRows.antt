@@ -20,6 +20,6 @@ unpacked word =
 abbrev pub rowsIn : List ℕ → List Row
 rowsIn words = map unpacked words
 
--- the rows of a tree that count
+-- the rows of a tree: those that count
 abbrev pub countedRows : CodeTree → List Row
 countedRows x = take (x .count) (rowsIn (x .rows))

@@ -1,4 +1,4 @@
--- One letter from a tree on one side to the next tree on the other: what the contract of `step_rows` cites.
+-- Trees in place, on one of two sides, and one letter from a tree to the next tree on the other side.
 use mathlib.Core.Path.{_≡_}
 use mathlib.Core.List.{List, [], _∷_}
 use Prim.Native.Nat.{ℕ, _-_, _≤_, _<_}

@@ -17,8 +17,7 @@ fn read_rounds(tables: &AllTables, k: u8, v: &[u8], count: u64, tree: Tree) -> T
     let mut now = tree.on_first_side();
     let mut round = 0u64;
     while round < count {
-        let next = read_letters(tables, k, v, &mut sides, now);
-        now = next;
+        now = read_letters(tables, k, v, &mut sides, now);
         round += 1;
     }
     Tree::taken(&sides, now)
@@ -50,10 +49,8 @@ fn entry_between(
         if place == high {
             return high;
         }
-        let next = read_letters(tables, k, v, &mut here, now);
-        let next_ahead = read_letters(tables, k, v, &mut there, ahead);
-        now = next;
-        ahead = next_ahead;
+        now = read_letters(tables, k, v, &mut here, now);
+        ahead = read_letters(tables, k, v, &mut there, ahead);
     }
     high
 }

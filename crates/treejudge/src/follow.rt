@@ -82,37 +82,25 @@ pub fn follow_letters(
         × FollowsTo (now (tables .entry)) k (now (w .entry)) (treeOn (now (sides .entry)) (from .tree)) (from .maps)
         (treeOn (now (sides .exit)) (r .tree)) (r .maps) ⌝ }
 {
-    let mut side = from.tree.side;
-    let mut count = from.tree.count;
-    let mut kept = from.maps.kept;
-    let mut witnesses = from.maps.witnesses;
+    let mut on = from.tree;
+    let mut maps = from.maps;
     let mut at = 0usize;
     while at < w.len() {
-        let next = step_rows(&tables[w[at] as usize], k, sides, side, count);
-        side = 1 - side;
-        count = next.count;
+        let next = step_rows(&tables[w[at] as usize], k, sides, on.side, on.count);
+        on = OnSide {
+            side: 1 - on.side,
+            count: next.count,
+        };
         // Those that are stable at the letter keep their names; one that is accepting was so once.
         let stay = Maps {
-            kept: kept & next.stable,
-            witnesses: (witnesses | (kept & next.accepting)) & next.stable,
+            kept: maps.kept & next.stable,
+            witnesses: (maps.witnesses | (maps.kept & next.accepting)) & next.stable,
         };
-        let on = OnSide {
-            side: side,
-            count: count,
-        };
-        let carried = carry(sides, on, stay);
-        kept = carried.kept;
-        witnesses = carried.witnesses;
+        maps = carry(sides, on, stay);
         at += 1;
     }
     Followed {
-        tree: OnSide {
-            side: side,
-            count: count,
-        },
-        maps: Maps {
-            kept: kept,
-            witnesses: witnesses,
-        },
+        tree: on,
+        maps: maps,
     }
 }

@@ -12,17 +12,15 @@ pub fn read_letters(tables: &AllTables, k: u8, w: &[u8], sides: &mut Sides, from
     ensures { λ r. ⌜ Stands (now (sides .exit)) r
         × ReadsTo (now (tables .entry)) k (now (w .entry)) (treeOn (now (sides .entry)) from) (treeOn (now (sides .exit)) r) ⌝ }
 {
-    let mut side = from.side;
-    let mut count = from.count;
+    let mut on = from;
     let mut at = 0usize;
     while at < w.len() {
-        let next = step_rows(&tables[w[at] as usize], k, sides, side, count);
-        side = 1 - side;
-        count = next.count;
+        let next = step_rows(&tables[w[at] as usize], k, sides, on.side, on.count);
+        on = OnSide {
+            side: 1 - on.side,
+            count: next.count,
+        };
         at += 1;
     }
-    OnSide {
-        side: side,
-        count: count,
-    }
+    on
 }

@@ -1,13 +1,12 @@
 -- The host of a state, by the laws of WritingInTurn.
 use borrow.Author.Needs.{needs}
-use mathlib.Core.Path.{_≡_, sym, _∙_}
+use mathlib.Core.Path.{sym, _∙_}
 use mathlib.Core.List.{List, []}
 use Prim.Native.Nat.{ℕ, _-_}
-use lib.ListN.{length, getD}
-use Rattle.tree.specs.RecordRows.{places}
-use Rattle.tree.specs.PackedRows.{rowsIn}
+use lib.ListN.{getD}
 use Rattle.tree.specs.Sides.{treeOn}
-use Rattle.tree.proofs.PackedWords.{row-read, rows-many}
+use Rattle.tree.proofs.PackedWords.{row-read}
+use Rattle.tree.proofs.TreeRows.{side-rows}
 use Rattle.tree.proofs.WritingInTurn.{HostAhead, host-start, host-found, host-next, host-none}
 use Rattle.tree.proofs.writing.host_row.Statement.{statement}
 use Rattle.tree.proofs.writing.host_row.Tie as tie
@@ -18,12 +17,9 @@ Inv-loop sides state side count node₀ node = HostAhead (treeOn sides (record {
 abbrev μ-loop : tie.MeasureT-loop
 μ-loop sides state side count node₀ node = count - node
 
--- the tree's words, and that there are as many as places
+-- the tree's words
 abbrev words : tie.Start Inv-loop μ-loop → List ℕ
 words c = getD (c .args .sides .now) (c .args .on .side) []
-
-many : (c : tie.Start Inv-loop μ-loop) → length (rowsIn (words c)) ≡ places
-many c = rows-many (words c) (c .pre .1 .0 .long _ (c .pre .1 .1))
 
 loop-holds : tie.Need-loop-holds Inv-loop μ-loop
 loop-holds c = host-start _ _
@@ -54,7 +50,7 @@ returns c =
     let read = c .before .before in
     let turn = read .before .before in
     let start = turn .before .before in
-    host-found (turn .before .loop .inv) (many start) (start .pre .0 .0) (turn .loop-test .taken) _
+    host-found (turn .before .loop .inv) (side-rows (start .pre .1)) (start .pre .0 .0) (turn .loop-test .taken) _
     (row-read (words start) (turn .before .loop .node) (read .unpack .ensures))
     (sym (c .before .hosts-state .ensures) ∙ c .if1 .taken)
 
@@ -69,7 +65,7 @@ loop-again c =
     let read = c .before .before in
     let turn = read .before .before in
     let start = turn .before .before in
-    host-next (turn .before .loop .inv) (many start) (start .pre .0 .0) (turn .loop-test .taken) _
+    host-next (turn .before .loop .inv) (side-rows (start .pre .1)) (start .pre .0 .0) (turn .loop-test .taken) _
     (row-read (words start) (turn .before .loop .node) (read .unpack .ensures))
     (sym (c .before .hosts-state .ensures) ∙ c .if1 .left)
 
@@ -79,7 +75,7 @@ cast-result-2 c = search needs
 returns-2 : tie.Need-returns-2 Inv-loop μ-loop
 returns-2 c =
     let start = c .before .before in
-    host-none (c .before .loop .inv) (many start) (start .pre .0 .0) (c .loop-test .left)
+    host-none (c .before .loop .inv) (side-rows (start .pre .1)) (start .pre .0 .0) (c .loop-test .left)
 
 pub host-row-spec : {M : Type 1} → statement M
 host-row-spec =

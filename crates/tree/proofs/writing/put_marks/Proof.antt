@@ -6,7 +6,8 @@ use native.Mathlib.Omega.{arith}
 use lib.ListN.{getD}
 use Rattle.table.proofs.Storing.{pieces-size}
 use Rattle.tree.specs.Sides.{treeOn}
-use Rattle.tree.proofs.PackedWords.{row-read, rows-many}
+use Rattle.tree.proofs.PackedWords.{row-read}
+use Rattle.tree.proofs.TreeRows.{side-rows}
 use Rattle.tree.proofs.WritingInTurn.{MarksStored, marks-start, mark-small, marks-fits, marks-put, marks-done}
 use Rattle.tree.proofs.writing.put_marks.Statement.{statement}
 use Rattle.tree.proofs.writing.put_marks.Tie as tie
@@ -75,7 +76,7 @@ loop-again c =
     let start = turn .before .before .before in
     marks-put (turn .before .loop .inv) (turn .loop-test .taken) _
     (row-read (words start) (turn .before .loop .node) (read .unpack .ensures))
-    (rows-many (words start) (start .pre .1 .0 .long _ (start .pre .1 .1)))
+    (side-rows (start .pre .1))
 
 same-length : tie.Need-same-length Inv-loop μ-loop
 same-length c = pieces-size (c .before .loop .inv .pieces)

@@ -4,11 +4,11 @@ use mathlib.Core.Path.{_≡_, refl}
 use mathlib.Core.List.{[]}
 use Prim.Native.Nat.{_-_, _≤_}
 use native.Mathlib.Omega.{arith}
-use lib.ListN.{length, getD}
+use lib.ListN.{getD}
 use Rattle.table.specs.BitSet.{collect}
 use Rattle.tree.specs.PackedRows.{rowsIn}
-use Rattle.tree.specs.RecordRows.{places}
-use Rattle.tree.proofs.PackedWords.{row-read, rows-many}
+use Rattle.tree.proofs.PackedWords.{row-read}
+use Rattle.tree.proofs.TreeRows.{side-rows}
 use Rattle.treejudge.proofs.MapsCarried.{carriedTo, bothTo, both-more, both-all}
 use Rattle.treejudge.proofs.follow.carry.Statement.{statement}
 use Rattle.treejudge.proofs.follow.carry.Tie as tie
@@ -87,10 +87,8 @@ cast-t29 c = search needs
 returns : tie.Need-returns Inv-loop μ-loop
 returns c =
     let start = c .before .before in
-    let words = getD (start .args .sides .now) (start .args .on .side) [] in
-    let size : length (rowsIn words) ≡ places = rows-many words (start .pre .1 .0 .long _ (start .pre .1 .1)) in
     let end : c .before .loop .j ≡ start .args .on .count = omega arith in
-    rw (c .before .loop .inv .1, end) (both-all _ _ (omega arith) (omega arith))
+    rw (c .before .loop .inv .1, end) (both-all _ _ (omega arith) (omega (arith, side-rows (start .pre .1))))
 
 pub carry-spec : {M : Type 1} → statement M
 carry-spec =

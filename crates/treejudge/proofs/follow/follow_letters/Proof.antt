@@ -11,22 +11,20 @@ use Rattle.treejudge.proofs.follow.follow_letters.Statement.{statement}
 use Rattle.treejudge.proofs.follow.follow_letters.Tie as tie
 
 abbrev Inv-loop : tie.InvT-loop
-Inv-loop tables k w sides₀ side₀ count₀ kept₀ witnesses₀ at₀ sides side count kept witnesses at =
-    FollowedUpTo tables k w (treeOn sides₀ (record { side = side₀; count = count₀ })) (record { kept = kept₀; witnesses = witnesses₀ }) at
-    sides (record { side = side; count = count }) (record { kept = kept; witnesses = witnesses })
+Inv-loop tables k w sides₀ on₀ maps₀ at₀ sides on maps at = FollowedUpTo tables k w (treeOn sides₀ on₀) maps₀ at sides on maps
 
 abbrev μ-loop : tie.MeasureT-loop
-μ-loop tables k w sides₀ side₀ count₀ kept₀ witnesses₀ at₀ sides side count kept witnesses at = length w - at
+μ-loop tables k w sides₀ on₀ maps₀ at₀ sides on maps at = length w - at
 
 loop-holds : tie.Need-loop-holds Inv-loop μ-loop
-loop-holds c = followed-none _ _ _ _ _ _ (c .before .pre .0)
+loop-holds c = followed-none _ _ _ _ _ _ (c .before .before .before .pre .0)
 
 shared-slice-read-step-rows : tie.Need-shared-slice-read-step-rows Inv-loop μ-loop
 shared-slice-read-step-rows c = search needs
 
 index-1-step-rows : tie.Need-index-1-step-rows Inv-loop μ-loop
 index-1-step-rows c = let inside = c .before in
-    letter-small _ _ _ _ (followed-reads _ _ _ _ _ (inside .before .before .before .pre .1)) _ (inside .loop-test .taken)
+    letter-small _ _ _ _ (followed-reads _ _ _ _ _ (inside .before .before .before .before .before .pre .1)) _ (inside .loop-test .taken)
 
 cast-step-rows : tie.Need-cast-step-rows Inv-loop μ-loop
 cast-step-rows c = omega (arith, index-1-step-rows c)
@@ -35,27 +33,30 @@ mul-step-rows : tie.Need-mul-step-rows Inv-loop μ-loop
 mul-step-rows c = omega (arith, index-1-step-rows c)
 
 step-rows-requires : tie.Need-step-rows-requires Inv-loop μ-loop
-step-rows-requires c κs = let at = c .before .before .before .before in followed-ready _ _ _ _ _ _ _ _ _ (at .loop .inv) (at .before .before .pre .1)
+step-rows-requires c κs = let at = c .before .before .before .before in followed-ready _ _ _ _ _ _ _ _ _ (at .loop .inv) (at .before .before .before .before .pre .1)
 
-sub-side : tie.Need-sub-side Inv-loop μ-loop
-sub-side c = omega (arith, c .before .before .before .before .before .loop .inv .stands .1)
+sub-t11 : tie.Need-sub-t11 Inv-loop μ-loop
+sub-t11 c = omega (arith, c .before .before .before .before .before .before .loop .inv .stands .1)
 
 carry-requires : tie.Need-carry-requires Inv-loop μ-loop
 carry-requires c κs =
-    let s = c .before .before .before .before in
+    let s = c .before .before .before .before .before .before .before .before in
     let inside = s .before .before .before .before in
     followed-few _ _ _ _ _ _ _ _ _ (inside .before .loop .inv) (inside .loop-test .taken) _ _ (s .step-rows .ensures)
-    (inside .before .before .before .pre .1)
+    (inside .before .before .before .before .before .pre .1)
 
 add-at : tie.Need-add-at Inv-loop μ-loop
-add-at c = search needs
+add-at c =
+    let s = c .before .before .before .before .before .before .before .before .before in
+    let inside = s .before .before .before .before in
+    omega (arith, inside .loop-test .taken, inside .before .before .before .before .before .good .1 .1 .0)
 
 loop-less : tie.Need-loop-less Inv-loop μ-loop
 loop-less c = search needs
 
 loop-again : tie.Need-loop-again Inv-loop μ-loop
 loop-again c =
-    let s = c .before .before .before .before .before in
+    let s = c .before .before .before .before .before .before .before .before .before in
     let inside = s .before .before .before .before in
     followed-more _ _ _ _ _ _ _ _ _ (inside .before .loop .inv) (inside .loop-test .taken) _ _ (s .step-rows .ensures) _ (c .carry .ensures)
 
@@ -74,7 +75,7 @@ follow-letters-spec =
     mul-step-rows
     index-1-step-rows
     step-rows-requires
-    sub-side
+    sub-t11
     carry-requires
     add-at
     loop-less

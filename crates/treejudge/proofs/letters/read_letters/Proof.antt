@@ -9,11 +9,10 @@ use Rattle.treejudge.proofs.letters.read_letters.Statement.{statement}
 use Rattle.treejudge.proofs.letters.read_letters.Tie as tie
 
 abbrev Inv-loop : tie.InvT-loop
-Inv-loop tables k w sides₀ side₀ count₀ at₀ sides side count at =
-    ReadUpTo tables k w (treeOn sides₀ (record { side = side₀; count = count₀ })) at sides (record { side = side; count = count })
+Inv-loop tables k w sides₀ on₀ at₀ sides on at = ReadUpTo tables k w (treeOn sides₀ on₀) at sides on
 
 abbrev μ-loop : tie.MeasureT-loop
-μ-loop tables k w sides₀ side₀ count₀ at₀ sides side count at = length w - at
+μ-loop tables k w sides₀ on₀ at₀ sides on at = length w - at
 
 loop-holds : tie.Need-loop-holds Inv-loop μ-loop
 loop-holds c = upto-none _ _ _ _ _ (c .before .pre .0)
@@ -33,8 +32,8 @@ mul-step-rows c = omega (arith, index-1-step-rows c)
 step-rows-requires : tie.Need-step-rows-requires Inv-loop μ-loop
 step-rows-requires c κs = let at = c .before .before .before .before in upto-ready _ _ _ _ _ _ _ (at .loop .inv) (at .before .before .pre .1)
 
-sub-side : tie.Need-sub-side Inv-loop μ-loop
-sub-side c = omega (arith, c .before .before .before .before .before .loop .inv .stands .1)
+sub-t9 : tie.Need-sub-t9 Inv-loop μ-loop
+sub-t9 c = omega (arith, c .before .before .before .before .before .before .loop .inv .stands .1)
 
 add-at : tie.Need-add-at Inv-loop μ-loop
 add-at c = search needs
@@ -44,8 +43,8 @@ loop-less c = search needs
 
 loop-again : tie.Need-loop-again Inv-loop μ-loop
 loop-again c =
-    let inside = c .before .before .before .before in
-    upto-more _ _ _ _ _ _ _ (inside .before .loop .inv) (inside .loop-test .taken) _ _ (c .step-rows .ensures)
+    let inside = c .before .before .before .before .before in
+    upto-more _ _ _ _ _ _ _ (inside .before .loop .inv) (inside .loop-test .taken) _ _ (c .before .step-rows .ensures)
 
 returns : tie.Need-returns Inv-loop μ-loop
 returns c = upto-all _ _ _ _ _ _ _ (c .before .loop .inv) (c .loop-test .left)
@@ -62,7 +61,7 @@ read-letters-spec =
     mul-step-rows
     index-1-step-rows
     step-rows-requires
-    sub-side
+    sub-t9
     add-at
     loop-less
     loop-again

@@ -1,19 +1,14 @@
 -- Two counts that differ, or the rows, by the laws of SameTrees.
 use borrow.Author.Needs.{needs}
-use mathlib.Core.List.{[]}
-use lib.ListN.{getD}
-use Rattle.tree.proofs.PackedWords.{rows-many}
+use Rattle.tree.proofs.TreeRows.{side-rows}
 use Rattle.treejudge.proofs.SameTrees.{counts-differ}
 use Rattle.treejudge.proofs.same.same_on.Statement.{statement}
 use Rattle.treejudge.proofs.same.same_on.Tie as tie
 
 returns : tie.Need-returns
 returns c =
-    let start = c .before .before .before in
-    let ((few, less), ((arrays, from), (others, side))) = start .pre in
-    let args = start .args in
-    counts-differ _ _ _ _ (rows-many (getD (args .a .now) (args .on .side) []) (arrays .long _ from))
-    (rows-many (getD (args .b .now) (args .other .side) []) (others .long _ side)) few less (c .if1 .taken)
+    let ((few, less), (on, other)) = c .before .before .before .pre in
+    counts-differ _ _ _ _ (side-rows on) (side-rows other) few less (c .if1 .taken)
 
 mul-same-rows : tie.Need-mul-same-rows
 mul-same-rows c = search needs

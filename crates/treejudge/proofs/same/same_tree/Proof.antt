@@ -1,10 +1,10 @@
 -- Two counts that differ, or the rows, by the laws of SameTrees.
 use borrow.Author.Needs.{needs}
 use mathlib.Core.Path.{_≡_, _∙_}
-use mathlib.Core.List.{[]}
-use lib.ListN.{length, getD, length-map}
+use lib.ListN.{length, length-map}
 use Rattle.tree.specs.RecordRows.{places}
 use Rattle.tree.proofs.PackedWords.{rows-many}
+use Rattle.tree.proofs.TreeRows.{side-rows}
 use Rattle.treejudge.proofs.SameTrees.{counts-differ}
 use Rattle.treejudge.proofs.same.same_tree.Statement.{statement}
 use Rattle.treejudge.proofs.same.same_tree.Tie as tie
@@ -17,9 +17,7 @@ returns : tie.Need-returns
 returns c =
     let counted = c .before .before in
     let start = counted .before in
-    let (arrays, side) = start .pre .1 in
-    counts-differ _ _ _ _ (rows-many (start .args .tree .rows) (long start))
-    (rows-many (getD (start .args .sides .now) (start .args .on .side) []) (arrays .long _ side)) (start .pre .0 .0) (start .pre .0 .1)
+    counts-differ _ _ _ _ (rows-many (start .args .tree .rows) (long start)) (side-rows (start .pre .1)) (start .pre .0 .0) (start .pre .0 .1)
     (λ e. c .if1 .taken (counted .nodes .ensures ∙ e))
 
 nodes-requires : tie.Need-nodes-requires
