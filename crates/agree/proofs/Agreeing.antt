@@ -3,18 +3,18 @@
 use mathlib.Core.Path.{_≡_, refl, sym, _∙_, subst}
 use mathlib.Core.List.{List}
 use Prim.Native.Nat.{ℕ}
-use Rattle.table.specs.Outcome.{Outcome, accepted}
-use Rattle.table.specs.Rule.{Rule}
+use Rattle.base.specs.Outcome.{Outcome, accepted}
+use Rattle.rule.specs.Rule.{Rule}
 use Rattle.table.specs.Table.{readRule}
 use Rattle.word.specs.Walk.{SameLetters}
 use Rattle.word.proofs.JudgeQuestions.{Accepted, accepted-call}
 use Rattle.word.proofs.SameAlong.{along-spellings, verdicts-along}
-use Rattle.treejudge.specs.JudgeCall.{nameRoom, treeOutcome, Judged, TreeAnswers, TreeCall}
-use Rattle.treejudge.specs.declared.judge.TreeAnswer.{TreeAnswer}
-use Rattle.treejudge.proofs.TreeVerdict.{tree-decides, tree-determined, tree-number}
 use Rattle.plain.specs.PlainCall.{scratchLength, plainOutcome, PlainAnswers, PlainCall}
 use Rattle.plain.specs.declared.judge.PlainAnswer.{PlainAnswer}
 use Rattle.plain.proofs.PlainVerdict.{plain-decides, plain-determined, plain-number}
+use Rattle.treejudge.specs.JudgeCall.{nameRoom, treeOutcome, Judged, TreeAnswers, TreeCall}
+use Rattle.treejudge.specs.declared.judge.TreeAnswer.{TreeAnswer}
+use Rattle.treejudge.proofs.TreeVerdict.{tree-decides, tree-determined, tree-number}
 use Rattle.agree.specs.Agreement.{Right, Demand3}
 use Rattle.agree.specs.BothCall.{BothAnswer, BothDetermined, BothNumbers}
 use Rattle.agree.specs.declared.both.BothAnswers.{BothAnswers}

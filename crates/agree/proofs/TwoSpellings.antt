@@ -4,8 +4,8 @@ use mathlib.Core.Logic.{inl, inr}
 use mathlib.Core.List.{List, [], _∷_}
 use Prim.Native.Nat.{ℕ}
 use native.Mathlib.Omega.{arith}
-use Rattle.table.specs.Outcome.{Outcome, refused, accepted}
-use Rattle.table.specs.Rule.{Rule}
+use Rattle.base.specs.Outcome.{Outcome, refused, accepted}
+use Rattle.rule.specs.Rule.{Rule}
 use Rattle.word.specs.Walk.{rounds, SameLetters}
 use Rattle.word.proofs.Positions.{filled, letter-unrolled}
 use Rattle.word.proofs.SameAlong.{along-spellings}
@@ -18,8 +18,7 @@ use Rattle.treejudge.specs.declared.judge.TreeAnswer.{TreeAnswer}
 use Rattle.treejudge.proofs.Examples.{rowTest, row-answers}
 use Rattle.treejudge.proofs.TreeVerdict.{found-one}
 use Rattle.agree.specs.Agreement.{Right}
-use Rattle.agree.specs.Spellings.{JudgeSays, tree-says, plain-says, TwoSpellings, SameWalkVerdicts, SameNode}
-use Rattle.agree.specs.Spellings.{tableD, EntryPeriodDiffer}
+use Rattle.agree.specs.Spellings.{JudgeSays, tree-says, plain-says, TwoSpellings, SameWalkVerdicts, SameNode, tableD, EntryPeriodDiffer}
 use Rattle.agree.proofs.Agreeing.{tree-accepted, tree-right, plain-right, rules-one, right-one}
 
 -- VERDICTS

@@ -5,27 +5,26 @@ use Prim.Native.Nat.{ℕ}
 use borrow.Author.Tests.{ne-eqb}
 use lib.Count.{ones, onesIn}
 use lib.ListN.{replicate, length-replicate}
+use Rattle.base.specs.Outcome.{accepted}
+use Rattle.base.proofs.Storing.{stored-none}
+use Rattle.rule.specs.Rule.{Rule}
 use Rattle.table.specs.Cells.{cellsLength, headerBytes, letterCells}
-use Rattle.table.specs.Outcome.{accepted}
-use Rattle.table.specs.Rule.{Rule}
 use Rattle.table.specs.Table.{readRule}
 use Rattle.table.proofs.RoundTrip.{read-well-formed}
-use Rattle.table.proofs.Storing.{stored-none}
 use Rattle.word.specs.EqualOn.{EqualOn}
 use Rattle.word.proofs.Positions.{filled}
 use Rattle.word.proofs.SameAlong.{SameAlong, along-edited, verdicts-along}
 use Rattle.word.proofs.TwoTables.{equal-by-bytes, same-way}
 use Rattle.history.specs.Finding.{Finding, yes-node, no-node}
+use Rattle.plain.specs.PlainCall.{scratchLength, plainOutcome, PlainAnswers, scratchAfter}
+use Rattle.plain.specs.declared.judge.PlainAnswer.{PlainAnswer}
+use Rattle.plain.proofs.PlainVerdict.{plain-decides}
 use Rattle.treejudge.specs.JudgeCall.{nameRoom, treeOutcome, treeAnswer, namesAfter, Judged, TreeAnswers}
 use Rattle.treejudge.specs.Examples.{tableA}
 use Rattle.treejudge.specs.declared.judge.TreeAnswer.{TreeAnswer}
 use Rattle.treejudge.proofs.Examples.{rowTest, row-answers}
 use Rattle.treejudge.proofs.TreeVerdict.{judged-one, judged-along}
-use Rattle.plain.specs.PlainCall.{scratchLength, plainOutcome, PlainAnswers, scratchAfter}
-use Rattle.plain.specs.declared.judge.PlainAnswer.{PlainAnswer}
-use Rattle.plain.proofs.PlainVerdict.{plain-decides}
-use Rattle.agree.specs.Edits.{WriteAlike, nameBytes, zeroBytes, SameTreeCalls, SamePlainCalls}
-use Rattle.agree.specs.Edits.{UnusedEdits, UnusedBytes, editedA, EditedExample}
+use Rattle.agree.specs.Edits.{WriteAlike, nameBytes, zeroBytes, SameTreeCalls, SamePlainCalls, UnusedEdits, UnusedBytes, editedA, EditedExample}
 
 -- nothing is written
 write-none : (lent lent′ : List ℕ) → WriteAlike 0 lent lent′ lent lent′

@@ -2,15 +2,15 @@
 use mathlib.Core.Path.{_≡_}
 use mathlib.Core.List.{List}
 use Prim.Native.Nat.{ℕ}
-use Rattle.table.specs.Outcome.{accepted}
-use Rattle.table.specs.Rule.{Rule}
+use Rattle.base.specs.Outcome.{accepted}
+use Rattle.rule.specs.Rule.{Rule}
 use Rattle.table.specs.Table.{readRule}
 use Rattle.word.specs.Keeps.{Keeps}
 use Rattle.word.specs.Verdict.{Decides}
-use Rattle.treejudge.specs.JudgeCall.{treeOutcome, TreeAnswers}
-use Rattle.treejudge.specs.declared.judge.TreeAnswer.{TreeAnswer}
 use Rattle.plain.specs.PlainCall.{plainOutcome, PlainAnswers}
 use Rattle.plain.specs.declared.judge.PlainAnswer.{PlainAnswer}
+use Rattle.treejudge.specs.JudgeCall.{treeOutcome, TreeAnswers}
+use Rattle.treejudge.specs.declared.judge.TreeAnswer.{TreeAnswer}
 
 -- a verdict on a table and a walk is right: there is the rule that the table is read as, and the verdict "says yes exactly when some
 -- endless run of the rule, over the lead-in followed by the tail for ever, goes through every accepting set infinitely often, and

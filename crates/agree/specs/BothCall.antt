@@ -2,9 +2,9 @@
 use mathlib.Core.Path.{_≡_}
 use mathlib.Core.List.{List}
 use Prim.Native.Nat.{ℕ}
-use Rattle.table.specs.Outcome.{Tells}
-use Rattle.treejudge.specs.JudgeCall.{treeOutcome, TreeAnswers}
+use Rattle.base.specs.Outcome.{Tells}
 use Rattle.plain.specs.PlainCall.{plainOutcome, PlainAnswers, scratchAfter}
+use Rattle.treejudge.specs.JudgeCall.{treeOutcome, TreeAnswers}
 use Rattle.agree.specs.Agreement.{Agreement}
 use Rattle.agree.specs.declared.both.BothAnswers.{BothAnswers}
 

@@ -5,16 +5,16 @@ use mathlib.Core.List.{List, [], _∷_}
 use Prim.Native.Nat.{ℕ}
 use lib.Dec.{eqb}
 use lib.ListN.{length}
-use Rattle.table.specs.Outcome.{accepted}
-use Rattle.table.specs.Rule.{Rule}
-use Rattle.table.specs.Storing.{stored}
+use Rattle.base.specs.Outcome.{accepted}
+use Rattle.base.specs.LentBuffer.{stored}
+use Rattle.rule.specs.Rule.{Rule}
 use Rattle.table.specs.Table.{readRule}
 use Rattle.word.specs.EqualOn.{EqualOn, EqualBytesOn}
+use Rattle.plain.specs.PlainCall.{scratchLength, plainOutcome, PlainAnswers, scratchAfter}
+use Rattle.plain.specs.declared.judge.PlainAnswer.{PlainAnswer}
 use Rattle.treejudge.specs.JudgeCall.{treeOutcome, TreeAnswers}
 use Rattle.treejudge.specs.Examples.{AlwaysAnswers, tableA}
 use Rattle.treejudge.specs.declared.judge.TreeAnswer.{TreeAnswer}
-use Rattle.plain.specs.PlainCall.{scratchLength, plainOutcome, PlainAnswers, scratchAfter}
-use Rattle.plain.specs.declared.judge.PlainAnswer.{PlainAnswer}
 
 -- WHAT TWO CALLS HAVE IN COMMON
 

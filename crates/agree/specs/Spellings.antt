@@ -6,11 +6,11 @@ use Rattle.word.specs.Walk.{SameLetters}
 use Rattle.spelling.specs.SameCall.{sameOutcome, SameAnswers}
 use Rattle.spelling.specs.declared.same.SameAnswer.{SameAnswer}
 use Rattle.history.specs.Finding.{Finding}
+use Rattle.plain.specs.PlainCall.{plainOutcome, PlainAnswers}
+use Rattle.plain.specs.declared.judge.PlainAnswer.{PlainAnswer}
 use Rattle.treejudge.specs.JudgeCall.{treeOutcome, treeAnswer, namesAfter, TreeAnswers}
 use Rattle.treejudge.specs.Examples.{AlwaysAnswers}
 use Rattle.treejudge.specs.declared.judge.TreeAnswer.{TreeAnswer}
-use Rattle.plain.specs.PlainCall.{plainOutcome, PlainAnswers}
-use Rattle.plain.specs.declared.judge.PlainAnswer.{PlainAnswer}
 
 -- VERDICTS
 

@@ -1,8 +1,8 @@
 // Both judges on one table and one walk.
 use plain::judge::PlainAnswer;
 use plain::judge::plain_refusal;
-use table::limits::LETTERS;
-use table::lookup::ENTRIES;
+use rule::limits::LETTERS;
+use rule::lookup::ENTRIES;
 use table::reader::Reading;
 use treejudge::judge::TreeAnswer;
 use treejudge::judge::tree_refusal;

@@ -16,11 +16,11 @@ use tree::calls::start;
 use tree::calls::step;
 use treejudge::judge::TreeAnswer;
 use treejudge::judge::tree_judge;
-ghost use Rattle.plain.specs.PlainCall.{PlainCall};
-ghost use Rattle.spelling.specs.SameCall.{SameCall};
-ghost use Rattle.successors.specs.SuccessorsCall.{SuccessorsCall};
 ghost use Rattle.table.specs.ReadCall.{ReadCall};
 ghost use Rattle.table.specs.WriteCall.{WriteCall};
+ghost use Rattle.successors.specs.SuccessorsCall.{SuccessorsCall};
+ghost use Rattle.spelling.specs.SameCall.{SameCall};
+ghost use Rattle.plain.specs.PlainCall.{PlainCall};
 ghost use Rattle.tree.specs.TreeCalls.{StartCall, StepCall};
 ghost use Rattle.treejudge.specs.JudgeCall.{TreeCall};
 

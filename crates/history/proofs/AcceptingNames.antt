@@ -6,13 +6,13 @@ use Prim.Native.Nat.{ℕ, zero, suc, _+_, _≤_}
 use native.Mathlib.Omega.{arith}
 use lib.Bits.{bitOr}
 use lib.Dec.{eqb}
-use Rattle.table.specs.Rule.{Rule}
-use Rattle.table.proofs.Logic.{clash, never, and-both, and-in, not-in}
+use Rattle.base.specs.Lists.{anyOf}
+use Rattle.base.proofs.Logic.{clash, never, and-both, and-in, not-in}
+use Rattle.rule.specs.Rule.{Rule}
 use Rattle.history.specs.Forest.{Forest, nil, node, listing, sameNumbers}
 use Rattle.history.specs.Tree.{Node, Tree}
-use Rattle.history.specs.Letter.{sprouted, Grown, child, kept, fiveSteps, isOld, anyOf, stable, accepting}
-use Rattle.history.proofs.LocalStep.{newLabel, accepts, branchAt, survive, taken, branchOf, takenAt, nameKept}
-use Rattle.history.proofs.LocalStep.{keptAmong, acceptsAmong}
+use Rattle.history.specs.Letter.{sprouted, Grown, child, kept, fiveSteps, isOld, stable, accepting}
+use Rattle.history.proofs.LocalStep.{newLabel, accepts, branchAt, survive, taken, branchOf, takenAt, nameKept, keptAmong, acceptsAmong}
 use Rattle.history.proofs.Conditions.{OneRoot}
 use Rattle.history.proofs.StepsJoined.{grown, advanced, oldNode, begunFrom, survivors-steps}
 use Rattle.history.proofs.Names.{same-self, same-equal, parted, longer, any-node, any-weaker}

@@ -6,7 +6,7 @@ use mathlib.Core.List.{List}
 use Prim.Native.Nat.{ℕ, _+_, _*_, _≤_}
 use native.Mathlib.Omega.{arith}
 use lib.ListN.{length}
-use Rattle.table.specs.Rule.{Rule}
+use Rattle.rule.specs.Rule.{Rule}
 use Rattle.history.specs.Rounds.{roundTree, FirstRepeat}
 use Rattle.history.specs.Verdict.{Witness, FirstWitness}
 use Rattle.history.proofs.WitnessByPosition.{accepts-late, witness-lasts, lasts-witness}

@@ -9,9 +9,9 @@ use native.Mathlib.Nat.{zero-mod, suc-mod, mod-self, mod-lt, mod-eq-of-lt, add-m
 use native.Mathlib.Decide.{decLt}
 use lib.Bits.{bitOr}
 use lib.ListN.{length, getD}
-use Rattle.table.specs.BitSet.{member}
-use Rattle.table.specs.Rule.{Rule, edge, edgeIn}
-use Rattle.table.proofs.Edges.{member-edgeIn}
+use Rattle.base.specs.BitSet.{member}
+use Rattle.rule.specs.Rule.{Rule, edge, edgeIn}
+use Rattle.rule.proofs.Edges.{member-edgeIn}
 use Rattle.word.specs.Walk.{letterAt, rounds}
 use Rattle.word.specs.Loop.{Leads}
 use Rattle.word.proofs.Paths.{rounds-add, leads-append, leads-repeat}

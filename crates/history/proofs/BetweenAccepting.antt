@@ -14,11 +14,11 @@ use native.Mathlib.Decide.{decLt, ℕ-discrete}
 use borrow.Author.Tests.{lt-ltb, le-ltb}
 use lib.Bits.{bitOr}
 use lib.ListN.{length}
-use Rattle.table.specs.BitSet.{member, Subset}
-use Rattle.table.specs.Rule.{Grid, Rule, edge, edgeIn, cellAt, successors}
-use Rattle.table.proofs.Logic.{look, clash, or-l, or-r}
-use Rattle.table.proofs.BitSet.{member-none, member-union}
-use Rattle.table.proofs.Edges.{edgeIn-edge, edgeIn-member}
+use Rattle.base.specs.BitSet.{member, Subset}
+use Rattle.base.proofs.Logic.{look, clash, or-l, or-r}
+use Rattle.base.proofs.BitSet.{member-none, member-union}
+use Rattle.rule.specs.Rule.{Grid, Rule, edge, edgeIn, cellAt, successors}
+use Rattle.rule.proofs.Edges.{edgeIn-edge, edgeIn-member}
 use Rattle.word.specs.Walk.{letterAt, rounds}
 use Rattle.word.specs.Loop.{Leads}
 use Rattle.word.proofs.Paths.{rounds-mul, leads-one, leads-append}

@@ -4,9 +4,9 @@ use mathlib.Core.Path.{_≡_, _∙_}
 use mathlib.Core.Bool.{true}
 use mathlib.Core.List.{List, [], _∷_}
 use Prim.Native.Nat.{ℕ, zero, suc, _≤_}
-use Rattle.table.specs.BitSet.{member, Subset}
-use Rattle.table.proofs.Logic.{clash, or-l, or-r}
-use Rattle.table.proofs.BitSet.{member-none, member-union}
+use Rattle.base.specs.BitSet.{member, Subset}
+use Rattle.base.proofs.Logic.{clash, or-l, or-r}
+use Rattle.base.proofs.BitSet.{member-none, member-union}
 use Rattle.history.specs.Forest.{nil, node}
 use Rattle.history.specs.Tree.{Tree, labels}
 use Rattle.history.proofs.Conditions.{Fits}

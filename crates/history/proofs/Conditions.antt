@@ -7,8 +7,8 @@ use borrow.Author.Tests.{eqb-false, ne-eqb, leb-true, le-leb, ltb-true, lt-ltb}
 use lib.Bits.{or-zero-r}
 use lib.Dec.{eqb, leb, ltb}
 use lib.Pow.{pow-pos}
-use Rattle.table.specs.BitSet.{member, Subset, ProperSubset}
-use Rattle.table.proofs.Logic.{clash, and-both, and-in, not-out, not-in}
+use Rattle.base.specs.BitSet.{member, Subset, ProperSubset}
+use Rattle.base.proofs.Logic.{clash, and-both, and-in, not-out, not-in}
 use Rattle.history.specs.Forest.{nil, node}
 use Rattle.history.specs.Tree.{Node, Tree, labels, disjoint, strictlyInside, nodesFit, isTree}
 use Rattle.history.proofs.SetFacts.{disjoint-out, disjoint-in, inside-out, inside-in}

@@ -5,13 +5,13 @@ use mathlib.Core.Logic.{_↔_}
 use mathlib.Core.Bool.{_&&_, _||_, and-comm, or-comm}
 use mathlib.Core.List.{List, _++_, append-nil}
 use Prim.Native.Nat.{ℕ, zero, suc, _≤_}
-use Rattle.table.specs.Rule.{Rule}
+use Rattle.rule.specs.Rule.{Rule}
 use Rattle.word.specs.Walk.{rounds}
 use Rattle.word.proofs.Paths.{rounds-one}
 use Rattle.history.specs.Tree.{Tree}
 use Rattle.history.specs.Rounds.{readLetters, roundTree, FirstRepeat}
 use Rattle.history.specs.Verdict.{Witness, FirstWitness}
-use Rattle.history.specs.Following.{stableThrough, acceptingOnce}
+use Rattle.history.specs.inner.Following.{stableThrough, acceptingOnce}
 use Rattle.history.proofs.FirstRepeats.{repeat-after-one}
 use Rattle.history.proofs.TreesOfWalk.{read-append, round-next}
 use Rattle.history.proofs.FollowingLaws.{stable-append, accepting-append}

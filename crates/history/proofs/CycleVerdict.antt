@@ -10,18 +10,18 @@ use native.Mathlib.Decide.{ℕ-discrete}
 use borrow.Author.Tests.{lt-ltb, ltb-true}
 use lib.Dec.{ltb}
 use lib.ListN.{length, getD, take}
-use Rattle.table.specs.BitSet.{member}
-use Rattle.table.specs.Rule.{Rule}
-use Rattle.table.specs.Table.{WellFormed}
-use Rattle.table.proofs.Logic.{clash, and-both, and-in, or-l, or-r, or-in}
-use Rattle.table.proofs.BitSet.{member-none}
+use Rattle.base.specs.BitSet.{member}
+use Rattle.base.proofs.Logic.{clash, and-both, and-in, or-l, or-r, or-in}
+use Rattle.base.proofs.BitSet.{member-none}
+use Rattle.rule.specs.Rule.{Rule}
+use Rattle.rule.specs.WellFormed.{WellFormed}
 use Rattle.word.specs.Walk.{rounds}
 use Rattle.history.specs.Forest.{size, names}
 use Rattle.history.specs.Tree.{Tree}
 use Rattle.history.specs.Letter.{nextTree, accepting, stable, byNumber}
 use Rattle.history.specs.Rounds.{readLetters, roundTree, treeInRound, FirstRepeat}
 use Rattle.history.specs.Verdict.{LetterPlace, Witness, FirstWitness}
-use Rattle.history.specs.Following.{stableThrough, acceptingOnce, witnessMap}
+use Rattle.history.specs.inner.Following.{stableThrough, acceptingOnce, witnessMap}
 use Rattle.history.proofs.TreesOf.{of-root}
 use Rattle.history.proofs.NamesDistinct.{length-names}
 use Rattle.history.proofs.TreesOfWalk.{read-append, round-next, round-periodic}

@@ -10,41 +10,17 @@ use mathlib.Core.List.{List, [], _∷_}
 use Prim.Native.Nat.{ℕ, zero, suc, _+_, _*_, _-_, _%_, _≤_, _<_, pred}
 use native.Mathlib.Omega.{arith}
 use native.Mathlib.Nat.{add-suc, add-zero, zero-add, mul-le-mul-left, mod-lt}
-use Rattle.table.specs.BitSet.{member, some}
-use Rattle.table.specs.Rule.{Rule, edge, edgeIn}
-use Rattle.table.specs.Table.{WellFormed}
-use Rattle.table.proofs.Logic.{look, clash, never, and-both, not-out}
-use Rattle.table.proofs.BitSet.{member-none, some-in, some-out}
+use Rattle.base.specs.BitSet.{member, some}
+use Rattle.base.proofs.Logic.{look, clash, never, and-both, not-out}
+use Rattle.base.proofs.BitSet.{member-none, some-in, some-out}
+use Rattle.rule.specs.Rule.{Rule, edge, edgeIn}
+use Rattle.rule.specs.WellFormed.{WellFormed}
 use Rattle.word.proofs.Periods.{Periodic, again, reduced}
 use Rattle.history.specs.Forest.{nil, node, size}
 use Rattle.history.specs.Tree.{Tree, labels}
 use Rattle.history.proofs.BranchFits.{BranchFits, branch-fits}
-use Rattle.history.proofs.LocalStep.{
-  newLabel,
-  sproutOf,
-  Branch,
-  branchAt,
-  survive,
-  taken,
-  newBelow,
-  accepts,
-  stepBranch,
-  branchOf,
-  takenAt,
-  nameKept,
-}
-use Rattle.history.proofs.OneNode.{
-  placeOf,
-  holds-at-place,
-  step-quiet,
-  step-label,
-  label-from,
-  branch-step,
-  enters-below,
-  stays-among,
-  place-falls,
-  place-same,
-}
+use Rattle.history.proofs.LocalStep.{newLabel, sproutOf, Branch, branchAt, survive, taken, newBelow, accepts, stepBranch, branchOf, takenAt, nameKept}
+use Rattle.history.proofs.OneNode.{placeOf, holds-at-place, step-quiet, step-label, label-from, branch-step, enters-below, stays-among, place-falls, place-same}
 
 -- WHAT RETURNS
 

@@ -9,10 +9,10 @@ use Prim.Native.Nat.{ℕ, _+_, _-_, _≤_, _<_}
 use native.Mathlib.Omega.{arith}
 use native.Mathlib.Decide.{decLt, ℕ-discrete, map-dec}
 use lib.ListN.{length, getD}
-use Rattle.table.specs.BitSet.{some}
-use Rattle.table.specs.Rule.{Rule}
-use Rattle.table.proofs.Logic.{look, clash, never, and-both, and-in, not-out, not-in}
-use Rattle.table.proofs.BitSet.{some-in, some-out}
+use Rattle.base.specs.BitSet.{some}
+use Rattle.base.proofs.Logic.{look, clash, never, and-both, and-in, not-out, not-in}
+use Rattle.base.proofs.BitSet.{some-in, some-out}
+use Rattle.rule.specs.Rule.{Rule}
 use Rattle.history.specs.Forest.{names}
 use Rattle.history.specs.Tree.{Tree}
 use Rattle.history.specs.Letter.{stable, accepting}

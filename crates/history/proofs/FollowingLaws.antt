@@ -11,17 +11,17 @@ use lib.Bits.{bitAnd, bitOr}
 use lib.Dec.{ltb}
 use lib.ListN.{getD}
 use lib.Pow.{pow-pos}
-use Rattle.table.specs.BitSet.{member, collect}
-use Rattle.table.specs.Rule.{Rule}
-use Rattle.table.specs.Table.{WellFormed}
-use Rattle.table.proofs.Logic.{bool-ext, and-both, and-in}
-use Rattle.table.proofs.BitSet.{member-union, member-inter, set-ext, member-collect, collect-ext}
+use Rattle.base.specs.BitSet.{member, collect}
+use Rattle.base.proofs.Logic.{bool-ext, and-both, and-in}
+use Rattle.base.proofs.BitSet.{member-union, member-inter, set-ext, member-collect, collect-ext}
+use Rattle.rule.specs.Rule.{Rule}
+use Rattle.rule.specs.WellFormed.{WellFormed}
 use Rattle.history.specs.Forest.{size, names}
 use Rattle.history.specs.Tree.{Tree, isTreeOf}
 use Rattle.history.specs.Letter.{nextTree, accepting, stable, byNumber, acceptingMap, stableMap}
 use Rattle.history.specs.Rounds.{readLetters}
-use Rattle.history.specs.OldNumbers.{noNode, oldNumbers}
-use Rattle.history.specs.Following.{stableThrough, acceptingOnce, keptMap, witnessMap, carried}
+use Rattle.history.specs.inner.OldNumbers.{noNode, oldNumbers}
+use Rattle.history.specs.inner.Following.{stableThrough, acceptingOnce, keptMap, witnessMap, carried}
 use Rattle.history.proofs.TreesOfWalk.{read-append}
 use Rattle.history.proofs.RepeatExists.{letters-keep}
 use Rattle.history.proofs.OldNumberLaws.{length-old, stable-keeps, stable-comes}

@@ -7,9 +7,9 @@ use mathlib.Core.Bool.{true, false}
 use Prim.Native.Nat.{ℕ, suc, _+_, _≤_, _<_}
 use native.Mathlib.Omega.{arith}
 use native.Mathlib.Decide.{decLt, decLe}
-use Rattle.table.specs.BitSet.{member, Subset}
-use Rattle.table.proofs.Logic.{look, clash, never, bool-ext, or-in}
-use Rattle.table.proofs.BitSet.{member-none, member-union, set-ext}
+use Rattle.base.specs.BitSet.{member, Subset}
+use Rattle.base.proofs.Logic.{look, clash, never, bool-ext, or-in}
+use Rattle.base.proofs.BitSet.{member-none, member-union, set-ext}
 use Rattle.history.specs.Forest.{nil, node, size}
 use Rattle.history.specs.Tree.{Node, Tree, labels}
 use Rattle.history.specs.Record.{hostFrom}

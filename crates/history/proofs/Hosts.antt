@@ -7,9 +7,9 @@ use Prim.Native.Nat.{ℕ, suc, _+_, _≤_, _<_}
 use native.Mathlib.Omega.{arith}
 use native.Mathlib.Decide.{decLt, ℕ-discrete}
 use lib.Count.{ones}
-use Rattle.table.specs.BitSet.{member}
-use Rattle.table.proofs.Logic.{look, clash, never, or-l, or-r, or-in}
-use Rattle.table.proofs.BitSet.{member-none, member-union, size-proper}
+use Rattle.base.specs.BitSet.{member}
+use Rattle.base.proofs.Logic.{look, clash, never, or-l, or-r, or-in}
+use Rattle.base.proofs.BitSet.{member-none, member-union, size-proper}
 use Rattle.history.specs.Forest.{nil, node, size}
 use Rattle.history.specs.Tree.{Node, Tree, labels}
 use Rattle.history.specs.Record.{hostFrom}

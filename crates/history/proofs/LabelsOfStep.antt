@@ -6,10 +6,10 @@ use Prim.Native.Nat.{ℕ, _<_, _^_}
 use borrow.Author.Tests.{eqb-true}
 use lib.Bits.{bitOr, or-zero-r}
 use lib.Dec.{eqb}
-use Rattle.table.specs.BitSet.{member, minus, Subset}
-use Rattle.table.specs.Rule.{Rule, edge, edgeIn, successors, successorsIn}
-use Rattle.table.proofs.BitSet.{member-none, member-union, member-minus, set-ext, image-in, image-out, image-lt, image-none, image-union}
-use Rattle.table.proofs.Edges.{edgeIn-edge}
+use Rattle.base.specs.BitSet.{member, minus, Subset}
+use Rattle.base.proofs.BitSet.{member-none, member-union, member-minus, set-ext, image-in, image-out, image-lt, image-none, image-union}
+use Rattle.rule.specs.Rule.{Rule, edge, edgeIn, successors, successorsIn}
+use Rattle.rule.proofs.Edges.{edgeIn-edge}
 use Rattle.history.specs.Forest.{nil, node}
 use Rattle.history.specs.Tree.{Node, Tree, labels}
 use Rattle.history.proofs.LocalStep.{settled, settle, newLabel, step}

@@ -5,8 +5,8 @@ use mathlib.Core.List.{List, [], _∷_}
 use Prim.Native.Nat.{ℕ, zero, suc}
 use lib.Bits.{bitOr}
 use lib.Dec.{eqb}
-use Rattle.table.specs.BitSet.{minus}
-use Rattle.table.specs.Rule.{Rule, successors, successorsIn}
+use Rattle.base.specs.BitSet.{minus}
+use Rattle.rule.specs.Rule.{Rule, successors, successorsIn}
 use Rattle.history.specs.Forest.{nil, node}
 use Rattle.history.specs.Tree.{Node, Tree, labels}
 use Rattle.history.specs.Letter.{nextSet}

@@ -9,9 +9,9 @@ use native.Mathlib.Omega.{arith}
 use native.Mathlib.Nat.{add-suc, add-zero, mul-le-mul-left, mul-le-mul-right}
 use lib.Bits.{bitOr, or-zero-r}
 use lib.ListN.{length}
-use Rattle.table.specs.BitSet.{member}
-use Rattle.table.specs.Rule.{Rule, edgeIn}
-use Rattle.table.specs.Table.{WellFormed}
+use Rattle.base.specs.BitSet.{member}
+use Rattle.rule.specs.Rule.{Rule, edgeIn}
+use Rattle.rule.specs.WellFormed.{WellFormed}
 use Rattle.word.specs.Walk.{letterAt}
 use Rattle.word.specs.Loop.{Loop}
 use Rattle.history.specs.Forest.{nil, node}

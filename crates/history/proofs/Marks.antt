@@ -8,11 +8,11 @@ use native.Mathlib.Decide.{decLt}
 use borrow.Author.Tests.{eqb-true, eq-eqb, leb-true, le-leb}
 use lib.Dec.{eqb, leb}
 use lib.ListN.{length, length-append}
-use Rattle.table.proofs.Logic.{clash, and-both, and-in}
+use Rattle.base.proofs.Logic.{clash, and-both, and-in}
 use Rattle.history.specs.Forest.{nil, node, size}
 use Rattle.history.specs.Tree.{Node, Tree}
 use Rattle.history.specs.Record.{marks}
-use Rattle.history.specs.RecordChecks.{activeFits, marksFollow, marksFit}
+use Rattle.history.specs.inner.RecordChecks.{activeFits, marksFollow, marksFit}
 use Rattle.history.proofs.Conditions.{Active}
 use Rattle.history.proofs.HostLabels.{relabelled}
 use Rattle.history.proofs.RecordOfTree.{Shallower}

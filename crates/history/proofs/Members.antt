@@ -12,9 +12,9 @@ use borrow.Author.Tests.{eqb-true, eqb-false}
 use lib.Count.{ones, ones-step, ones-le}
 use lib.ListN.{length, getD, drop, drop-of-length-le}
 use lib.Seq.{drop-cons}
-use Rattle.table.specs.BitSet.{member}
-use Rattle.table.proofs.Logic.{look, clash}
-use Rattle.table.proofs.BitSet.{member-zero, member-suc}
+use Rattle.base.specs.BitSet.{member}
+use Rattle.base.proofs.Logic.{look, clash}
+use Rattle.base.proofs.BitSet.{member-zero, member-suc}
 use Rattle.history.specs.Record.{membersFrom, members, rank}
 
 -- RANKS

@@ -7,8 +7,8 @@ use Prim.Native.Nat.{ℕ, zero, suc, _≤_, _<_}
 use native.Mathlib.Omega.{arith}
 use native.Mathlib.Decide.{decLt}
 use lib.ListN.{length, getD}
-use Rattle.table.specs.Table.{Every}
-use Rattle.table.proofs.Every.{every-at, every-weaker}
+use Rattle.base.specs.Lists.{Every}
+use Rattle.base.proofs.Every.{every-at, every-weaker}
 use Rattle.history.specs.Forest.{Forest, nil, node, listing, namedFrom, named, names}
 use Rattle.history.specs.Verdict.{Before}
 

@@ -9,9 +9,9 @@ use native.Mathlib.Omega.{arith}
 use borrow.Author.Tests.{eqb-true, eq-eqb}
 use lib.Dec.{eqb}
 use lib.ListN.{length, getD}
-use Rattle.table.proofs.Logic.{clash, never, and-both, and-in, or-l, or-r, or-in}
+use Rattle.base.specs.Lists.{anyOf}
+use Rattle.base.proofs.Logic.{clash, never, and-both, and-in, or-l, or-r, or-in}
 use Rattle.history.specs.Forest.{Forest, nil, node, change, listing, Named, namedFrom, named, sameNumbers}
-use Rattle.history.specs.Letter.{anyOf}
 
 -- LISTS OF NUMBERS
 

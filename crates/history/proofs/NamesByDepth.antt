@@ -8,12 +8,12 @@ use native.Mathlib.Omega.{arith}
 use borrow.Author.Tests.{lt-ltb, le-ltb}
 use lib.ListN.{length, getD, take, length-append, length-take, List·getD-map}
 use lib.Seq.{take-length, take-append-seam, getD-append-seam}
-use Rattle.table.specs.Table.{Every}
-use Rattle.table.proofs.Every.{every-at, every-weaker}
+use Rattle.base.specs.Lists.{Every}
+use Rattle.base.proofs.Every.{every-at, every-weaker}
 use Rattle.history.specs.Forest.{Forest, nil, node, size, listing, named, names}
 use Rattle.history.specs.Tree.{Tree}
 use Rattle.history.specs.Verdict.{Before}
-use Rattle.history.specs.NamesByDepth.{depthsFrom, depths, nameAfter, namesAlong}
+use Rattle.history.specs.inner.NamesByDepth.{depthsFrom, depths, nameAfter, namesAlong}
 use Rattle.history.proofs.Conditions.{OneRoot}
 use Rattle.history.proofs.Names.{longer}
 use Rattle.history.proofs.NamesDistinct.{length-names}

@@ -5,10 +5,10 @@ use mathlib.Core.List.{List, [], _∷_, _++_, nil≢cons}
 use Prim.Native.Nat.{ℕ, zero, suc, _+_, _≤_, _<_}
 use native.Mathlib.Omega.{arith}
 use lib.ListN.{length, getD, length-append, length-map}
-use Rattle.table.proofs.Logic.{clash, never, or-l, or-r}
+use Rattle.base.specs.Lists.{anyOf}
+use Rattle.base.proofs.Logic.{clash, never, or-l, or-r}
 use Rattle.history.specs.Forest.{Forest, nil, node, size, listing, namedFrom, named, names, sameNumbers}
 use Rattle.history.specs.Tree.{Tree}
-use Rattle.history.specs.Letter.{anyOf}
 use Rattle.history.proofs.Conditions.{OneRoot}
 use Rattle.history.proofs.Names.{same-self, same-equal, parted, longer, any-append, any-in, any-number, any-map, named-in}
 use Rattle.history.proofs.NameOrder.{namesFrom, names-from, names-root}

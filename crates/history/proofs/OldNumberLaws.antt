@@ -8,13 +8,14 @@ use mathlib.Core.List.{List, [], _∷_, _++_, map, map-map, map-append, append-n
 use Prim.Native.Nat.{ℕ, zero, suc, _+_, _≤_, _<_}
 use native.Mathlib.Omega.{arith}
 use lib.ListN.{length, getD, length-map}
-use Rattle.table.specs.Rule.{Rule}
-use Rattle.table.specs.Table.{WellFormed}
-use Rattle.table.proofs.Logic.{clash, and-in}
+use Rattle.base.specs.Lists.{anyOf}
+use Rattle.base.proofs.Logic.{clash, and-in}
+use Rattle.rule.specs.Rule.{Rule}
+use Rattle.rule.specs.WellFormed.{WellFormed}
 use Rattle.history.specs.Forest.{Forest, nil, node, size, change, listing, Named, namedFrom, named, names, sameNumbers}
 use Rattle.history.specs.Tree.{Node, Tree, isTreeOf}
-use Rattle.history.specs.Letter.{Origin, was, sprouted, Grown, survivors, nextTree, isOld, anyOf, stable}
-use Rattle.history.specs.OldNumbers.{noNode, numberFrom, oldNumber, oldNumbers}
+use Rattle.history.specs.Letter.{Origin, was, sprouted, Grown, survivors, nextTree, isOld, stable}
+use Rattle.history.specs.inner.OldNumbers.{noNode, numberFrom, oldNumber, oldNumbers}
 use Rattle.history.proofs.Conditions.{OneRoot}
 use Rattle.history.proofs.StepsJoined.{noSprout}
 use Rattle.history.proofs.TreesOf.{of-root, of-few, next-is-tree}

@@ -13,32 +13,16 @@ use native.Mathlib.Omega.{arith}
 use lib.Bits.{bitOr}
 use lib.Dec.{eqb}
 use borrow.Author.Tests.{eqb-true}
-use Rattle.table.specs.BitSet.{member}
-use Rattle.table.specs.Rule.{Rule, edge, edgeIn, successors, successorsIn}
-use Rattle.table.specs.Table.{WellFormed}
-use Rattle.table.proofs.Logic.{look, clash, never, and-in, or-in, not-in}
-use Rattle.table.proofs.BitSet.{member-none, member-union, member-minus, image-in, image-out}
-use Rattle.table.proofs.Edges.{edge-inside, edgeIn-edge}
+use Rattle.base.specs.BitSet.{member}
+use Rattle.base.proofs.Logic.{look, clash, never, and-in, or-in, not-in}
+use Rattle.base.proofs.BitSet.{member-none, member-union, member-minus, image-in, image-out}
+use Rattle.rule.specs.Rule.{Rule, edge, edgeIn, successors, successorsIn}
+use Rattle.rule.specs.WellFormed.{WellFormed}
+use Rattle.rule.proofs.Edges.{edge-inside, edgeIn-edge}
 use Rattle.history.specs.Forest.{nil, node}
 use Rattle.history.specs.Tree.{Node, Tree, labels}
 use Rattle.history.specs.Letter.{nextSet}
-use Rattle.history.proofs.LocalStep.{
-  settled,
-  settle,
-  newLabel,
-  sproutOf,
-  step,
-  Branch,
-  branchAt,
-  survive,
-  taken,
-  newBelow,
-  accepts,
-  stepBranch,
-  branchOf,
-  takenAt,
-  nameKept,
-}
+use Rattle.history.proofs.LocalStep.{settled, settle, newLabel, sproutOf, step, Branch, branchAt, survive, taken, newBelow, accepts, stepBranch, branchOf, takenAt, nameKept}
 use Rattle.history.proofs.LabelsOfStep.{labels-step}
 
 -- the place of the first sibling that holds q

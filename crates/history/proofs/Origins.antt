@@ -5,15 +5,15 @@ use mathlib.Core.List.{List, [], _∷_, _++_}
 use Prim.Native.Nat.{ℕ, suc, _≤_}
 use lib.Bits.{bitOr}
 use lib.Dec.{eqb}
-use Rattle.table.specs.Rule.{Rule}
-use Rattle.table.proofs.Logic.{or-r}
+use Rattle.base.specs.Lists.{anyOf}
+use Rattle.base.proofs.Logic.{or-r}
+use Rattle.rule.specs.Rule.{Rule}
 use Rattle.history.specs.Forest.{Forest, nil, node, change, listing, namedFrom, named, names, sameNumbers}
 use Rattle.history.specs.Tree.{Node, Tree}
-use Rattle.history.specs.Letter.{sprouted, Grown, begun, child, kept, fiveSteps, survivors, isOld, anyOf, stable}
+use Rattle.history.specs.Letter.{sprouted, Grown, begun, child, kept, fiveSteps, survivors, isOld, stable}
 use Rattle.history.proofs.LocalStep.{newLabel, accepts}
 use Rattle.history.proofs.SetFacts.{nothing-minus}
-use Rattle.history.proofs.StepsJoined.{heldNode, grown, advanced, grown-new, grown-node}
-use Rattle.history.proofs.StepsJoined.{oldNode, begunFrom, held-begunFrom, noSprout, steps-grown, survivors-steps}
+use Rattle.history.proofs.StepsJoined.{heldNode, grown, advanced, grown-new, grown-node, oldNode, begunFrom, held-begunFrom, noSprout, steps-grown, survivors-steps}
 use Rattle.history.proofs.Names.{or-weaker, any-node, any-map, any-change, at-any, named-in, named-tree}
 use Rattle.history.proofs.NamesDistinct.{IsName, name-number}
 

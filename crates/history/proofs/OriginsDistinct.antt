@@ -10,8 +10,8 @@ use native.Mathlib.Decide.{decLt}
 use lib.Bits.{bitOr}
 use lib.Dec.{eqb}
 use lib.ListN.{length, getD}
-use Rattle.table.specs.Rule.{Rule}
-use Rattle.table.proofs.Logic.{look, never}
+use Rattle.base.proofs.Logic.{look, never}
+use Rattle.rule.specs.Rule.{Rule}
 use Rattle.history.specs.Forest.{Forest, nil, node, change, listing, named, names, sameNumbers}
 use Rattle.history.specs.Tree.{Tree}
 use Rattle.history.specs.Letter.{sprouted, Grown, begun, child, kept, fiveSteps, survivors, isOld}

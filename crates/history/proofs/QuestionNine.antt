@@ -6,8 +6,8 @@ use mathlib.Core.Bool.{Bool, true, false}
 use mathlib.Core.List.{List}
 use Prim.Native.Nat.{ℕ, _<_}
 use native.Mathlib.Omega.{arith}
-use Rattle.table.specs.Outcome.{accepted, ask}
-use Rattle.table.proofs.Logic.{and-both, and-in}
+use Rattle.base.specs.Outcome.{accepted, ask}
+use Rattle.base.proofs.Logic.{and-both, and-in}
 use Rattle.history.specs.Forest.{sameNumbers}
 use Rattle.history.specs.Tree.{Tree, isTree}
 use Rattle.history.specs.Record.{recordOf, decoded, isRecord, readTree}

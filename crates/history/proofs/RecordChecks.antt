@@ -1,24 +1,25 @@
 -- The checks of specs/RecordChecks.antt are question 9: bytes pass them exactly where they are the record of some tree.
 use mathlib.Core.Path.{_≡_, refl, sym, _∙_, ap, ap₂}
-use mathlib.Core.Logic.{⊎-elim}
 use mathlib.Core.Bool.{Bool, true, false, _&&_, cond}
 use mathlib.Core.List.{List, [], _∷_, _++_, map}
 use Prim.Native.Nat.{ℕ, zero, suc, _+_, _-_, _^_, _≤_, _<_}
 use native.Mathlib.Omega.{arith}
 use native.Mathlib.Decide.{ℕ-discrete}
-use borrow.Author.Tests.{eqb-true, eq-eqb, ne-eqb, ltb-true, lt-ltb}
+use borrow.Author.Tests.{eqb-true, ne-eqb, ltb-true, lt-ltb}
 use lib.Count.{ones}
 use lib.Dec.{eqb, ltb}
 use lib.ListN.{length, getD, take, drop, length-append, length-map, take-append-drop}
 use lib.Seq.{take-at, drop-at, length-take-le}
-use Rattle.table.specs.Outcome.{accepted, ask}
-use Rattle.table.specs.BitSet.{member}
-use Rattle.table.proofs.Logic.{clash, bool-ext, and-both, and-in, or-l, or-r, or-in}
-use Rattle.table.proofs.BitSet.{member-lt, set-ext}
+use Rattle.base.specs.Outcome.{accepted, ask}
+use Rattle.base.specs.BitSet.{member}
+use Rattle.base.specs.Lists.{allBelow}
+use Rattle.base.proofs.Every.{below-at, below-in, found-at, found-in}
+use Rattle.base.proofs.Logic.{clash, bool-ext, and-both, and-in}
+use Rattle.base.proofs.BitSet.{member-lt, set-ext}
 use Rattle.history.specs.Forest.{nil, node, size}
 use Rattle.history.specs.Tree.{Node, Tree, isTree}
 use Rattle.history.specs.Record.{host, members, rank, marks, recordOf, hostedIn, decoded, isRecord, readTree}
-use Rattle.history.specs.RecordChecks.{hostsBelow, isHost, allHost, marksFit, bodyFits, recordChecks}
+use Rattle.history.specs.inner.RecordChecks.{isHost, allHost, marksFit, bodyFits, recordChecks}
 use Rattle.history.proofs.Conditions.{Active, fits-active, IsTree, tree-out, tree-in}
 use Rattle.history.proofs.Hosts.{host-to, each-hosts}
 use Rattle.history.proofs.HostLabels.{relabelled, ByNumber, relabelled-host, relabelled-fits}
@@ -28,32 +29,6 @@ use Rattle.history.proofs.Marks.{marks-relabelled, marks-in, marks-out}
 use Rattle.history.proofs.QuestionNine.{is-record-exact}
 
 -- WHAT THE CHECKS OF HOSTS SAY
-
--- each host is below the number of nodes
-below-out : (nodes : ℕ) (hosts : List ℕ) → hostsBelow nodes hosts ≡ true → (r : ℕ) → r < length hosts → getD hosts r 0 < nodes
-unfolding hostsBelow
-below-out nodes [] h r l = absurd (omega arith)
-below-out nodes (a ∷ hosts) h zero l = ltb-true a nodes (and-in (ltb a nodes) _ h .0)
-below-out nodes (a ∷ hosts) h (suc r) l = below-out nodes hosts (and-in (ltb a nodes) _ h .1) r (omega arith)
-
-below-in : (nodes : ℕ) (hosts : List ℕ) → ((r : ℕ) → r < length hosts → getD hosts r 0 < nodes) → hostsBelow nodes hosts ≡ true
-unfolding hostsBelow
-below-in nodes [] h = refl
-below-in nodes (a ∷ hosts) h = and-both (ltb a nodes) _ (lt-ltb a nodes (h 0 (omega arith)))
-    (below-in nodes hosts (λ r l. h (suc r) (omega arith)))
-
--- a number is that of a host
-host-out : (i : ℕ) (hosts : List ℕ) → isHost i hosts ≡ true → (r : ℕ) × (r < length hosts) × (getD hosts r 0 ≡ i)
-unfolding isHost
-host-out i [] h = clash refl h
-host-out i (a ∷ hosts) h = ⊎-elim (λ e. (0, omega arith, eqb-true a i e))
-    (λ e. let (r, l, z) = host-out i hosts e in (suc r, omega arith, z)) (or-in (eqb a i) _ h)
-
-host-in : (i : ℕ) (hosts : List ℕ) (r : ℕ) → r < length hosts → getD hosts r 0 ≡ i → isHost i hosts ≡ true
-unfolding isHost
-host-in i [] r l e = absurd (omega arith)
-host-in i (a ∷ hosts) zero l e = or-l (eqb a i) _ (eq-eqb a i e)
-host-in i (a ∷ hosts) (suc r) l e = or-r (eqb a i) _ (host-in i hosts r (omega arith) e)
 
 -- each number is
 all-host-out : (nodes : ℕ) (hosts : List ℕ) → allHost nodes hosts ≡ true → (i : ℕ) → i < nodes → isHost i hosts ≡ true
@@ -74,7 +49,7 @@ all-host-in (suc nodes) hosts h = and-both (isHost nodes hosts) _ (h nodes (omeg
 
 -- what follows the map, in its two parts
 body-parts : (k s : ℕ) (hosts left : List ℕ) → length hosts ≡ ones s
-    → bodyFits k s (hosts ++ left) ≡ ((hostsBelow (length left) hosts && allHost (length left) hosts) && marksFit k left)
+    → bodyFits k s (hosts ++ left) ≡ ((allBelow (length left) hosts && allHost (length left) hosts) && marksFit k left)
 unfolding bodyFits
 body-parts k s hosts left e =
     let nodes : length (hosts ++ left) - ones s ≡ length left = omega (arith, length-append hosts left) in
@@ -88,9 +63,9 @@ body-in : (n k : ℕ) (x : Node) (below : Tree) → IsTree n k (node x below nil
 unfolding host
 body-in n k x below t h =
     body-parts k s hosts (marks 0 T) many
-    ∙ ap (λ (c : ℕ). (hostsBelow c hosts && allHost c hosts) && marksFit k (marks 0 T)) (length-marks 0 T)
-    ∙ and-both (hostsBelow (size T) hosts && allHost (size T) hosts) _
-    (and-both (hostsBelow (size T) hosts) _ (below-in (size T) hosts low) (all-host-in (size T) hosts each))
+    ∙ ap (λ (c : ℕ). (allBelow c hosts && allHost c hosts) && marksFit k (marks 0 T)) (length-marks 0 T)
+    ∙ and-both (allBelow (size T) hosts && allHost (size T) hosts) _
+    (and-both (allBelow (size T) hosts) _ (below-in (size T) hosts low) (all-host-in (size T) hosts each))
     (marks-in k x below (fits-active k T (t .fits)) h)
   where
     T : Tree
@@ -117,7 +92,7 @@ body-in n k x below t h =
     each i l = let (q, held, e) = each-hosts k 0 T (t .fits) i (omega arith) (omega arith) in
         let m : member s q ≡ true = rw (root-states x below) at held in
         let below-n = member-lt n s q small m in
-        host-in i hosts (rank s q) (omega (arith, many, rank-all n s small, rank-lt n s q below-n m))
+        found-in i hosts (rank s q) (omega (arith, many, rank-all n s small, rank-lt n s q below-n m))
         (map-at-rank (host T) n s q below-n m ∙ e)
 
 -- the record of each tree
@@ -139,7 +114,7 @@ checks-in n k (node x below (node y other younger)) t h = absurd (tree-out n k (
 
 -- the tree of a map, of hosts and of marks that fit
 module _ (n k s : ℕ) (hosts left : List ℕ) (small : s < 2 ^ n) (many : length hosts ≡ ones s)
-    (below : hostsBelow (length left) hosts ≡ true) (each : allHost (length left) hosts ≡ true)
+    (below : allBelow (length left) hosts ≡ true) (each : allHost (length left) hosts ≡ true)
     (x : Node) (down : Tree) (whole : marks 0 (node x down nil) ≡ left) (active : Active k (node x down nil)) where
   number : ℕ → ℕ
   number q = getD hosts (rank s q) 0
@@ -153,13 +128,13 @@ module _ (n k s : ℕ) (hosts left : List ℕ) (small : s < 2 ^ n) (many : lengt
 
   number-lt : (q : ℕ) → member s q ≡ true → number q < size (node x down nil)
   unfolding number
-  number-lt q m = let h = below-out (length left) hosts below (rank s q)
+  number-lt q m = let h = below-at (length left) hosts below (rank s q)
       (omega (arith, rank-lt n s q (member-lt n s q small m) m, rank-all n s small)) in omega (arith, nodes)
 
   number-onto : (j : ℕ) → 0 ≤ j → j < 0 + size (node x down nil) → (q : ℕ) × (member s q ≡ true) × (number q ≡ j)
   unfolding number
   number-onto j _ l =
-      let (r, short, e) = host-out j hosts (all-host-out (length left) hosts each j (omega (arith, nodes))) in
+      let (r, short, e) = found-at j hosts (all-host-out (length left) hosts each j (omega (arith, nodes))) in
       let (q, _, m, z) = rank-onto n s r (omega (arith, rank-all n s small)) in
       (q, m, ap (λ (c : ℕ). getD hosts c 0) z ∙ e)
 
@@ -213,9 +188,9 @@ checks-out n k (s ∷ left) h = go (eqb s 0) refl h
         let ends : List ℕ = drop (ones s) left in
         let many : length hosts ≡ ones s = length-take-le (ones s) left (omega (arith, ltb-true (ones s) (length left) long)) in
         let parts : hosts ++ ends ≡ left = take-append-drop (ones s) left in
-        let (numbers, marked) = and-in (hostsBelow (length ends) hosts && allHost (length ends) hosts) _
+        let (numbers, marked) = and-in (allBelow (length ends) hosts && allHost (length ends) hosts) _
         (sym (body-parts k s hosts ends many) ∙ ap (bodyFits k s) parts ∙ fits) in
-        let (low, each) = and-in (hostsBelow (length ends) hosts) _ numbers in
+        let (low, each) = and-in (allBelow (length ends) hosts) _ numbers in
         let (x, down, whole, active) = marks-out k ends marked in
         let all = ltb-true s (2 ^ n) small in (
           relabelled (hostedIn n s hosts) 0 (node x down nil),

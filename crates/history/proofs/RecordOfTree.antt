@@ -13,9 +13,9 @@ use lib.Count.{ones, ones-le}
 use lib.Dec.{leb, ltb}
 use lib.ListN.{length, getD, drop, length-append, length-map}
 use lib.Seq.{take-at, drop-at}
-use Rattle.table.specs.BitSet.{member}
-use Rattle.table.proofs.Logic.{and-both, and-in}
-use Rattle.table.proofs.BitSet.{member-lt, member-collect}
+use Rattle.base.specs.BitSet.{member}
+use Rattle.base.proofs.Logic.{and-both, and-in}
+use Rattle.base.proofs.BitSet.{member-lt, member-collect}
 use Rattle.history.specs.Forest.{nil, node, size}
 use Rattle.history.specs.Tree.{Node, Tree, labels, isTree}
 use Rattle.history.specs.Record.{host, members, marks, recordOf, rank, hostedIn, planted, decoded}

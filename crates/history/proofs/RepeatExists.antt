@@ -6,9 +6,9 @@ use mathlib.Core.Bool.{true}
 use mathlib.Core.List.{List, [], _∷_, _++_}
 use Prim.Native.Nat.{ℕ, _+_, _-_, _^_, _≤_, _<_}
 use native.Mathlib.Omega.{arith}
-use Rattle.table.specs.Limits.{maxStates, maxSets}
-use Rattle.table.specs.Rule.{Rule}
-use Rattle.table.specs.Table.{WellFormed}
+use Rattle.rule.specs.Limits.{maxStates, maxSets}
+use Rattle.rule.specs.Rule.{Rule}
+use Rattle.rule.specs.WellFormed.{WellFormed}
 use Rattle.word.specs.Walk.{rounds}
 use Rattle.history.specs.Tree.{Tree, isTree, isTreeOf, startTree}
 use Rattle.history.specs.Rounds.{readLetters, roundTree, FirstRepeat}

@@ -6,7 +6,7 @@ use mathlib.Core.List.{List}
 use Prim.Native.Nat.{ℕ, zero, suc, _+_, _*_, _≤_}
 use native.Mathlib.Omega.{arith}
 use lib.ListN.{length}
-use Rattle.table.specs.Rule.{Rule}
+use Rattle.rule.specs.Rule.{Rule}
 use Rattle.word.specs.Walk.{letterAt}
 use Rattle.word.proofs.SameAlong.{SameAlong, along-back}
 use Rattle.history.specs.Tree.{Tree, startTree}

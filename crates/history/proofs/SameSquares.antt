@@ -3,8 +3,8 @@
 use mathlib.Core.Path.{_≡_, refl, sym, _∙_}
 use mathlib.Core.List.{List}
 use Prim.Native.Nat.{ℕ}
-use Rattle.table.specs.Rule.{Rule, squareOf}
-use Rattle.table.proofs.SameSquares.{same-successors, same-successors-in}
+use Rattle.rule.specs.Rule.{Rule, squareOf}
+use Rattle.rule.proofs.SameSquares.{same-successors, same-successors-in}
 use Rattle.history.specs.Forest.{Forest, nil, node, change}
 use Rattle.history.specs.Tree.{Tree}
 use Rattle.history.specs.Letter.{Grown, succeeded, child, sprouting, fiveSteps, survivors, nextTree, accepting, stable}

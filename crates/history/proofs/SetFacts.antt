@@ -9,9 +9,9 @@ use lib.Arith.{bin-ind}
 use lib.Bits.{bitAnd, bitOr, or-step}
 use lib.Count.{ones, onesIn, ones-step}
 use lib.Dec.{eqb}
-use Rattle.table.specs.BitSet.{member, minus, Subset, ProperSubset}
-use Rattle.table.proofs.Logic.{look, clash, never, bool-ext, and-both, and-in, not-out, not-in}
-use Rattle.table.proofs.BitSet.{member-zero, member-suc, member-none, member-inter, member-minus, some-member, empty-set, set-ext}
+use Rattle.base.specs.BitSet.{member, minus, Subset, ProperSubset}
+use Rattle.base.proofs.Logic.{look, clash, never, bool-ext, and-both, and-in, not-out, not-in}
+use Rattle.base.proofs.BitSet.{member-zero, member-suc, member-none, member-inter, member-minus, some-member, empty-set, set-ext}
 use Rattle.history.specs.Tree.{disjoint, strictlyInside}
 
 -- a set that tests empty has no member

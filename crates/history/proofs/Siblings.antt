@@ -8,41 +8,17 @@ use Prim.Native.Nat.{ℕ, zero, suc, _+_, _*_, _≤_, _<_}
 use borrow.Author.Tests.{eqb-false}
 use lib.Bits.{bitOr}
 use lib.Dec.{eqb}
-use Rattle.table.specs.BitSet.{member, Subset}
-use Rattle.table.specs.Rule.{Rule, edge, edgeIn}
-use Rattle.table.specs.Table.{WellFormed}
-use Rattle.table.proofs.Logic.{clash, and-both, and-in, not-in}
-use Rattle.table.proofs.BitSet.{member-none, some-member}
+use Rattle.base.specs.BitSet.{member, Subset}
+use Rattle.base.proofs.Logic.{clash, and-both, and-in, not-in}
+use Rattle.base.proofs.BitSet.{member-none, some-member}
+use Rattle.rule.specs.Rule.{Rule, edge, edgeIn}
+use Rattle.rule.specs.WellFormed.{WellFormed}
 use Rattle.word.proofs.Periods.{Periodic}
 use Rattle.history.specs.Forest.{nil, node}
 use Rattle.history.specs.Tree.{Tree, labels}
 use Rattle.history.proofs.Conditions.{Fits}
-use Rattle.history.proofs.LocalStep.{
-  newLabel,
-  step,
-  Branch,
-  branchAt,
-  survive,
-  taken,
-  accepts,
-  stepBranch,
-  branchOf,
-  takenAt,
-  nameKept,
-  keptAmong,
-  acceptsAmong,
-}
-use Rattle.history.proofs.OneNode.{
-  placeOf,
-  holds-at-place,
-  successors-out,
-  branch-step,
-  name-step,
-  label-from,
-  stays-among,
-  place-falls,
-  place-same,
-}
+use Rattle.history.proofs.LocalStep.{newLabel, step, Branch, branchAt, survive, taken, accepts, stepBranch, branchOf, takenAt, nameKept, keptAmong, acceptsAmong}
+use Rattle.history.proofs.OneNode.{placeOf, holds-at-place, successors-out, branch-step, name-step, label-from, stays-among, place-falls, place-same}
 use Rattle.history.proofs.BranchFits.{label-inside, branch-fits, name-fits}
 use Rattle.history.proofs.Stretches.{stretch}
 use Rattle.history.proofs.BetweenAccepting.{Return, loops-back}

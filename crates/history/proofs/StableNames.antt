@@ -6,11 +6,12 @@ use Prim.Native.Nat.{ℕ, zero, suc, _+_, _<_}
 use native.Mathlib.Omega.{arith}
 use lib.Bits.{bitOr}
 use lib.Dec.{eqb}
-use Rattle.table.specs.Rule.{Rule}
-use Rattle.table.proofs.Logic.{clash, never}
+use Rattle.base.specs.Lists.{anyOf}
+use Rattle.base.proofs.Logic.{clash, never}
+use Rattle.rule.specs.Rule.{Rule}
 use Rattle.history.specs.Forest.{Forest, nil, node, change, listing, namedFrom, sameNumbers}
 use Rattle.history.specs.Tree.{Node, Tree}
-use Rattle.history.specs.Letter.{sprouted, Grown, child, kept, fiveSteps, survivors, isOld, anyOf, stable}
+use Rattle.history.specs.Letter.{sprouted, Grown, child, kept, fiveSteps, survivors, isOld, stable}
 use Rattle.history.proofs.LocalStep.{newLabel, accepts, branchAt, survive, taken, nameKept, keptAmong}
 use Rattle.history.proofs.Conditions.{OneRoot}
 use Rattle.history.proofs.StepsJoined.{grown, advanced, oldNode, begunFrom, survivors-steps}

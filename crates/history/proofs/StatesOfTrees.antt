@@ -5,9 +5,9 @@ use mathlib.Core.Bool.{true}
 use mathlib.Core.List.{List}
 use Prim.Native.Nat.{ℕ, zero, suc, _≤_}
 use lib.Bits.{or-zero-r}
-use Rattle.table.specs.BitSet.{member}
-use Rattle.table.specs.Rule.{Rule, successors}
-use Rattle.table.specs.Table.{WellFormed}
+use Rattle.base.specs.BitSet.{member}
+use Rattle.rule.specs.Rule.{Rule, successors}
+use Rattle.rule.specs.WellFormed.{WellFormed}
 use Rattle.word.specs.Walk.{letterAt}
 use Rattle.word.specs.Loop.{Leads}
 use Rattle.history.specs.Tree.{labels, isTreeOf, startTree}

@@ -4,9 +4,9 @@ use mathlib.Core.Path.{_≡_, refl}
 use mathlib.Core.Bool.{true}
 use mathlib.Core.List.{[], _∷_}
 use Prim.Native.Nat.{ℕ, zero, suc}
-use Rattle.table.specs.BitSet.{member, Subset}
-use Rattle.table.specs.Rule.{Rule, cellAt, successors}
-use Rattle.table.specs.Table.{WellFormed}
+use Rattle.base.specs.BitSet.{member, Subset}
+use Rattle.rule.specs.Rule.{Rule, cellAt, successors}
+use Rattle.rule.specs.WellFormed.{WellFormed}
 use Rattle.word.specs.Loop.{Leads}
 use Rattle.word.proofs.Paths.{leads-one, one-leads, leads-append, leads-split}
 use Rattle.history.proofs.Stretches.{stretch}

@@ -6,13 +6,12 @@ use Prim.Native.Nat.{ℕ, suc}
 use borrow.Author.Tests.{eqb-true}
 use lib.Bits.{bitOr}
 use lib.Dec.{eqb}
-use Rattle.table.specs.BitSet.{member, minus}
-use Rattle.table.specs.Rule.{Rule}
-use Rattle.table.proofs.BitSet.{member-union, member-minus, set-ext}
+use Rattle.base.specs.BitSet.{member, minus}
+use Rattle.base.proofs.BitSet.{member-union, member-minus, set-ext}
+use Rattle.rule.specs.Rule.{Rule}
 use Rattle.history.specs.Forest.{Forest, nil, node, change, namedFrom, named}
 use Rattle.history.specs.Tree.{Node, Tree, labels}
-use Rattle.history.specs.Letter.{was, sprouted, Grown, begun, succeeded, youngest, child, sprouting, separated}
-use Rattle.history.specs.Letter.{grownLabels, kept, pruned, fiveSteps, survivors, nextTree}
+use Rattle.history.specs.Letter.{was, sprouted, Grown, begun, succeeded, youngest, child, sprouting, separated, grownLabels, kept, pruned, fiveSteps, survivors, nextTree}
 use Rattle.history.proofs.LocalStep.{settled, settle, newLabel, sproutOf, step, Branch, newBelow, accepts}
 use Rattle.history.proofs.SetFacts.{nothing-minus}
 use Rattle.history.proofs.Conditions.{OneRoot}

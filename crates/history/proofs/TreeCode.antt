@@ -12,12 +12,12 @@ use native.Mathlib.Decide.{decLt}
 use lib.Count.{ones-le}
 use lib.ListN.{length, getD, List·getD-eq-default}
 use lib.Seq.{ext-getD}
-use Rattle.table.specs.BitSet.{member}
-use Rattle.table.specs.Limits.{maxStates, maxSets}
-use Rattle.table.specs.Table.{Every}
-use Rattle.table.proofs.Every.{every-at, every-append}
-use Rattle.table.proofs.Logic.{look, bool-ext}
-use Rattle.table.proofs.BitSet.{member-lt, set-ext}
+use Rattle.base.specs.BitSet.{member}
+use Rattle.base.specs.Lists.{Every}
+use Rattle.base.proofs.Every.{every-at, every-append}
+use Rattle.base.proofs.Logic.{look, bool-ext}
+use Rattle.base.proofs.BitSet.{member-lt, set-ext}
+use Rattle.rule.specs.Limits.{maxStates, maxSets}
 use Rattle.history.specs.Forest.{nil, node, size}
 use Rattle.history.specs.Tree.{Tree, labels, isTree}
 use Rattle.history.specs.Record.{host, members, marks, recordOf}

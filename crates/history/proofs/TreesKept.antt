@@ -9,11 +9,11 @@ use borrow.Author.Tests.{eqb-false, ltb-true}
 use lib.Bits.{bitOr, or-zero-r}
 use lib.Count.{ones-le}
 use lib.Dec.{eqb, ltb}
-use Rattle.table.specs.BitSet.{member, minus, Subset, collect}
-use Rattle.table.specs.Rule.{Rule, successors, successorsIn}
-use Rattle.table.specs.Table.{WellFormed, startFits}
-use Rattle.table.proofs.Logic.{clash, never, and-both, and-in, not-in, or-in, or-r}
-use Rattle.table.proofs.BitSet.{member-none, member-union, member-minus}
+use Rattle.base.specs.BitSet.{member, minus, Subset, collect}
+use Rattle.base.proofs.Logic.{clash, never, and-both, and-in, not-in, or-in, or-r}
+use Rattle.base.proofs.BitSet.{member-none, member-union, member-minus}
+use Rattle.rule.specs.Rule.{Rule, successors, successorsIn}
+use Rattle.rule.specs.WellFormed.{WellFormed, startFits}
 use Rattle.history.specs.Forest.{nil, node, size}
 use Rattle.history.specs.Tree.{Node, Tree, labels, isTree, startTree}
 use Rattle.history.specs.Letter.{nextSet, nextTree, byNumber, acceptingMap, stableMap}

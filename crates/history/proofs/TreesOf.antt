@@ -2,8 +2,8 @@
 use mathlib.Core.Path.{_≡_, refl, sym, _∙_}
 use mathlib.Core.Bool.{true}
 use Prim.Native.Nat.{ℕ, _≤_}
-use Rattle.table.specs.Rule.{Rule}
-use Rattle.table.specs.Table.{WellFormed}
+use Rattle.rule.specs.Rule.{Rule}
+use Rattle.rule.specs.WellFormed.{WellFormed}
 use Rattle.history.specs.Forest.{size}
 use Rattle.history.specs.Tree.{Tree, isTree, isTreeOf, startTree}
 use Rattle.history.specs.Letter.{nextTree}

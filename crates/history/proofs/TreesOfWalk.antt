@@ -8,7 +8,7 @@ use native.Mathlib.Nat.{add-zero, add-suc}
 use native.Mathlib.Numerals.{add-one}
 use lib.ListN.{length, take}
 use lib.Seq.{length-take-le, getD-take}
-use Rattle.table.specs.Rule.{Rule}
+use Rattle.rule.specs.Rule.{Rule}
 use Rattle.word.specs.Walk.{letterAt, rounds}
 use Rattle.word.proofs.Paths.{rounds-add, rounds-one}
 use Rattle.word.proofs.Positions.{letter-round, Reads, reads-lead}

@@ -9,59 +9,25 @@ use native.Mathlib.Omega.{arith}
 use borrow.Author.Tests.{leb-true, eqb-true, eq-eqb}
 use lib.Dec.{eqb, leb}
 use lib.ListN.{length, getD}
-use Rattle.table.specs.BitSet.{member, minus, collect, some}
-use Rattle.table.specs.Outcome.{Outcome, refused, accepted}
-use Rattle.table.specs.Rule.{Rule, cellAt, edge, edgeIn, image, successors, successorsIn}
-use Rattle.table.specs.Table.{
-  readRule,
-  readBody,
-  readGrid,
-  readMany,
-  readCell,
-  readRow,
-  readTransition,
-  readByte,
-  ended,
-  askHeader,
-  inRange,
-  startFits,
-}
-use Rattle.table.proofs.Logic.{clash, and-both, and-in, not-in}
-use Rattle.table.proofs.BitSet.{some-in}
+use Rattle.base.specs.BitSet.{member, minus, collect, some, image}
+use Rattle.base.specs.Outcome.{Outcome, refused, accepted}
+use Rattle.base.specs.Reading.{readMany, ended}
+use Rattle.base.specs.Lists.{anyOf}
+use Rattle.base.proofs.Logic.{clash, and-both, and-in, not-in}
+use Rattle.base.proofs.BitSet.{some-in}
+use Rattle.rule.specs.Rule.{Rule, cellAt, edge, edgeIn, successors, successorsIn}
+use Rattle.rule.specs.WellFormed.{startFits}
+use Rattle.table.specs.Table.{readRule, readBody, readGrid, readCell, readRow, readTransition, readByte, askHeader, inRange}
 use Rattle.word.specs.Walk.{rounds}
 use Rattle.history.specs.Forest.{nil, node, change, listing, namedFrom, named, names, sameNumbers}
 use Rattle.history.specs.Tree.{Tree, startTree}
-use Rattle.history.specs.Letter.{
-  begun,
-  succeeded,
-  youngest,
-  child,
-  sprouting,
-  separated,
-  grownLabels,
-  nextSet,
-  kept,
-  pruned,
-  fiveSteps,
-  survivors,
-  nextTree,
-  isOld,
-  anyOf,
-  accepting,
-  stable,
-}
+use Rattle.history.specs.Letter.{begun, succeeded, youngest, child, sprouting, separated, grownLabels, nextSet, kept, pruned, fiveSteps, survivors, nextTree, isOld, accepting, stable}
 use Rattle.history.specs.Rounds.{readLetters, roundTree, treeInRound, FirstRepeat}
 use Rattle.history.specs.Verdict.{FirstWitness}
 use Rattle.history.specs.Finding.{Finding, yes-node, no-node, Found}
 use Rattle.history.proofs.Names.{same-equal}
 use Rattle.history.proofs.FirstRepeats.{First}
-use Rattle.history.proofs.FirstWitness.{
-  witnessTest,
-  test-witness,
-  witness-test,
-  witness-node,
-  lowest-first,
-}
+use Rattle.history.proofs.FirstWitness.{witnessTest, test-witness, witness-test, witness-node, lowest-first}
 
 -- COMPARING TREES
 

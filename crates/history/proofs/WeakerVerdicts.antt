@@ -7,10 +7,10 @@ use mathlib.Core.List.{List, [], _∷_}
 use Prim.Native.Nat.{ℕ, zero, suc, _≤_, _<_}
 use native.Mathlib.Omega.{arith}
 use lib.ListN.{getD}
-use Rattle.table.specs.BitSet.{member}
-use Rattle.table.specs.Rule.{Rule, cellAt, edge, edgeIn}
-use Rattle.table.specs.Table.{WellFormed, startFits, bytesFit}
-use Rattle.table.proofs.Logic.{clash, or-r}
+use Rattle.base.specs.BitSet.{member}
+use Rattle.base.proofs.Logic.{clash, or-r}
+use Rattle.rule.specs.Rule.{Rule, cellAt, edge, edgeIn}
+use Rattle.rule.specs.WellFormed.{WellFormed, startFits, bytesFit}
 use Rattle.word.specs.Run.{AcceptingRun}
 use Rattle.word.specs.Loop.{Loop}
 use Rattle.word.proofs.Variants.{cycle, nonempty, small, no-loop, away, away-fits, once-no-loop}

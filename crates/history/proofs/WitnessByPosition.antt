@@ -7,7 +7,7 @@ use Prim.Native.Nat.{ℕ, _+_, _*_, _≤_, _<_}
 use native.Mathlib.Omega.{arith}
 use native.Mathlib.Nat.{mul-pos, mul-le-mul-left, mul-le-mul-right}
 use lib.ListN.{length, getD}
-use Rattle.table.specs.Rule.{Rule}
+use Rattle.rule.specs.Rule.{Rule}
 use Rattle.word.specs.Walk.{letterAt}
 use Rattle.word.proofs.Positions.{letter-round}
 use Rattle.history.specs.Tree.{Tree}

@@ -8,9 +8,9 @@ use Prim.Native.Nat.{ℕ, suc, _+_, _*_, _≤_}
 use native.Mathlib.Omega.{arith}
 use native.Mathlib.Nat.{add-suc, add-zero, mul-pos}
 use lib.ListN.{length}
-use Rattle.table.specs.Rule.{Rule}
-use Rattle.table.specs.Table.{WellFormed}
-use Rattle.table.proofs.BitSet.{member-lt}
+use Rattle.base.proofs.BitSet.{member-lt}
+use Rattle.rule.specs.Rule.{Rule}
+use Rattle.rule.specs.WellFormed.{WellFormed}
 use Rattle.word.specs.Walk.{letterAt}
 use Rattle.word.specs.Loop.{Loop}
 use Rattle.history.specs.Tree.{labels}

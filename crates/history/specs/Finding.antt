@@ -1,7 +1,7 @@
 -- The tree judge's verdict and the node that it names, as one answer (document 01, "Walks and verdicts").
 use mathlib.Core.List.{List}
 use Prim.Native.Nat.{ℕ}
-use Rattle.table.specs.Rule.{Rule}
+use Rattle.rule.specs.Rule.{Rule}
 use Rattle.history.specs.Rounds.{roundTree, FirstRepeat}
 use Rattle.history.specs.Verdict.{Witness, FirstWitness}
 

@@ -1,12 +1,13 @@
 -- One letter (document 01, "One letter"), step by step as the document numbers them.
-use mathlib.Core.Bool.{Bool, true, false, _&&_, _||_, cond}
-use mathlib.Core.List.{List, [], _∷_}
+use mathlib.Core.Bool.{Bool, true, false, _&&_, cond}
+use mathlib.Core.List.{List, []}
 use Prim.Native.Nat.{ℕ, suc}
 use lib.Bits.{bitOr}
 use lib.Dec.{eqb, ltb}
 use lib.ListN.{getD}
-use Rattle.table.specs.BitSet.{minus, collect}
-use Rattle.table.specs.Rule.{Rule, successors, successorsIn}
+use Rattle.base.specs.BitSet.{minus, collect}
+use Rattle.base.specs.Lists.{anyOf}
+use Rattle.rule.specs.Rule.{Rule, successors, successorsIn}
 use Rattle.history.specs.Forest.{Forest, nil, node, size, change, listing, named, names, sameNumbers}
 use Rattle.history.specs.Tree.{Tree}
 
@@ -100,11 +101,6 @@ nextTree R a T = change (λ x. record { label = x .label; active = x .active }) 
 unfoldable pub isOld : List ℕ → Origin → Bool
 isOld w (was p) = sameNumbers w p
 isOld w sprouted = false
-
--- is there one in a list?
-unfoldable pub anyOf : {A : Type 0} → (A → Bool) → List A → Bool
-anyOf f [] = false
-anyOf f (x ∷ l) = f x || anyOf f l
 
 -- is the old node of that name accepting?
 unfoldable pub accepting : Rule → ℕ → Tree → List ℕ → Bool

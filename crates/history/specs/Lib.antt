@@ -6,8 +6,5 @@ pub mod Record
 pub mod Rounds
 pub mod Verdict
 pub mod Finding
--- Inside: what the contracts of this crate's own functions cite.
-pub mod RecordChecks
-pub mod OldNumbers
-pub mod Following
-pub mod NamesByDepth
+-- Inside: what the contracts of inner functions cite.
+pub mod inner

@@ -5,8 +5,8 @@ use Prim.Native.Nat.{ℕ, zero, suc, _+_, _*_, _/_, _%_}
 use lib.Count.{ones}
 use lib.Dec.{eqb, leb, ltb}
 use lib.ListN.{length, getD, take, drop}
-use Rattle.table.specs.Outcome.{Outcome, accepted, ask}
-use Rattle.table.specs.BitSet.{member, collect}
+use Rattle.base.specs.Outcome.{Outcome, accepted, ask}
+use Rattle.base.specs.BitSet.{member, collect}
 use Rattle.history.specs.Forest.{nil, node, size, sameNumbers}
 use Rattle.history.specs.Tree.{Tree, labels, isTree}
 

@@ -3,7 +3,7 @@ use mathlib.Core.Path.{_≡_}
 use mathlib.Core.List.{List, [], _∷_, _++_}
 use Prim.Native.Nat.{ℕ, _+_, _≤_, _<_}
 use lib.ListN.{take}
-use Rattle.table.specs.Rule.{Rule}
+use Rattle.rule.specs.Rule.{Rule}
 use Rattle.word.specs.Walk.{rounds}
 use Rattle.history.specs.Tree.{Tree, startTree}
 use Rattle.history.specs.Letter.{nextTree}

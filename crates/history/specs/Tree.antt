@@ -3,8 +3,8 @@ use mathlib.Core.Bool.{Bool, true, false, not, _&&_}
 use Prim.Native.Nat.{ℕ, _^_}
 use lib.Bits.{bitAnd, bitOr}
 use lib.Dec.{eqb, leb, ltb}
-use Rattle.table.specs.BitSet.{minus}
-use Rattle.table.specs.Rule.{Rule}
+use Rattle.base.specs.BitSet.{minus}
+use Rattle.rule.specs.Rule.{Rule}
 use Rattle.history.specs.Forest.{Forest, nil, node}
 
 -- "Each node has a label (a set of states) and an active set (1 to k)."

@@ -6,10 +6,10 @@ use native.Mathlib.Nat.{zero-add, add-zero}
 use native.Mathlib.Omega.{arith}
 use lib.ListN.{length, take, drop, replicate, length-append, length-replicate, replicate-append-replicate}
 use lib.Seq.{drop-at, length-take-le}
-use Rattle.table.specs.Storing.{stored}
-use Rattle.table.proofs.Storing.{PiecesStored, stored-start, stored-next}
+use Rattle.base.specs.LentBuffer.{stored}
+use Rattle.base.proofs.Storing.{PiecesStored, stored-start, stored-next}
 use Rattle.job.specs.JobCall.{textRoom, textOf}
-use Rattle.job.specs.TextCode.{appended, Appends}
+use Rattle.job.specs.inner.TextCode.{appended, Appends}
 use Rattle.job.specs.declared.call.Text.{Text}
 
 -- two pieces appended are one

@@ -10,7 +10,7 @@ use borrow.Author.Tests.{ltb-true, ltb-false, lt-ltb, le-ltb}
 use lib.Dec.{ltb}
 use lib.ListN.{length, take, drop, set, length-append, length-set, length-drop, drop-of-length-le}
 use lib.Seq.{set-split, drop-at, take-all, length-take-le}
-use Rattle.table.proofs.Logic.{look}
+use Rattle.base.proofs.Logic.{look}
 use Rattle.job.specs.JobCall.{digits, digitsWithin}
 
 -- any bound will do

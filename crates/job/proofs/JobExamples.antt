@@ -2,17 +2,18 @@
 use mathlib.Core.Path.{_≡_, refl}
 use mathlib.Core.List.{List, [], _∷_, flatMap}
 use Prim.Native.Nat.{ℕ}
-use Rattle.table.specs.Outcome.{refused, accepted}
-use Rattle.table.specs.Rule.{Rule}
-use Rattle.table.specs.Table.{inRange, startFits, askHeader, readByte, readTransition, readRow, readCell, readMany, readGrid, ended}
-use Rattle.table.specs.Table.{readBody, readRule}
+use Rattle.base.specs.Lists.{allOf}
+use Rattle.base.specs.Outcome.{refused, accepted}
+use Rattle.base.specs.Reading.{readPart, readMany, ended}
+use Rattle.rule.specs.Rule.{Rule}
+use Rattle.rule.specs.WellFormed.{startFits}
+use Rattle.table.specs.Table.{inRange, askHeader, readByte, readTransition, readRow, readCell, readGrid, readBody, readRule}
 use Rattle.word.specs.Judging.{walkQuestions}
-use Rattle.word.specs.Walk.{lengthsFit, lettersBelow, askWalk}
+use Rattle.word.specs.Walk.{lengthsFit, askWalk}
 use Rattle.history.specs.Finding.{yes-node, no-node}
 use Rattle.treejudge.specs.Examples.{tableA}
 use Rattle.job.specs.Ascii.{ascii}
-use Rattle.job.specs.JobCall.{readPart, jobParts, jobOutcome}
-use Rattle.job.specs.JobCall.{digits, digitsWithin, line, yesNo, findingVerdict, dotted, nameText, nodeText, fiveLines, refusalText}
+use Rattle.job.specs.JobCall.{jobParts, jobOutcome, digits, digitsWithin, line, yesNo, findingVerdict, dotted, nameText, nodeText, fiveLines, refusalText}
 use Rattle.job.specs.PrintedVerdict.{AcceptedJob}
 
 -- the job of table A, u empty, v = 1
@@ -38,7 +39,7 @@ unfolding ruleA tableA readRule askHeader inRange startFits readBody readGrid re
 reads-a = refl
 
 a-accepted : AcceptedJob jobA (record { table = tableA; lead = []; tail = 1 ∷ [] }) ruleA
-unfolding ruleA jobOutcome walkQuestions askWalk lengthsFit lettersBelow
+unfolding ruleA jobOutcome walkQuestions askWalk lengthsFit allOf
 a-accepted = rw (parts-of-a, reads-a)
 
 -- "A, u empty, v = 1 prints, whole"

@@ -7,20 +7,20 @@ use native.Mathlib.Omega.{arith}
 use lib.Dec.{eqb}
 use lib.ListN.{length, take, drop, length-append}
 use lib.Seq.{take-at}
-use Rattle.table.specs.Outcome.{Outcome, refused, accepted}
-use Rattle.table.specs.Rule.{Rule}
-use Rattle.table.specs.Storing.{stored}
-use Rattle.table.proofs.RefusalNumbers.{IfRefused, NotZero}
-use Rattle.history.specs.Finding.{Finding, yes-node, no-node}
+use Rattle.base.specs.Outcome.{Outcome, refused, accepted}
+use Rattle.base.specs.LentBuffer.{stored}
+use Rattle.base.proofs.Numbers.{IfRefused, NotZero}
+use Rattle.rule.specs.Rule.{Rule}
 use Rattle.word.specs.Judging.{walkQuestions}
 use Rattle.word.proofs.JudgeQuestions.{with-room}
 use Rattle.word.proofs.RefusalNumbers.{walk-number}
-use Rattle.treejudge.specs.JudgeCall.{nameRoom, treeOutcome, treeAnswer, namesAfter, TreeAnswers}
-use Rattle.treejudge.specs.declared.judge.TreeAnswer.{TreeAnswer}
+use Rattle.history.specs.Finding.{Finding, yes-node, no-node}
 use Rattle.plain.specs.PlainCall.{scratchLength, plainOutcome, PlainAnswers}
 use Rattle.plain.specs.declared.judge.PlainAnswer.{PlainAnswer}
+use Rattle.treejudge.specs.JudgeCall.{nameRoom, treeOutcome, treeAnswer, namesAfter, TreeAnswers}
+use Rattle.treejudge.specs.declared.judge.TreeAnswer.{TreeAnswer}
 use Rattle.job.specs.JobCall.{yesNo, findingVerdict, fiveLines, refusalText, textOf, PartsAnswers}
-use Rattle.job.specs.TextCode.{findingOf}
+use Rattle.job.specs.inner.TextCode.{findingOf}
 use Rattle.job.specs.declared.call.Text.{Text}
 
 -- THE FINDING

@@ -4,8 +4,8 @@ use mathlib.Core.List.{List}
 use Prim.Native.Nat.{ℕ, _-_, _≤_}
 use native.Mathlib.Omega.{arith}
 use lib.ListN.{length, replicate, length-append, length-replicate}
-use Rattle.table.specs.Outcome.{Outcome, refused, accepted}
-use Rattle.table.specs.Rule.{Rule}
+use Rattle.base.specs.Outcome.{Outcome, refused, accepted}
+use Rattle.rule.specs.Rule.{Rule}
 use Rattle.word.specs.Judging.{walkQuestions}
 use Rattle.word.proofs.Verdicts.{decides-one}
 use Rattle.treejudge.proofs.TreeVerdict.{walk-one}

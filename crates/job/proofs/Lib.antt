@@ -3,7 +3,7 @@ pub mod JobVerdict
 pub mod PrintedVerdict
 pub mod JobExamples
 -- Question 12: the parts of a job, and where they end.
-pub mod PartEnds
+pub mod Splitting
 -- Texts that grow at their end, the digits of a number, and names.
 pub mod Appending
 pub mod DecimalDigits

@@ -5,9 +5,9 @@ use Prim.Native.Nat.{ℕ, zero, suc, _+_, _-_, _*_, _≤_, _<_}
 use native.Mathlib.Omega.{arith}
 use lib.ListN.{length, take, drop, getD, length-drop}
 use lib.Seq.{take-suc, getD-drop}
-use Rattle.table.proofs.Parts.{flatMap-append}
+use Rattle.base.proofs.Flattening.{flatMap-append}
 use Rattle.job.specs.JobCall.{digits, dotted, nameText, textRoom}
-use Rattle.job.specs.TextCode.{appended, Appends}
+use Rattle.job.specs.inner.TextCode.{appended, Appends}
 use Rattle.job.specs.declared.call.Text.{Text}
 use Rattle.job.proofs.Appending.{appends, appends-none, appends-both}
 use Rattle.job.proofs.DecimalDigits.{digits-short}

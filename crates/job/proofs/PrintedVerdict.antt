@@ -5,9 +5,9 @@ use mathlib.Core.List.{List, _++_, append-assoc}
 use Prim.Native.Nat.{ℕ}
 use native.Mathlib.Omega.{arith}
 use lib.ListN.{getD}
-use Rattle.table.specs.Outcome.{Outcome, refused, accepted}
-use Rattle.table.specs.Rule.{Rule}
-use Rattle.table.proofs.RefusalNumbers.{IfRefused, NotZero}
+use Rattle.base.specs.Outcome.{Outcome, refused, accepted}
+use Rattle.base.proofs.Numbers.{IfRefused, NotZero}
+use Rattle.rule.specs.Rule.{Rule}
 use Rattle.word.specs.Judging.{walkQuestions}
 use Rattle.word.specs.Keeps.{Keeps}
 use Rattle.word.specs.Verdict.{Decides}
@@ -15,15 +15,13 @@ use Rattle.word.proofs.JudgeQuestions.{Accepted, accepted-walk}
 use Rattle.word.proofs.RefusalNumbers.{walk-number}
 use Rattle.word.proofs.Verdicts.{decides-one}
 use Rattle.history.specs.Finding.{Finding}
-use Rattle.treejudge.proofs.TreeVerdict.{walk-decides}
 use Rattle.plain.proofs.PlainVerdict.{plain-decides}
+use Rattle.treejudge.proofs.TreeVerdict.{walk-decides}
 use Rattle.job.specs.Ascii.{ascii}
-use Rattle.job.specs.JobCall.{Parts, jobParts, jobOutcome, digits, line, yesNo, findingVerdict, nodeText}
-use Rattle.job.specs.JobCall.{fiveLines, refusalText, textOf}
-use Rattle.job.specs.JobCall.{JobJudged, PartsAnswers, SplitAnswers, JobAnswer}
+use Rattle.job.specs.JobCall.{Parts, jobParts, jobOutcome, digits, line, yesNo, findingVerdict, nodeText, fiveLines, refusalText, textOf, JobJudged, PartsAnswers, SplitAnswers, JobAnswer}
 use Rattle.job.specs.PrintedVerdict.{AcceptedJob, Begins, TextTells, JobNumber, Says, PrintedVerdict, Prints, PrintedYesNo}
 use Rattle.job.specs.declared.call.Text.{Text}
-use Rattle.job.proofs.PartEnds.{parts-number}
+use Rattle.job.proofs.Splitting.{parts-number}
 
 -- A JUDGED JOB SAYS WHAT IS SO
 

@@ -3,12 +3,12 @@
 use mathlib.Core.Path.{_≡_}
 use mathlib.Core.Bool.{_&&_, cond}
 use mathlib.Core.List.{List, [], _∷_, _++_, flatMap}
-use Prim.Native.Nat.{ℕ, zero, suc, _+_, _-_, _*_, _/_, _%_}
+use Prim.Native.Nat.{ℕ, zero, suc, _+_, _-_, _/_, _%_}
 use lib.Dec.{eqb, leb, ltb}
-use lib.ListN.{length, take, drop, replicate}
-use Rattle.table.specs.Outcome.{Outcome, refused, accepted, ask, _then_}
-use Rattle.table.specs.Rule.{Rule}
-use Rattle.table.specs.Table.{Read, ended}
+use lib.ListN.{length, replicate}
+use Rattle.base.specs.Outcome.{Outcome, refused, accepted, ask, _then_}
+use Rattle.base.specs.Reading.{readPart, ended}
+use Rattle.rule.specs.Rule.{Rule}
 use Rattle.word.specs.Judging.{walkQuestions}
 use Rattle.word.specs.Keeps.{KeepsByLoop}
 use Rattle.word.specs.Verdict.{Decides}
@@ -18,20 +18,11 @@ use Rattle.job.specs.declared.call.Text.{Text}
 
 -- THE PARTS OF A JOB
 
--- "A job is three parts, ..: table, u, v."
+-- "A job is three parts, each after its length in two bytes, low first: table, u, v."
 pub record Parts : Type 0 where
   pub table : List ℕ
   pub lead : List ℕ
   pub tail : List ℕ
-
--- a part "after its length in two bytes, low first", and the bytes behind it; 12 where it is not whole
-unfoldable pub readPart : List ℕ → Read (List ℕ)
-readPart [] = refused 12
-readPart (low ∷ []) = refused 12
-readPart (low ∷ high ∷ rest) =
-    let size = low + 256 * high in
-    ask (leb size (length rest)) 12
-    (accepted (take size rest, drop size rest))
 
 -- "has the job 6 to 9,354 bytes"
 abbrev pub shortestJob : ℕ
@@ -44,9 +35,9 @@ longestJob = 9354
 unfoldable pub jobParts : List ℕ → Outcome Parts
 jobParts job =
     ask (leb shortestJob (length job) && leb (length job) longestJob) 12
-    (readPart job then λ table.
-    readPart (table .1) then λ lead.
-    readPart (lead .1) then λ tail.
+    (readPart 12 job then λ table.
+    readPart 12 (table .1) then λ lead.
+    readPart 12 (lead .1) then λ tail.
     ask (ended (tail .1)) 12
     (accepted (record { table = table .0; lead = lead .0; tail = tail .0 })))
 

@@ -2,6 +2,5 @@
 pub mod Ascii
 pub mod JobCall
 pub mod PrintedVerdict
--- Inside: texts that grow at their end, and the places where a job's parts end.
-pub mod TextCode
-pub mod SplitCode
+-- Inside: what the contracts of inner functions cite.
+pub mod inner

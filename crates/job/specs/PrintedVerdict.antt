@@ -3,8 +3,8 @@ use mathlib.Core.Path.{_≡_}
 use mathlib.Core.Logic.{_↔_}
 use mathlib.Core.List.{List, _++_}
 use Prim.Native.Nat.{ℕ}
-use Rattle.table.specs.Outcome.{refused, accepted}
-use Rattle.table.specs.Rule.{Rule}
+use Rattle.base.specs.Outcome.{refused, accepted}
+use Rattle.rule.specs.Rule.{Rule}
 use Rattle.word.specs.Keeps.{Keeps}
 use Rattle.word.specs.Verdict.{Decides}
 use Rattle.history.specs.Finding.{WalkJudged}

@@ -12,7 +12,7 @@ ghost use lib.ListN.{length};
 ghost use Rattle.treejudge.specs.JudgeCall.{nameRoom};
 ghost use Rattle.job.specs.Ascii.{ascii};
 ghost use Rattle.job.specs.JobCall.{digits, fiveLines, line, nodeText, refusalText, textOf, textRoom, yesNo};
-ghost use Rattle.job.specs.TextCode.{Appends, findingOf};
+ghost use Rattle.job.specs.inner.TextCode.{Appends, findingOf};
 
 // A line with `yes` or `no`.
 fn yes_no_line(text: Text, label: &[u8], verdict: u8) -> Text

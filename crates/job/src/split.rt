@@ -1,17 +1,10 @@
 // The three parts of a job: question 12.
 use crate::limits::LONGEST;
 use crate::limits::SHORTEST;
-ghost use mathlib.Core.Path.{_≡_};
-ghost use Prim.Native.Nat.{_≤_};
-ghost use lib.ListN.{length};
+use base::part::End;
+use base::part::part_end;
 ghost use Rattle.job.specs.JobCall.{jobParts};
-ghost use Rattle.job.specs.SplitCode.{Splits, endAs, partEnd};
-
-// Where a part ends: behind its last byte; or past the job's end.
-pub enum End {
-    Past,
-    At(usize),
-}
+ghost use Rattle.job.specs.inner.SplitCode.{Splits};
 
 // Where table and lead-in end. The tail ends with the job's last byte.
 pub struct Ends {
@@ -22,24 +15,6 @@ pub struct Ends {
 pub enum Split {
     Refused,
     Parts(Ends),
-}
-
-// The end of the part whose length stands at a place, "in two bytes, low first".
-fn part_end(job: &[u8], at: usize) -> End
-    requires { ⌜ at ≤ length (now job) ⌝ }
-    ensures { λ r. ⌜ endAs r ≡ partEnd at (now (job .entry)) ⌝ }
-{
-    if job.len() - at < 2 {
-        return End::Past;
-    }
-    let low = job[at] as usize;
-    let high = job[at + 1] as usize;
-    let size = low + 256 * high;
-    let from = at + 2;
-    if job.len() - from < size {
-        return End::Past;
-    }
-    End::At(from + size)
 }
 
 // QUESTION 12: "has the job 6 to 9,354 bytes, and do its three parts end exactly with its last byte?"

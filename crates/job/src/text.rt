@@ -6,7 +6,7 @@ ghost use Prim.Native.Nat.{_+_, _≤_};
 ghost use lib.ListN.{length, take};
 ghost use Rattle.treejudge.specs.JudgeCall.{nameRoom};
 ghost use Rattle.job.specs.JobCall.{digits, dotted, nameText, textRoom};
-ghost use Rattle.job.specs.TextCode.{Appends, appended};
+ghost use Rattle.job.specs.inner.TextCode.{Appends, appended};
 
 // No number below 2^64 has more decimal digits.
 const DIGITS: usize = 20;

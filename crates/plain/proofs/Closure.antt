@@ -6,9 +6,9 @@ use mathlib.Core.Bool.{Bool, true, _&&_, _||_}
 use Prim.Native.Nat.{ℕ, zero, suc, _≤_, _<_}
 use native.Mathlib.Decide.{ℕ-discrete}
 use native.Mathlib.Omega.{arith}
-use Rattle.table.proofs.Logic.{and-both, and-in, or-l, or-r, or-in}
-use Rattle.plain.specs.Ways.{Ways, joined}
-use Rattle.plain.specs.Rounds.{passing, widened}
+use Rattle.base.proofs.Logic.{and-both, and-in, or-l, or-r, or-in}
+use Rattle.plain.specs.inner.Ways.{Ways, joined}
+use Rattle.plain.specs.inner.Rounds.{passing, widened}
 
 -- relation i has s and t
 abbrev Has : Ways → ℕ → ℕ → ℕ → Type 0

@@ -4,20 +4,20 @@ use mathlib.Core.List.{List}
 use Prim.Native.Nat.{ℕ, _≤_, _<_}
 use native.Mathlib.Omega.{arith}
 use lib.ListN.{getD}
-use Rattle.table.specs.Limits.{maxStates, maxLetters, maxSets}
-use Rattle.table.specs.Rule.{Rule}
-use Rattle.table.specs.Table.{Every}
+use Rattle.base.specs.Lists.{Every}
+use Rattle.base.proofs.Every.{every-weaker}
+use Rattle.rule.specs.Limits.{maxStates, maxLetters, maxSets}
+use Rattle.rule.specs.Rule.{Rule}
 use Rattle.table.specs.declared.header.Header.{Header}
-use Rattle.table.proofs.Every.{every-weaker}
 use Rattle.word.specs.Keeps.{KeepsByLoop}
-use Rattle.word.specs.Prepared.{Prepared}
+use Rattle.word.specs.inner.Prepared.{Prepared}
 use Rattle.word.specs.Verdict.{Decides}
-use Rattle.word.specs.WalkTables.{Tables, Tabled}
+use Rattle.word.specs.inner.WalkTables.{Tables, Tabled}
 use Rattle.word.proofs.Verdicts.{decides-same}
-use Rattle.plain.specs.Ways.{ways, AreWays}
-use Rattle.plain.specs.Letters.{statesAfter, ownRow, rowAfter}
-use Rattle.plain.specs.Rounds.{widened}
-use Rattle.plain.specs.Search.{SomeLoop}
+use Rattle.plain.specs.inner.Ways.{ways, AreWays}
+use Rattle.plain.specs.inner.Letters.{statesAfter, ownRow, rowAfter}
+use Rattle.plain.specs.inner.Rounds.{widened}
+use Rattle.plain.specs.inner.Search.{SomeLoop}
 use Rattle.plain.proofs.WaysLead.{states-out, states-in, tail-out, tail-in}
 use Rattle.plain.proofs.RoundsLead.{TailWays, RoundsWays, rounds-ways}
 use Rattle.plain.proofs.LoopSearch.{LeadStates, found-loop, loop-found}

@@ -10,16 +10,15 @@ use borrow.Author.Tests.{ne-eqb}
 use lib.Bits.{bitOr, or-zero-r}
 use lib.ListN.{length, getD, drop}
 use lib.Seq.{drop-cons, drop-length}
-use Rattle.table.specs.Limits.{maxSets}
-use Rattle.table.specs.Lanes.{laneWidth, mapOf, wordOf, eachLane, lanesWith, inLane, inLanes}
-use Rattle.table.specs.Lookup.{LetterTable, imagesBy, lookUp}
-use Rattle.table.specs.BitSet.{member}
-use Rattle.table.proofs.BitSet.{member-none, union-assoc}
-use Rattle.table.proofs.LaneLaws.{map-lt, map-union, lane-zero, wordOf-ext, wordOf-one, wordOf-at, wordOf-more, stands, stands-none}
-use Rattle.table.proofs.LaneLaws.{lanes-with, in-lanes, in-lanes-none, in-lanes-at}
-use Rattle.table.proofs.Logic.{clash}
-use Rattle.word.specs.WalkTables.{Tables}
-use Rattle.plain.specs.Letters.{over, onward, extended}
+use Rattle.base.specs.BitSet.{member}
+use Rattle.base.proofs.BitSet.{member-none, union-assoc}
+use Rattle.base.proofs.Logic.{clash}
+use Rattle.rule.specs.Limits.{maxSets}
+use Rattle.rule.specs.inner.Lanes.{laneWidth, mapOf, wordOf, eachLane, lanesWith, inLane, inLanes}
+use Rattle.rule.specs.inner.Lookup.{LetterTable, imagesBy, lookUp}
+use Rattle.rule.proofs.LaneLaws.{map-lt, map-union, lane-zero, wordOf-ext, wordOf-one, wordOf-at, wordOf-more, stands, stands-none, lanes-with, in-lanes, in-lanes-none, in-lanes-at}
+use Rattle.word.specs.inner.WalkTables.{Tables}
+use Rattle.plain.specs.inner.Letters.{over, onward, extended}
 
 -- LETTER BY LETTER
 

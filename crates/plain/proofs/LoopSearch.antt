@@ -8,17 +8,17 @@ use Prim.Native.Nat.{ℕ, zero, suc, _+_, _≤_, _<_}
 use native.Mathlib.Decide.{ℕ-discrete}
 use native.Mathlib.Omega.{arith}
 use lib.Bits.{bitOr}
-use Rattle.table.specs.Limits.{maxSets}
-use Rattle.table.specs.BitSet.{member}
-use Rattle.table.specs.Rule.{Rule}
-use Rattle.table.specs.Table.{WellFormed}
-use Rattle.table.proofs.BitSet.{member-lt}
+use Rattle.base.specs.BitSet.{member}
+use Rattle.base.proofs.BitSet.{member-lt}
+use Rattle.rule.specs.Limits.{maxSets}
+use Rattle.rule.specs.Rule.{Rule}
+use Rattle.rule.specs.WellFormed.{WellFormed}
 use Rattle.table.proofs.Ranges.{start-fits}
 use Rattle.word.specs.Walk.{rounds}
 use Rattle.word.specs.Loop.{Leads, Loop}
 use Rattle.word.proofs.Paths.{leads-append, leads-rounds, leads-split, leads-inside}
-use Rattle.plain.specs.Ways.{Ways}
-use Rattle.plain.specs.Search.{Reaches, SomeLoop}
+use Rattle.plain.specs.inner.Ways.{Ways}
+use Rattle.plain.specs.inner.Search.{Reaches, SomeLoop}
 use Rattle.plain.proofs.WayLaws.{Takes, takes-union}
 use Rattle.plain.proofs.RoundsLead.{RoundsWays}
 

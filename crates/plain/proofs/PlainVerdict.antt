@@ -4,9 +4,9 @@
 use mathlib.Core.Path.{_≡_, sym, _∙_, ap}
 use mathlib.Core.List.{List, []}
 use Prim.Native.Nat.{ℕ}
-use Rattle.table.specs.Outcome.{Outcome, refused, accepted, numberOf}
-use Rattle.table.specs.Rule.{Rule}
-use Rattle.table.specs.Table.{WellFormed}
+use Rattle.base.specs.Outcome.{Outcome, refused, accepted, numberOf}
+use Rattle.rule.specs.Rule.{Rule}
+use Rattle.rule.specs.WellFormed.{WellFormed}
 use Rattle.word.specs.Judging.{walkQuestions}
 use Rattle.word.specs.Keeps.{Keeps}
 use Rattle.word.specs.Verdict.{Decides}

@@ -7,13 +7,13 @@ use Prim.Native.Nat.{ℕ, suc, _+_, _*_, _≤_, _<_}
 use native.Mathlib.Numerals.{add-one}
 use native.Mathlib.Omega.{arith}
 use lib.ListN.{getD}
-use Rattle.table.specs.Lanes.{laneWidth, mapOf, chosenLanes, eachLane, lanesWith, inLanes}
-use Rattle.table.specs.Limits.{maxSets}
-use Rattle.table.specs.BitSet.{member}
-use Rattle.table.proofs.BitSet.{member-none, member-union}
-use Rattle.table.proofs.LaneLaws.{map-lt, map-none, map-union, kept-in, chosen-kept, lanes-with-state, in-lanes-member}
-use Rattle.plain.specs.Ways.{Ways, joined, ways, AreWays, Changed}
-use Rattle.plain.specs.Rounds.{passing, widened, continued}
+use Rattle.base.specs.BitSet.{member}
+use Rattle.base.proofs.BitSet.{member-none, member-union}
+use Rattle.rule.specs.inner.Lanes.{laneWidth, mapOf, chosenLanes, eachLane, lanesWith, inLanes}
+use Rattle.rule.specs.Limits.{maxSets}
+use Rattle.rule.proofs.LaneLaws.{map-lt, map-none, map-union, kept-in, chosen-kept, lanes-with-state, in-lanes-member}
+use Rattle.plain.specs.inner.Ways.{Ways, joined, ways, AreWays, Changed}
+use Rattle.plain.specs.inner.Rounds.{passing, widened, continued}
 
 -- ONE ROW
 

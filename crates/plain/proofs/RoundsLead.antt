@@ -7,14 +7,14 @@ use Prim.Native.Nat.{ℕ, zero, suc, _+_, _≤_, _<_}
 use native.Mathlib.Numerals.{add-one}
 use native.Mathlib.Omega.{arith}
 use lib.Bits.{bitOr}
-use Rattle.table.specs.Limits.{maxSets}
-use Rattle.table.specs.Rule.{Rule}
-use Rattle.table.specs.Table.{WellFormed}
+use Rattle.rule.specs.Limits.{maxSets}
+use Rattle.rule.specs.Rule.{Rule}
+use Rattle.rule.specs.WellFormed.{WellFormed}
 use Rattle.word.specs.Walk.{rounds}
 use Rattle.word.specs.Loop.{Leads}
 use Rattle.word.proofs.Paths.{rounds-one, leads-rounds, leads-rounds-split, leads-inside}
-use Rattle.plain.specs.Ways.{Ways}
-use Rattle.plain.specs.Rounds.{widened}
+use Rattle.plain.specs.inner.Ways.{Ways}
+use Rattle.plain.specs.inner.Rounds.{widened}
 use Rattle.plain.proofs.WayLaws.{Takes, takes-union, takes-apart}
 use Rattle.plain.proofs.Closure.{widened-closed, widened-has, widened-sound}
 

@@ -6,7 +6,7 @@ use native.Mathlib.Decide.{ℕ-discrete}
 use native.Mathlib.Omega.{arith}
 use lib.ListN.{length, getD, set, length-set}
 use lib.Seq.{getD-set-same, getD-set-other}
-use Rattle.plain.specs.Ways.{Changed}
+use Rattle.plain.specs.inner.Ways.{Changed}
 
 module _ (f : ℕ → ℕ) (before : List ℕ) where
   pub changed-none : Changed f 0 before before

@@ -4,7 +4,7 @@ use mathlib.Core.List.{List, _++_}
 use Prim.Native.Nat.{ℕ, _+_}
 use native.Mathlib.Omega.{arith}
 use lib.ListN.{length, drop, replicate, length-replicate}
-use Rattle.table.specs.Storing.{stored}
+use Rattle.base.specs.LentBuffer.{stored}
 use Rattle.plain.specs.PlainCall.{scratchLength}
 
 pub scratch-length : scratchLength ≡ 256

@@ -7,13 +7,13 @@ use Prim.Native.Nat.{ℕ, zero, suc, _*_, _/_, _%_, _^_, _<_}
 use native.Mathlib.Decide.{ℕ-discrete}
 use native.Mathlib.Omega.{arith}
 use lib.ListN.{getD}
-use Rattle.table.specs.Lanes.{mapOf}
-use Rattle.table.specs.BitSet.{member}
-use Rattle.table.proofs.BitSet.{bit-member, member-none, member-union}
-use Rattle.table.proofs.LaneLaws.{kept, kept-in}
-use Rattle.table.proofs.Logic.{and-both, and-in, or-l, or-r, or-in}
-use Rattle.plain.specs.Ways.{ways}
-use Rattle.plain.specs.Search.{reached, Reaches}
+use Rattle.base.specs.BitSet.{member}
+use Rattle.base.proofs.BitSet.{bit-member, member-none, member-union}
+use Rattle.base.proofs.Logic.{and-both, and-in, or-l, or-r, or-in}
+use Rattle.rule.specs.inner.Lanes.{mapOf}
+use Rattle.rule.proofs.LaneLaws.{kept, kept-in}
+use Rattle.plain.specs.inner.Ways.{ways}
+use Rattle.plain.specs.inner.Search.{reached, Reaches}
 
 -- THE STATES REACHED
 

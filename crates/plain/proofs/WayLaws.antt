@@ -4,9 +4,9 @@ use mathlib.Core.Logic.{_⊎_, inl, ⊎-elim}
 use mathlib.Core.Bool.{true}
 use Prim.Native.Nat.{ℕ, zero, suc}
 use lib.Bits.{bitOr}
-use Rattle.table.specs.BitSet.{member}
-use Rattle.table.proofs.BitSet.{member-union}
-use Rattle.table.proofs.Logic.{or-l, or-r, or-in}
+use Rattle.base.specs.BitSet.{member}
+use Rattle.base.proofs.BitSet.{member-union}
+use Rattle.base.proofs.Logic.{or-l, or-r, or-in}
 
 -- a way whose transitions have the sets c stands in relation i: always in relation 0, otherwise if it takes set i.
 -- In a map of sets bit i−1 stands for set i.

@@ -10,20 +10,21 @@ use lib.Bits.{bitOr}
 use lib.Dec.{eqb}
 use lib.ListN.{getD}
 use lib.Pow.{pow-lt}
-use Rattle.table.specs.Limits.{maxSets}
-use Rattle.table.specs.BitSet.{member}
-use Rattle.table.specs.Lanes.{laneWidth, mapOf}
-use Rattle.table.specs.Lookup.{LetterTable, lookUp}
-use Rattle.table.specs.Rule.{Rule, cellAt, edge, edgeIn, successors, successorsIn}
-use Rattle.table.specs.Table.{Every, WellFormed}
-use Rattle.table.proofs.BitSet.{member-none, member-single, member-union, image-in, image-out}
-use Rattle.table.proofs.Edges.{edge-inside, edgeIn-edge, edgeIn-member, member-edgeIn}
-use Rattle.table.proofs.LaneLaws.{in-lane-member}
-use Rattle.table.proofs.Logic.{clash, and-in, or-l, or-r, or-in}
-use Rattle.table.proofs.LookupTable.{look-up-successors, look-up-successors-in}
+use Rattle.base.specs.BitSet.{member}
+use Rattle.base.specs.Lists.{Every}
+use Rattle.base.proofs.BitSet.{member-none, member-single, member-union, image-in, image-out}
+use Rattle.base.proofs.Logic.{clash, and-in, or-l, or-r, or-in}
+use Rattle.rule.specs.Limits.{maxSets}
+use Rattle.rule.specs.inner.Lanes.{laneWidth, mapOf}
+use Rattle.rule.specs.inner.Lookup.{LetterTable, lookUp}
+use Rattle.rule.specs.Rule.{Rule, cellAt, edge, edgeIn, successors, successorsIn}
+use Rattle.rule.specs.WellFormed.{WellFormed}
+use Rattle.rule.proofs.Edges.{edge-inside, edgeIn-edge, edgeIn-member, member-edgeIn}
+use Rattle.rule.proofs.LaneLaws.{in-lane-member}
+use Rattle.rule.proofs.LookupTable.{look-up-successors, look-up-successors-in}
 use Rattle.word.specs.Loop.{Leads}
-use Rattle.word.specs.WalkTables.{Tables, Tabled}
-use Rattle.plain.specs.Letters.{over, statesAfter, ownRow, extended, rowAfter}
+use Rattle.word.specs.inner.WalkTables.{Tables, Tabled}
+use Rattle.plain.specs.inner.Letters.{over, statesAfter, ownRow, extended, rowAfter}
 use Rattle.plain.proofs.LetterLaws.{onward-in, onward-out, extended-at}
 use Rattle.plain.proofs.WayLaws.{Takes, takes-union, takes-apart}
 

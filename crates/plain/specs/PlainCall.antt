@@ -4,9 +4,9 @@ use mathlib.Core.Path.{_≡_}
 use mathlib.Core.List.{List}
 use Prim.Native.Nat.{ℕ, _≤_}
 use lib.ListN.{length, replicate}
-use Rattle.table.specs.Outcome.{Outcome, refused, accepted, Tells}
-use Rattle.table.specs.Rule.{Rule}
-use Rattle.table.specs.Storing.{stored}
+use Rattle.base.specs.Outcome.{Outcome, refused, accepted, Tells}
+use Rattle.base.specs.LentBuffer.{stored}
+use Rattle.rule.specs.Rule.{Rule}
 use Rattle.word.specs.Judging.{judgeQuestions}
 use Rattle.word.specs.Keeps.{KeepsByLoop}
 use Rattle.word.specs.Verdict.{Decides}

@@ -1,12 +1,12 @@
 // The lead-in: the map of the states that it leads to.
-use table::lanes::map_of;
-use table::lookup::look_up;
+use rule::lanes::map_of;
+use rule::lookup::look_up;
 use word::tables::AllTables;
 ghost use mathlib.Core.Path.{_≡_};
 ghost use Prim.Native.Nat.{_<_};
-ghost use Rattle.table.specs.Limits.{maxLetters};
-ghost use Rattle.table.specs.Table.{Every};
-ghost use Rattle.plain.specs.Letters.{statesAfter};
+ghost use Rattle.base.specs.Lists.{Every};
+ghost use Rattle.rule.specs.Limits.{maxLetters};
+ghost use Rattle.plain.specs.inner.Letters.{statesAfter};
 
 // "u and i tails lead from a starting state to s", before the first tail: the states that u leads to from the states `start`.
 pub fn states_after(tables: &AllTables, start: u16, u: &[u8]) -> u16

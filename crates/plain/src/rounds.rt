@@ -1,16 +1,16 @@
 // "j further tails", one or more: the ways that they open between any two states.
 use crate::tail::Rows;
-use table::lanes::in_lanes;
-use table::lanes::lanes_to;
-use table::lanes::lanes_with;
-use table::lanes::map_of;
-use table::limits::SETS;
+use rule::lanes::in_lanes;
+use rule::lanes::lanes_to;
+use rule::lanes::lanes_with;
+use rule::lanes::map_of;
+use rule::limits::SETS;
 ghost use mathlib.Core.Path.{_≡_};
 ghost use Prim.Native.Nat.{_<_, _≤_};
 ghost use lib.ListN.{length};
-ghost use Rattle.table.specs.Lanes.{laneWidth};
-ghost use Rattle.plain.specs.Ways.{AreWays, ways};
-ghost use Rattle.plain.specs.Rounds.{continued, passing, widened};
+ghost use Rattle.rule.specs.inner.Lanes.{laneWidth};
+ghost use Rattle.plain.specs.inner.Ways.{AreWays, ways};
+ghost use Rattle.plain.specs.inner.Rounds.{continued, passing, widened};
 
 // A row with more ways: each way to `middle`, and behind it a way of the row `behind`. The sets are those of both. No branch: a
 // product with 1 or 0 keeps a row or drops it, and one product puts a map into the lanes of all relations with a way.

@@ -3,7 +3,7 @@ use crate::limits::SCRATCH_LENGTH;
 ghost use mathlib.Core.Path.{_≡_};
 ghost use Prim.Native.Nat.{_≤_};
 ghost use lib.ListN.{length, replicate};
-ghost use Rattle.table.specs.Storing.{stored};
+ghost use Rattle.base.specs.LentBuffer.{stored};
 ghost use Rattle.plain.specs.PlainCall.{scratchLength};
 
 // "the bytes it wants are still left zero, those past them unchanged".

@@ -1,16 +1,16 @@
 // The search for a loop: a state that the lead-in and some tails lead to, and from which one or more tails lead back to it, by
 // ways that take all sets.
 use crate::tail::Rows;
-use table::lanes::lanes_to;
-use table::lanes::lanes_with;
-use table::lanes::map_of;
+use rule::lanes::lanes_to;
+use rule::lanes::lanes_with;
+use rule::lanes::map_of;
 ghost use mathlib.Core.Path.{_≡_};
 ghost use Prim.Native.Nat.{_≤_};
-ghost use Rattle.table.specs.Lanes.{laneWidth};
-ghost use Rattle.table.specs.Limits.{maxSets};
+ghost use Rattle.rule.specs.inner.Lanes.{laneWidth};
+ghost use Rattle.rule.specs.Limits.{maxSets};
 ghost use Rattle.word.specs.Verdict.{Decides};
-ghost use Rattle.plain.specs.Ways.{ways};
-ghost use Rattle.plain.specs.Search.{SomeLoop, reached};
+ghost use Rattle.plain.specs.inner.Ways.{ways};
+ghost use Rattle.plain.specs.inner.Search.{SomeLoop, reached};
 
 // "u and i tails lead from a starting state to s": the states `from`, and those that one or more tails lead to from them.
 fn reached(wide: &Rows, from: u16, n: usize) -> u16

@@ -1,23 +1,22 @@
 // One tail: the ways that it opens between any two states.
-use table::lanes::LANE_WIDTH;
-use table::lanes::in_lane;
-use table::lanes::in_lanes;
-use table::lanes::lanes_to;
-use table::lanes::lanes_with;
-use table::lanes::map_of;
-use table::limits::SETS;
-use table::lookup::LetterTable;
-use table::lookup::look_up;
+use rule::lanes::LANE_WIDTH;
+use rule::lanes::in_lane;
+use rule::lanes::in_lanes;
+use rule::lanes::lanes_to;
+use rule::lanes::lanes_with;
+use rule::lanes::map_of;
+use rule::limits::SETS;
+use rule::lookup::LetterTable;
+use rule::lookup::look_up;
 use word::tables::AllTables;
 ghost use mathlib.Core.Path.{_≡_};
 ghost use Prim.Native.Nat.{ℕ, _<_, _≤_};
 ghost use lib.ListN.{getD, length};
-ghost use Rattle.table.specs.Lanes.{laneWidth};
-ghost use Rattle.table.specs.Limits.{maxLetters};
-ghost use Rattle.table.specs.Table.{Every};
-ghost use Rattle.table.specs.Tabulate.{tabulate};
-ghost use Rattle.plain.specs.Ways.{Changed};
-ghost use Rattle.plain.specs.Letters.{extended, onward, ownRow, rowAfter};
+ghost use Rattle.base.specs.Lists.{Every, tabulate};
+ghost use Rattle.rule.specs.inner.Lanes.{laneWidth};
+ghost use Rattle.rule.specs.Limits.{maxLetters};
+ghost use Rattle.plain.specs.inner.Ways.{Changed};
+ghost use Rattle.plain.specs.inner.Letters.{extended, onward, ownRow, rowAfter};
 
 // A row for each state that the ways come from; specs/Ways.antt says what stands in a row.
 pub type Rows = [u64; LANE_WIDTH];

@@ -9,7 +9,7 @@ use lib.Seq.{take-all}
 use Rattle.job.specs.JobCall.{longestJob, textRoom, JobAnswer}
 use Rattle.job.specs.declared.call.Text.{Text}
 use Rattle.job.proofs.JobVerdict.{job-determined, job-fits}
-use Rattle.job.proofs.PartEnds.{long-refused}
+use Rattle.job.proofs.Splitting.{long-refused}
 use Rattle.program.specs.Input.{readRoom, InputAnswer}
 
 -- no more than all are taken

@@ -15,7 +15,7 @@ use Rattle.word.specs.Walk.{lengthsFit, letterAt, SameLetters}
 use Rattle.word.proofs.Periods.{Periodic}
 use Rattle.word.proofs.Positions.{letter-again}
 use Rattle.word.proofs.WalkQuestions.{lengths-in}
-use Rattle.spelling.specs.Comparing.{wrapped}
+use Rattle.spelling.specs.inner.Comparing.{wrapped}
 use Rattle.spelling.proofs.FineWilf.{periods-agree}
 
 -- THE LETTERS OF ONE WALK

@@ -5,8 +5,8 @@ use mathlib.Core.Bool.{true, false}
 use mathlib.Core.List.{List}
 use Prim.Native.Nat.{ℕ}
 use native.Mathlib.Omega.{arith}
-use Rattle.table.specs.Outcome.{Outcome, refused, accepted, numberOf}
-use Rattle.table.proofs.RefusalNumbers.{NotZero, ask-number, tells}
+use Rattle.base.specs.Outcome.{Outcome, refused, accepted, numberOf}
+use Rattle.base.proofs.Numbers.{NotZero, ask-number, tells}
 use Rattle.word.specs.Verdict.{Decides}
 use Rattle.word.specs.Walk.{lengthsFit, SameLetters}
 use Rattle.word.proofs.Verdicts.{decides-one}

@@ -2,7 +2,7 @@
 use mathlib.Core.Path.{_≡_}
 use mathlib.Core.List.{List}
 use Prim.Native.Nat.{ℕ}
-use Rattle.table.specs.Outcome.{Outcome, refused, accepted, ask, Tells}
+use Rattle.base.specs.Outcome.{Outcome, refused, accepted, ask, Tells}
 use Rattle.word.specs.Verdict.{Decides}
 use Rattle.word.specs.Walk.{lengthsFit, SameLetters}
 use Rattle.spelling.specs.declared.same.SameAnswer.{SameAnswer}

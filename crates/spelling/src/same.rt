@@ -6,7 +6,7 @@ ghost use Prim.Native.Nat.{_+_, _<_, max};
 ghost use lib.ListN.{length};
 ghost use Rattle.word.specs.Verdict.{Decides};
 ghost use Rattle.word.specs.Walk.{SameLetters, lengthsFit, letterAt};
-ghost use Rattle.spelling.specs.Comparing.{wrapped};
+ghost use Rattle.spelling.specs.inner.Comparing.{wrapped};
 ghost use Rattle.spelling.specs.SameCall.{SameCall};
 
 // The answer: 0 and whether the walks are one (1 yes, 0 no), or the number of the question that failed and zero.

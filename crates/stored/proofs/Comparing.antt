@@ -7,13 +7,13 @@ use native.Mathlib.Omega.{arith}
 use borrow.Author.Tests.{eq-eqb, eqb-true}
 use lib.Dec.{eqb}
 use lib.ListN.{length, getD}
+use Rattle.successors.specs.declared.call.SuccessorsAnswer.{SuccessorsAnswer}
 use Rattle.notation.specs.Testing.{Tests, HasNumbers}
 use Rattle.notation.specs.Parts.{space, parts, partAt, fieldAt}
 use Rattle.notation.specs.Decimal.{decimalWithin, numberAnswer}
 use Rattle.notation.specs.declared.decimal.Number.{Number}
 use Rattle.notation.proofs.Testing.{both-true, four-true, and-yes}
 use Rattle.notation.proofs.DecimalDigits.{number-found, number-only}
-use Rattle.successors.specs.declared.call.SuccessorsAnswer.{SuccessorsAnswer}
 use Rattle.stored.specs.Calls.{largestSize, largestMap, RuleText, successorsNumbers, Gives}
 use Rattle.stored.specs.Comparing.{Compared, RuleIs}
 use Rattle.stored.specs.declared.calls.Call.{Call}

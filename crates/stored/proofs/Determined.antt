@@ -4,15 +4,14 @@ use mathlib.Core.List.{List}
 use mathlib.Core.Option.{Option, some, Option·some-injective}
 use Prim.Native.Nat.{ℕ}
 use Rattle.table.specs.ReadCall.{readOutcome, readAnswer, gridAfter}
+use Rattle.spelling.specs.SameCall.{sameOutcome, SameAnswers}
+use Rattle.spelling.proofs.SameAnswers.{same-determined}
+use Rattle.plain.specs.PlainCall.{plainOutcome, PlainAnswers}
+use Rattle.plain.proofs.PlainVerdict.{plain-determined}
 use Rattle.tree.specs.TreeCalls.{startOutcome, startAnswer, startAfter}
 use Rattle.treejudge.specs.JudgeCall.{treeOutcome, TreeAnswers}
 use Rattle.treejudge.proofs.TreeVerdict.{tree-determined}
-use Rattle.plain.specs.PlainCall.{plainOutcome, PlainAnswers}
-use Rattle.plain.proofs.PlainVerdict.{plain-determined}
-use Rattle.spelling.specs.SameCall.{sameOutcome, SameAnswers}
-use Rattle.spelling.proofs.SameAnswers.{same-determined}
-use Rattle.stored.specs.Calls.{readNumbers, startNumbers, treeNumbers, plainNumbers, sameNumbers}
-use Rattle.stored.specs.Calls.{ReadGives, WriteGives, StartGives, StepGives, TreeGives, PlainGives, SameGives, SuccessorsGives, Gives}
+use Rattle.stored.specs.Calls.{readNumbers, startNumbers, treeNumbers, plainNumbers, sameNumbers, ReadGives, WriteGives, StartGives, StepGives, TreeGives, PlainGives, SameGives, SuccessorsGives, Gives}
 use Rattle.stored.specs.declared.calls.Call.{Call}
 use Rattle.stored.specs.declared.calls.Call.the-variants.{Read, Write, Start, Step, Tree, Plain, Same, Successors}
 

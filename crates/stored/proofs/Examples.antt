@@ -4,15 +4,15 @@ use mathlib.Core.List.{List, [], _∷_, map}
 use mathlib.Core.Option.{Option, none, some, Option·some-injective}
 use Prim.Native.Nat.{ℕ, _+_}
 use native.Mathlib.Omega.{arith}
+use Rattle.table.specs.Table.{readRule}
+use Rattle.tree.specs.TreeCalls.{startOutcome, startAnswer, startAfter}
+use Rattle.job.specs.Ascii.{ascii}
+use Rattle.job.specs.JobCall.{JobAnswer, jobParts, textOf, refusalText, digits, digitsWithin, line as jobLine}
 use Rattle.notation.specs.Parts.{space, inFront, parts, fieldAt}
 use Rattle.notation.specs.Decimal.{digitValue, areDigits, digitsValue, decimal}
 use Rattle.notation.specs.Hexadecimal.{arePair, pairByte, arePairs, pairBytes, hexadecimal, times, bytesOf, noLonger, longest, byteString}
 use Rattle.notation.specs.Testing.{HasNumbers}
 use Rattle.notation.specs.OneLine.{written, onOneLine}
-use Rattle.table.specs.Table.{readRule}
-use Rattle.tree.specs.TreeCalls.{startOutcome, startAnswer, startAfter}
-use Rattle.job.specs.Ascii.{ascii}
-use Rattle.job.specs.JobCall.{JobAnswer, jobParts, textOf, refusalText, digits, digitsWithin, line as jobLine}
 use Rattle.stored.specs.Calls.{nameOf, arguments, BytesAt, Gives, Answered, CallRight}
 use Rattle.stored.specs.Jobs.{JobRight}
 use Rattle.stored.specs.declared.calls.Call.the-variants.{Start}

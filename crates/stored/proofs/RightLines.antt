@@ -6,6 +6,9 @@ use mathlib.Core.Option.{Option, some}
 use Prim.Native.Nat.{ℕ, _+_}
 use native.Mathlib.Omega.{arith}
 use lib.ListN.{length, take}
+use Rattle.job.specs.JobCall.{JobAnswer}
+use Rattle.job.specs.declared.call.Text.{Text}
+use Rattle.job.proofs.JobVerdict.{job-determined}
 use Rattle.notation.specs.Parts.{tab, parts, fieldAt}
 use Rattle.notation.specs.Hexadecimal.{byteString}
 use Rattle.notation.specs.OneLine.{onOneLine}
@@ -13,9 +16,6 @@ use Rattle.notation.specs.Testing.{Tests, HasNumbers}
 use Rattle.notation.specs.declared.hexadecimal.Bytes.{Bytes}
 use Rattle.notation.proofs.Testing.{both-true, and-yes}
 use Rattle.notation.proofs.ByteAnswers.{Holds}
-use Rattle.job.specs.JobCall.{JobAnswer}
-use Rattle.job.specs.declared.call.Text.{Text}
-use Rattle.job.proofs.JobVerdict.{job-determined}
 use Rattle.stored.specs.Calls.{nameOf, arguments, BytesAt, Answered, CallRight}
 use Rattle.stored.specs.Jobs.{shown, SaysAnswer, JobRight}
 use Rattle.stored.specs.Comparing.{Names, Compared}

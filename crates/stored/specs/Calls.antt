@@ -5,26 +5,26 @@ use mathlib.Core.List.{List, [], _∷_}
 use mathlib.Core.Option.{some}
 use Prim.Native.Nat.{ℕ, _+_}
 use lib.ListN.{length}
-use Rattle.notation.specs.Parts.{tab, space, parts, partAt, fieldAt}
-use Rattle.notation.specs.Decimal.{decimalWithin}
-use Rattle.notation.specs.Hexadecimal.{byteString}
-use Rattle.notation.specs.Testing.{HasNumbers}
 use Rattle.table.specs.ReadCall.{readOutcome, readAnswer, gridAfter}
 use Rattle.table.specs.WriteCall.{writeOutcome, writeAnswer, tableAfter}
 use Rattle.table.specs.declared.reader.ReadAnswer.{ReadAnswer}
 use Rattle.table.specs.declared.writer.WriteAnswer.{WriteAnswer}
+use Rattle.successors.specs.SuccessorsCall.{successorsOutcome, successorsAnswer}
+use Rattle.successors.specs.declared.call.SuccessorsAnswer.{SuccessorsAnswer}
+use Rattle.spelling.specs.SameCall.{sameOutcome, SameAnswers}
+use Rattle.spelling.specs.declared.same.SameAnswer.{SameAnswer}
+use Rattle.plain.specs.PlainCall.{plainOutcome, PlainAnswers, scratchAfter}
+use Rattle.plain.specs.declared.judge.PlainAnswer.{PlainAnswer}
 use Rattle.tree.specs.TreeCalls.{startOutcome, startAnswer, startAfter, stepOutcome, stepAnswer, stepAfter}
 use Rattle.tree.specs.declared.calls.StartAnswer.{StartAnswer}
 use Rattle.tree.specs.declared.calls.StepAnswer.{StepAnswer}
 use Rattle.treejudge.specs.JudgeCall.{treeOutcome, TreeAnswers}
 use Rattle.treejudge.specs.declared.judge.TreeAnswer.{TreeAnswer}
-use Rattle.plain.specs.PlainCall.{plainOutcome, PlainAnswers, scratchAfter}
-use Rattle.plain.specs.declared.judge.PlainAnswer.{PlainAnswer}
-use Rattle.spelling.specs.SameCall.{sameOutcome, SameAnswers}
-use Rattle.spelling.specs.declared.same.SameAnswer.{SameAnswer}
-use Rattle.successors.specs.SuccessorsCall.{successorsOutcome, successorsAnswer}
-use Rattle.successors.specs.declared.call.SuccessorsAnswer.{SuccessorsAnswer}
 use Rattle.job.specs.Ascii.{ascii}
+use Rattle.notation.specs.Parts.{tab, space, parts, partAt, fieldAt}
+use Rattle.notation.specs.Decimal.{decimalWithin}
+use Rattle.notation.specs.Hexadecimal.{byteString}
+use Rattle.notation.specs.Testing.{HasNumbers}
 use Rattle.stored.specs.declared.calls.Call.{Call}
 use Rattle.stored.specs.declared.calls.Call.the-variants.{Read, Write, Start, Step, Tree, Plain, Same, Successors}
 

@@ -4,10 +4,10 @@ use mathlib.Core.Path.{_≡_}
 use mathlib.Core.List.{List}
 use Prim.Native.Nat.{ℕ}
 use lib.ListN.{length, take}
-use Rattle.notation.specs.Parts.{tab, parts, fieldAt}
-use Rattle.notation.specs.OneLine.{onOneLine}
 use Rattle.job.specs.JobCall.{JobAnswer}
 use Rattle.job.specs.declared.call.Text.{Text}
+use Rattle.notation.specs.Parts.{tab, parts, fieldAt}
+use Rattle.notation.specs.OneLine.{onOneLine}
 use Rattle.stored.specs.Calls.{BytesAt}
 
 -- the letters of a text: those at the front of its array

@@ -3,17 +3,18 @@ use mathlib.Core.Path.{_≡_, refl, _∙_, ap}
 use mathlib.Core.List.{List}
 use Prim.Native.Nat.{ℕ, suc}
 use native.Mathlib.Omega.{arith}
-use Rattle.table.specs.Limits.{maxSets}
-use Rattle.table.specs.Lanes.{mapOf}
-use Rattle.table.specs.Lookup.{LetterTable, imagesBy, lookUp}
-use Rattle.table.specs.Outcome.{Outcome, refused, accepted, numberOf}
-use Rattle.table.specs.Preparing.{PreparedLetter}
-use Rattle.table.specs.Rule.{Rule, successors, successorsIn}
-use Rattle.table.specs.Tabulate.{tabulate}
+use Rattle.base.specs.Outcome.{Outcome, refused, accepted, numberOf}
+use Rattle.base.specs.Lists.{tabulate}
+use Rattle.base.proofs.Numbers.{tells}
+use Rattle.base.proofs.Tabulate.{tabulate-ext}
+use Rattle.rule.specs.Limits.{maxSets}
+use Rattle.rule.specs.inner.Lanes.{mapOf}
+use Rattle.rule.specs.inner.Lookup.{LetterTable, imagesBy, lookUp}
+use Rattle.rule.specs.Rule.{Rule, successors, successorsIn}
+use Rattle.rule.proofs.LookupTable.{look-up-successors, look-up-successors-in}
+use Rattle.table.specs.inner.Preparing.{PreparedLetter}
 use Rattle.table.specs.declared.header.Header.{Header}
-use Rattle.table.proofs.LookupTable.{look-up-successors, look-up-successors-in}
-use Rattle.table.proofs.RefusalNumbers.{letter-number, tells}
-use Rattle.table.proofs.Tabulate.{tabulate-ext}
+use Rattle.table.proofs.RefusalNumbers.{letter-number}
 use Rattle.successors.specs.SuccessorsCall.{successorsOutcome, successorsAnswer, SuccessorsNumber}
 
 -- all questions are answered yes: the lanes of the images are the successors, by all transitions and by those of each set

@@ -9,21 +9,22 @@ use native.Mathlib.Omega.{arith}
 use borrow.Author.Tests.{lt-ltb}
 use lib.Dec.{ltb}
 use lib.ListN.{getD, List·getD-eq-default}
-use Rattle.table.specs.BitSet.{member, collect}
-use Rattle.table.specs.Limits.{maxSets}
+use Rattle.base.specs.BitSet.{member, collect, image}
+use Rattle.base.specs.Outcome.{Outcome, refused, accepted}
+use Rattle.base.specs.Lists.{tabulate}
+use Rattle.base.proofs.Accepted.{IfAccepted, asked}
+use Rattle.base.proofs.BitSet.{empty-set, image-in, image-out, image-mod, some-member, member-none, member-collect}
+use Rattle.base.proofs.Logic.{clash, never, and-both}
+use Rattle.base.proofs.Tabulate.{length-tabulate, getD-tabulate, tabulate-ext}
+use Rattle.rule.specs.Limits.{maxSets}
+use Rattle.rule.specs.Rule.{Rule, edge, edgeIn, successors, successorsIn}
+use Rattle.rule.specs.WellFormed.{WellFormed}
+use Rattle.rule.proofs.Edges.{edge-inside, edgeIn-edge, edgeIn-set}
 use Rattle.table.specs.LetterQuestions.{letterQuestions}
-use Rattle.table.specs.Outcome.{Outcome, refused, accepted}
-use Rattle.table.specs.Rule.{Rule, edge, edgeIn, image, successors, successorsIn}
-use Rattle.table.specs.Table.{WellFormed, inRange}
-use Rattle.table.specs.Tabulate.{tabulate}
-use Rattle.table.proofs.Accepted.{IfAccepted, asked}
-use Rattle.table.proofs.BitSet.{empty-set, image-in, image-out, image-mod, some-member, member-none, member-collect}
-use Rattle.table.proofs.Edges.{edge-inside, edgeIn-edge, edgeIn-set}
+use Rattle.table.specs.Table.{inRange}
 use Rattle.table.proofs.LetterAsked.{letter-accepted}
-use Rattle.table.proofs.Logic.{clash, never, and-both}
 use Rattle.table.proofs.Ranges.{in-range}
 use Rattle.table.proofs.RoundTrip.{read-well-formed}
-use Rattle.table.proofs.Tabulate.{length-tabulate, getD-tabulate, tabulate-ext}
 use Rattle.successors.specs.SuccessorsCall.{successorsOutcome, successorsAnswer}
 use Rattle.successors.specs.Reached.{LeadsTo, Reached, ReachedExactly, StatesFromN, everyState, Serves}
 use Rattle.successors.proofs.Answers.{successors-number}

@@ -5,10 +5,10 @@ use mathlib.Core.Logic.{_↔_}
 use mathlib.Core.List.{List}
 use Prim.Native.Nat.{ℕ, suc, _%_, _^_, _<_, _≤_}
 use lib.ListN.{getD}
-use Rattle.table.specs.BitSet.{member}
-use Rattle.table.specs.Limits.{maxSets}
-use Rattle.table.specs.Outcome.{accepted}
-use Rattle.table.specs.Rule.{Rule, edge, edgeIn}
+use Rattle.base.specs.BitSet.{member}
+use Rattle.base.specs.Outcome.{accepted}
+use Rattle.rule.specs.Limits.{maxSets}
+use Rattle.rule.specs.Rule.{Rule, edge, edgeIn}
 use Rattle.table.specs.Table.{readRule}
 use Rattle.successors.specs.SuccessorsCall.{successorsOutcome, successorsAnswer, SuccessorsCall}
 use Rattle.successors.specs.declared.call.SuccessorsAnswer.{SuccessorsAnswer}

@@ -4,11 +4,11 @@ use mathlib.Core.Path.{_≡_}
 use mathlib.Core.List.{List}
 use Prim.Native.Nat.{ℕ, suc}
 use lib.ListN.{replicate}
+use Rattle.base.specs.Outcome.{Outcome, refused, accepted, Tells}
+use Rattle.base.specs.Lists.{tabulate}
+use Rattle.rule.specs.Limits.{maxSets}
+use Rattle.rule.specs.Rule.{Rule, successors, successorsIn}
 use Rattle.table.specs.LetterQuestions.{letterQuestions}
-use Rattle.table.specs.Limits.{maxSets}
-use Rattle.table.specs.Outcome.{Outcome, refused, accepted, Tells}
-use Rattle.table.specs.Rule.{Rule, successors, successorsIn}
-use Rattle.table.specs.Tabulate.{tabulate}
 use Rattle.successors.specs.declared.call.SuccessorsAnswer.{SuccessorsAnswer}
 
 -- questions 1 to 6, and 8 to the letter. Nothing is asked of the set: any number is the map of one.

@@ -1,16 +1,16 @@
 // The look-up of a set's successors as a call: for screens that show which accepting sets a letter can serve.
-use table::lanes::map_of;
+use rule::lanes::map_of;
+use rule::limits::SETS;
+use rule::lookup::ENTRIES;
+use rule::lookup::look_up;
 use table::letter::letter_questions;
-use table::limits::SETS;
-use table::lookup::ENTRIES;
-use table::lookup::look_up;
 use table::reader::Reading;
 ghost use mathlib.Core.Path.{_≡_};
 ghost use Prim.Native.Nat.{ℕ, suc};
-ghost use Rattle.table.specs.Limits.{maxSets};
-ghost use Rattle.table.specs.Lanes.{mapOf};
-ghost use Rattle.table.specs.Outcome.{refused};
-ghost use Rattle.table.specs.Tabulate.{tabulate};
+ghost use Rattle.base.specs.Outcome.{refused};
+ghost use Rattle.base.specs.Lists.{tabulate};
+ghost use Rattle.rule.specs.Limits.{maxSets};
+ghost use Rattle.rule.specs.inner.Lanes.{mapOf};
 ghost use Rattle.successors.specs.SuccessorsCall.{SuccessorsCall, successorsAnswer};
 
 // 0, the map of the next states, and for each accepting set the map of those that a transition of it reaches: set i at place i − 1,

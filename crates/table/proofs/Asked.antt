@@ -5,21 +5,20 @@ use mathlib.Core.List.{List}
 use Prim.Native.Nat.{ℕ}
 use native.Mathlib.Omega.{arith}
 use lib.ListN.{replicate}
-use Rattle.table.specs.Limits.{maxStates, maxLetters}
-use Rattle.table.specs.Outcome.{Outcome, refused, accepted}
-use Rattle.table.specs.Rule.{Grid, Rule}
+use Rattle.base.specs.Outcome.{Outcome, refused, accepted}
+use Rattle.rule.specs.Limits.{maxStates, maxLetters}
+use Rattle.rule.specs.Rule.{Grid, Rule}
+use Rattle.rule.specs.inner.Padded.{blankCells, held}
+use Rattle.rule.specs.inner.Lookup.{gridWords}
+use Rattle.rule.proofs.RowWords.{words-blank}
 use Rattle.table.specs.Table.{readRule}
-use Rattle.table.specs.Held.{blankCells, held}
-use Rattle.table.specs.HeldRule.{WithinLimits, NumbersOf, HoldsRule}
-use Rattle.table.specs.Lookup.{gridWords}
-use Rattle.table.specs.Preparing.{Blank, ReadInto, Prepares}
-use Rattle.table.specs.ReadCall.{readingOf, cellsAfter}
+use Rattle.table.specs.inner.ReadRule.{WithinLimits, NumbersOf, HoldsRule, readingOf, cellsAfter}
+use Rattle.table.specs.inner.Preparing.{Blank, ReadInto, Prepares}
 use Rattle.table.specs.declared.header.Header.{Header}
 use Rattle.table.specs.declared.reader.Reading.{Reading}
 use Rattle.table.specs.declared.reader.Reading.the-variants.{Refused, Rule as Reading·Rule}
 use Rattle.table.proofs.Ranges.{in-range}
 use Rattle.table.proofs.RoundTrip.{read-well-formed}
-use Rattle.table.proofs.RowWords.{words-blank}
 
 -- A READING
 

@@ -9,12 +9,13 @@ use borrow.Author.Tests.{ltb-true, ltb-false, lt-ltb, le-ltb}
 use lib.Dec.{ltb}
 use lib.ListN.{length, getD, drop, drop-of-length-le}
 use lib.Seq.{drop-cons}
-use Rattle.table.specs.Limits.{maxStates}
-use Rattle.table.specs.BitSet.{some}
-use Rattle.table.specs.Outcome.{Outcome, refused, accepted, ask}
-use Rattle.table.specs.Table.{Read, readByte}
-use Rattle.table.specs.Cursor.{byteAt}
-use Rattle.table.proofs.Tests.{same-below}
+use Rattle.base.specs.BitSet.{some}
+use Rattle.base.specs.Outcome.{Outcome, refused, accepted, ask}
+use Rattle.base.specs.Reading.{Read}
+use Rattle.base.proofs.Tests.{same-below}
+use Rattle.rule.specs.Limits.{maxStates}
+use Rattle.table.specs.Table.{readByte}
+use Rattle.table.specs.inner.Cursor.{byteAt}
 
 -- question 4 is answered no only at the end
 at-end : (s : List ℕ) (at : ℕ) → refused 4 ≡ byteAt s at → length s ≤ at

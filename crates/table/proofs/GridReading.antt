@@ -6,12 +6,14 @@ use native.Mathlib.Nat.{mul-le-mul}
 use borrow.Author.Tests.{le-leb, lt-leb}
 use lib.ListN.{length, take, length-map}
 use lib.Seq.{take-at}
-use Rattle.table.specs.Limits.{maxStates, maxLetters}
-use Rattle.table.specs.Outcome.{refused}
-use Rattle.table.specs.Rule.{Grid}
-use Rattle.table.specs.Table.{Every, gridBytes, readRule}
-use Rattle.table.specs.Storing.{stored}
-use Rattle.table.specs.Held.{pad, heldRow, heldSquare, held, narrow}
+use Rattle.base.specs.Outcome.{refused}
+use Rattle.base.specs.Lists.{Every, pad}
+use Rattle.base.specs.LentBuffer.{stored}
+use Rattle.rule.specs.Limits.{maxStates, maxLetters}
+use Rattle.rule.specs.Rule.{Grid}
+use Rattle.rule.specs.inner.Padded.{heldRow, heldSquare, held}
+use Rattle.table.specs.Table.{gridBytes, readRule}
+use Rattle.table.specs.inner.GridBytes.{narrow}
 use Rattle.table.specs.ReadCall.{readOutcome, readAnswer, gridAfter, ReadCall}
 use Rattle.table.specs.declared.header.Header.{Header}
 use Rattle.table.specs.declared.reader.ReadAnswer.{ReadAnswer}

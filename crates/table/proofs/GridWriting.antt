@@ -6,10 +6,10 @@ use native.Mathlib.Decide.{decLt}
 use native.Mathlib.Omega.{arith}
 use lib.ListN.{length, getD, take, List·getD-eq-default}
 use lib.Seq.{take-suc, take-all, take-nil}
-use Rattle.table.specs.Rule.{Grid}
+use Rattle.base.proofs.Flattening.{flatten-append}
+use Rattle.rule.specs.Rule.{Grid}
 use Rattle.table.specs.Table.{gridBytes}
-use Rattle.table.specs.Held.{squareBytes, narrow}
-use Rattle.table.proofs.Parts.{flatten-append}
+use Rattle.table.specs.inner.GridBytes.{squareBytes, narrow}
 
 -- lists one behind the other, and one more
 flatten-more : {A : Type 0} (ls : List (List A)) (l : List A) → flatten (ls ++ (l ∷ [])) ≡ flatten ls ++ l

@@ -7,12 +7,14 @@ use native.Mathlib.Nat.{suc-sub-suc, sub-zero, le-of-suc-le-suc, not-suc-le-zero
 use native.Mathlib.Omega.{arith}
 use lib.Dec.{eqb}
 use lib.ListN.{length, drop, replicate, length-map}
-use Rattle.table.specs.Limits.{maxStates, maxLetters, noTransition}
-use Rattle.table.specs.Outcome.{refused, accepted, _then_}
-use Rattle.table.specs.Table.{Read, readByte, readTransition, readRow, readCell, readMany, readGrid}
-use Rattle.table.specs.Held.{pad, blankRow, blankSquare, heldRow, heldSquare, held}
-use Rattle.table.specs.Cursor.{replaced, readSquare, readHeld}
-use Rattle.table.proofs.Accepted.{IfAccepted, followed, weaker, then-accepted, then-same, then-assoc}
+use Rattle.base.specs.Outcome.{refused, accepted, _then_}
+use Rattle.base.specs.Reading.{Read, readMany}
+use Rattle.base.specs.Lists.{pad}
+use Rattle.base.proofs.Accepted.{IfAccepted, followed, weaker, then-accepted, then-same, then-assoc}
+use Rattle.rule.specs.Limits.{maxStates, maxLetters, noTransition}
+use Rattle.rule.specs.inner.Padded.{blankRow, blankSquare, heldRow, heldSquare, held}
+use Rattle.table.specs.Table.{readByte, readTransition, readRow, readCell, readGrid}
+use Rattle.table.specs.inner.Cursor.{replaced, readSquare, readHeld}
 use Rattle.table.proofs.Reading.{byte-read}
 
 -- one thing, then more behind it

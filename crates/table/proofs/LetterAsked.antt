@@ -6,18 +6,18 @@ use native.Mathlib.Omega.{arith}
 use borrow.Author.Tests.{le-ltb, lt-ltb, ltb-true}
 use lib.Dec.{ltb}
 use lib.ListN.{getD}
-use Rattle.table.specs.Limits.{maxLetters}
-use Rattle.table.specs.Outcome.{refused, accepted}
-use Rattle.table.specs.Rule.{Grid, Rule}
+use Rattle.base.specs.Outcome.{refused, accepted}
+use Rattle.base.proofs.Accepted.{itself, of-accepted, asked, followed}
+use Rattle.rule.specs.Limits.{maxLetters}
+use Rattle.rule.specs.Rule.{Grid, Rule}
+use Rattle.rule.specs.inner.Padded.{held}
+use Rattle.rule.specs.inner.Lookup.{LetterTable, joinedTable}
+use Rattle.rule.proofs.LookupSteps.{table-made}
 use Rattle.table.specs.Table.{readRule}
-use Rattle.table.specs.Held.{held}
 use Rattle.table.specs.LetterQuestions.{letterQuestions}
-use Rattle.table.specs.Lookup.{LetterTable, joinedTable}
-use Rattle.table.specs.Preparing.{PreparedLetter}
+use Rattle.table.specs.inner.Preparing.{PreparedLetter}
 use Rattle.table.specs.declared.header.Header.{Header}
-use Rattle.table.proofs.Accepted.{itself, of-accepted, asked, followed}
 use Rattle.table.proofs.Asked.{RuleRead}
-use Rattle.table.proofs.LookupSteps.{table-made}
 
 -- questions 1 to 6
 pub letter-no-table : (table : List ℕ) (a : ℕ) {number : ℕ} → readRule table ≡ refused number → letterQuestions table a ≡ refused number

@@ -10,18 +10,21 @@ use lib.Count.{ones, onesIn, ones-step}
 use lib.Dec.{eqb}
 use lib.ListN.{length, getD, take, drop, length-append, List·getD-eq-default}
 use lib.Seq.{take-at, drop-at, drop-drop, take-nil, drop-nil}
-use Rattle.table.specs.Limits.{noTransition}
-use Rattle.table.specs.Outcome.{accepted}
-use Rattle.table.specs.Rule.{Grid, Rule, squareOf}
-use Rattle.table.specs.Table.{mapByte, setBytes, cellBytes, tableBytes, SquareFits, Read, readMany, readCell, readRule}
+use Rattle.base.specs.Outcome.{accepted}
+use Rattle.base.specs.Reading.{Read, readMany}
+use Rattle.base.specs.Lists.{tabulate}
+use Rattle.base.proofs.Every.{every-at}
+use Rattle.base.proofs.Flattening.{flatMap-append}
+use Rattle.base.proofs.Tabulate.{tabulate-ext}
+use Rattle.rule.specs.Limits.{noTransition}
+use Rattle.rule.specs.Rule.{Grid, Rule, squareOf}
+use Rattle.rule.specs.WellFormed.{SquareFits}
+use Rattle.table.specs.Table.{mapByte, setBytes, cellBytes, tableBytes, readCell, readRule}
 use Rattle.table.specs.Cells.{cellsLength, headerBytes, letterCells}
-use Rattle.table.specs.Tabulate.{tabulate}
 use Rattle.table.specs.Theorems.{TableByLetters, SameCells}
-use Rattle.table.proofs.Every.{every-at}
-use Rattle.table.proofs.Parts.{Squares, fits-squares, flatMap-append}
+use Rattle.table.proofs.Parts.{Squares, fits-squares}
 use Rattle.table.proofs.Reading.{read-square-bytes}
 use Rattle.table.proofs.RoundTrip.{read-well-formed, read-bytes}
-use Rattle.table.proofs.Tabulate.{tabulate-ext}
 
 -- HOW MANY BYTES CELLS HAVE
 

@@ -6,9 +6,9 @@ use native.Mathlib.Omega.{arith}
 use native.Mathlib.Numerals.{add-one}
 use lib.ListN.{length, getD, take, drop, set, length-set, take-append-drop}
 use lib.Seq.{take-suc-set, drop-set-lt, drop-drop, getD-drop}
-use Rattle.table.specs.Outcome.{refused, accepted, _then_}
-use Rattle.table.specs.Table.{Read, readMany}
-use Rattle.table.specs.Cursor.{replaced}
+use Rattle.base.specs.Outcome.{refused, accepted, _then_}
+use Rattle.base.specs.Reading.{Read, readMany}
+use Rattle.table.specs.inner.Cursor.{replaced}
 
 module _ {A : Type 0} where
   -- what is read behind a front, before a tail

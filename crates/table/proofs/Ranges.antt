@@ -6,9 +6,10 @@ use native.Mathlib.Omega.{arith}
 use borrow.Author.Tests.{leb-true, ltb-true, eqb-false}
 use lib.Dec.{leb, eqb}
 use lib.Pow.{pow-mono}
-use Rattle.table.specs.Limits.{maxStates, maxLetters, maxSets, noTransition}
-use Rattle.table.specs.Table.{inRange, startFits}
-use Rattle.table.proofs.Logic.{and-in, not-in}
+use Rattle.base.proofs.Logic.{and-in, not-in}
+use Rattle.rule.specs.Limits.{maxStates, maxLetters, maxSets, noTransition}
+use Rattle.rule.specs.WellFormed.{startFits}
+use Rattle.table.specs.Table.{inRange}
 
 -- n, m, k within their limits
 pub record InRange (n m k : ℕ) : Type 0 where

@@ -8,15 +8,17 @@ use native.Mathlib.Omega.{arith}
 use borrow.Author.Tests.{eqb-true, eqb-false, ltb-true, lt-ltb, ne-eqb}
 use lib.Dec.{eqb, ltb}
 use lib.ListN.{length}
-use Rattle.table.specs.Limits.{noTransition}
-use Rattle.table.specs.Outcome.{accepted, _then_}
-use Rattle.table.specs.Rule.{Grid}
-use Rattle.table.specs.Table.{mapByte, setBytes, cellBytes, bytesFit, Every, RowFits, SquareFits}
-use Rattle.table.specs.Table.{Read, readByte, readTransition, readRow, readCell, readMany, readGrid}
-use Rattle.table.proofs.Logic.{and-in, and-both}
-use Rattle.table.proofs.Accepted.{IfAccepted, asked, weaker, followed}
-use Rattle.table.proofs.Every.{every-weaker}
-use Rattle.table.proofs.Parts.{flatMap-flatten}
+use Rattle.base.specs.Outcome.{accepted, _then_}
+use Rattle.base.specs.Lists.{Every}
+use Rattle.base.specs.Reading.{Read, readMany}
+use Rattle.base.proofs.Logic.{and-in, and-both}
+use Rattle.base.proofs.Accepted.{IfAccepted, asked, weaker, followed}
+use Rattle.base.proofs.Every.{every-weaker}
+use Rattle.base.proofs.Flattening.{flatMap-flatten}
+use Rattle.rule.specs.Limits.{noTransition}
+use Rattle.rule.specs.Rule.{Grid}
+use Rattle.rule.specs.WellFormed.{bytesFit, RowFits, SquareFits}
+use Rattle.table.specs.Table.{mapByte, setBytes, cellBytes, readByte, readTransition, readRow, readCell, readGrid}
 
 -- ONE CELL
 

@@ -9,17 +9,18 @@ use native.Mathlib.Omega.{arith}
 use borrow.Author.Tests.{eqb-true, eq-eqb, le-leb}
 use lib.Dec.{eqb, leb, ltb}
 use lib.ListN.{length, length-append}
-use Rattle.table.specs.Limits.{maxStates, maxLetters, noTransition}
-use Rattle.table.specs.Outcome.{accepted}
-use Rattle.table.specs.Rule.{Grid, Rule}
-use Rattle.table.specs.Table.{setBytes, cellBytes, tableBytes, gridBytes, gridOf, bytesFit, Every, SquareFits, WellFormed}
-use Rattle.table.specs.Table.{inRange, startFits, askHeader, readGrid, ended, readBody, readRule, gridFits, writeRule}
-use Rattle.table.proofs.Logic.{clash, and-in, and-both}
+use Rattle.base.specs.Outcome.{accepted}
+use Rattle.base.specs.Lists.{Every}
+use Rattle.base.specs.Reading.{ended}
+use Rattle.base.proofs.Logic.{clash, and-in, and-both}
+use Rattle.base.proofs.Accepted.{IfAccepted, of-accepted, asked, followed}
+use Rattle.base.proofs.Every.{flatten-every, every-flatten, every-both, every-weaker}
+use Rattle.rule.specs.Limits.{maxStates, maxLetters, noTransition}
+use Rattle.rule.specs.Rule.{Grid, Rule}
+use Rattle.rule.specs.WellFormed.{bytesFit, SquareFits, WellFormed, startFits}
+use Rattle.table.specs.Table.{setBytes, cellBytes, tableBytes, gridBytes, gridOf, inRange, askHeader, readGrid, readBody, readRule, gridFits, writeRule}
 use Rattle.table.proofs.Ranges.{in-range, sets-small}
-use Rattle.table.proofs.Accepted.{IfAccepted, of-accepted, asked, followed}
-use Rattle.table.proofs.Every.{flatten-every, every-flatten, every-both, every-weaker}
-use Rattle.table.proofs.Parts.{Squares, fits-squares, grid-squares, grid-of-bytes, bytes-of-grid}
-use Rattle.table.proofs.Parts.{grid-length, row-count, row-lengths}
+use Rattle.table.proofs.Parts.{Squares, fits-squares, grid-squares, grid-of-bytes, bytes-of-grid, grid-length, row-count, row-lengths}
 use Rattle.table.proofs.Reading.{grid-read, read-grid-bytes}
 
 -- READING

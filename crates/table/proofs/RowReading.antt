@@ -12,11 +12,12 @@ use lib.Bits.{bitAnd, and-le-l}
 use lib.Count.{ones, onesIn, ones-step, trailingZeros}
 use lib.Dec.{eqb}
 use lib.ListN.{length, drop, set, replicate, length-set, length-replicate}
-use Rattle.table.specs.Limits.{noTransition}
-use Rattle.table.specs.Outcome.{Outcome, refused, accepted, _then_}
-use Rattle.table.specs.Table.{Read, readByte, readTransition, readRow}
-use Rattle.table.proofs.Accepted.{then-assoc}
-use Rattle.table.proofs.LowestBit.{lowest-here, lowest-above, lowest-inside, cleared-even, cleared-here, cleared-above, cleared-ones}
+use Rattle.base.specs.Outcome.{Outcome, refused, accepted, _then_}
+use Rattle.base.specs.Reading.{Read}
+use Rattle.base.proofs.Accepted.{then-assoc}
+use Rattle.base.proofs.LowestBit.{lowest-here, lowest-above, lowest-inside, cleared-even, cleared-here, cleared-above, cleared-ones}
+use Rattle.rule.specs.Limits.{noTransition}
+use Rattle.table.specs.Table.{readByte, readTransition, readRow}
 
 -- what follows may be replaced by what is equal
 then-each : {A B : Type 0} (o : Outcome A) (f g : A → Outcome B) → ((a : A) → f a ≡ g a) → (o then f) ≡ (o then g)

@@ -11,10 +11,11 @@ use lib.Dec.{eqb}
 use lib.ListN.{length, getD, drop, length-drop, drop-of-length-le}
 use lib.Pow.{pow-mono}
 use lib.Seq.{drop-cons, drop-length}
-use Rattle.table.specs.Limits.{maxStates, noTransition}
-use Rattle.table.specs.Outcome.{refused, accepted}
-use Rattle.table.specs.Table.{bytesFit, mapByte, setBytes}
-use Rattle.table.specs.Writing.{transitionCount}
+use Rattle.base.specs.Outcome.{refused, accepted}
+use Rattle.rule.specs.Limits.{maxStates, noTransition}
+use Rattle.rule.specs.WellFormed.{bytesFit}
+use Rattle.table.specs.Table.{mapByte, setBytes}
+use Rattle.table.specs.inner.Writing.{transitionCount}
 use Rattle.table.proofs.Reading.{map-byte-lt}
 
 -- COUNTING

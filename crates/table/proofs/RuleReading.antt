@@ -7,14 +7,16 @@ use native.Mathlib.Omega.{arith}
 use borrow.Author.Tests.{le-leb, lt-leb}
 use lib.ListN.{length, getD, drop, drop-of-length-le}
 use lib.Seq.{drop-cons}
-use Rattle.table.specs.Limits.{maxStates}
-use Rattle.table.specs.Outcome.{Outcome, refused, accepted, ask}
-use Rattle.table.specs.Rule.{Grid, Rule}
-use Rattle.table.specs.Table.{Read, inRange, startFits, askHeader, readGrid, ended, readBody, readRule}
-use Rattle.table.specs.Header.{headerNumber}
-use Rattle.table.specs.Held.{blankCells, held}
-use Rattle.table.specs.Cursor.{readHeld}
-use Rattle.table.specs.ReadCall.{readingOf, cellsAfter}
+use Rattle.base.specs.Outcome.{Outcome, refused, accepted, ask}
+use Rattle.base.specs.Reading.{Read, ended}
+use Rattle.rule.specs.Limits.{maxStates}
+use Rattle.rule.specs.Rule.{Grid, Rule}
+use Rattle.rule.specs.WellFormed.{startFits}
+use Rattle.rule.specs.inner.Padded.{blankCells, held}
+use Rattle.table.specs.Table.{inRange, askHeader, readGrid, readBody, readRule}
+use Rattle.table.specs.inner.Header.{headerNumber}
+use Rattle.table.specs.inner.Cursor.{readHeld}
+use Rattle.table.specs.inner.ReadRule.{readingOf, cellsAfter}
 use Rattle.table.specs.declared.reader.Reading.{Reading}
 use Rattle.table.specs.declared.reader.Reading.the-variants.{Refused, Rule as Reading·Rule}
 use Rattle.table.proofs.HeldReading.{grid-held}

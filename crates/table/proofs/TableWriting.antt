@@ -6,12 +6,12 @@ use native.Mathlib.Omega.{arith}
 use native.Mathlib.Nat.{suc-mul, zero-mul, mul-le-mul-right, le-of-suc-le-suc, not-suc-le-zero}
 use lib.ListN.{length, getD, take, drop, set, length-take, length-drop}
 use lib.Seq.{drop-drop}
-use Rattle.table.specs.Storing.{stored}
+use Rattle.base.specs.LentBuffer.{stored}
+use Rattle.base.proofs.EachStored.{EachStored, each-start, each-room, each-next, each-done}
+use Rattle.base.proofs.Storing.{stored-start, stored-byte, stored-next, pieces-size}
 use Rattle.table.specs.Table.{mapByte, setBytes, cellBytes, parts}
-use Rattle.table.specs.Writing.{rowCells}
+use Rattle.table.specs.inner.Writing.{rowCells}
 use Rattle.table.proofs.Parts.{length-parts}
-use Rattle.table.proofs.EachStored.{EachStored, each-start, each-room, each-next, each-done}
-use Rattle.table.proofs.Storing.{stored-start, stored-byte, stored-next, pieces-size}
 
 -- the header's four bytes
 pub header-stored : (n m k start : ℕ) (buffer : List ℕ) → 4 ≤ length buffer

@@ -6,17 +6,18 @@ use native.Mathlib.Omega.{arith}
 use borrow.Author.Tests.{le-leb}
 use lib.Dec.{leb}
 use lib.ListN.{length}
-use Rattle.table.specs.Outcome.{Outcome, refused, accepted, numberOf}
-use Rattle.table.specs.Rule.{Rule}
-use Rattle.table.specs.Table.{WellFormed, tableBytes, gridBytes, readRule, writeRule}
+use Rattle.base.specs.Outcome.{Outcome, refused, accepted, numberOf}
+use Rattle.base.proofs.Accepted.{itself, of-accepted, asked, followed}
+use Rattle.base.proofs.Numbers.{NotZero, ask-number, then-number, tells}
+use Rattle.rule.specs.Rule.{Rule}
+use Rattle.rule.specs.WellFormed.{WellFormed}
+use Rattle.table.specs.Table.{tableBytes, gridBytes, readRule, writeRule}
 use Rattle.table.specs.ReadCall.{readOutcome, readAnswer, gridAfter}
 use Rattle.table.specs.WriteCall.{writeOutcome, writeAnswer}
 use Rattle.table.specs.Theorems.{WrittenReadsBack, ReadWritesBack, ReadNumber, WriteNumber, AcceptedTables, AcceptedLengths}
-use Rattle.table.proofs.Accepted.{itself, of-accepted, asked, followed}
-use Rattle.table.proofs.RefusalNumbers.{NotZero, ask-number, then-number, tells, rule-number, write-number}
+use Rattle.table.proofs.RefusalNumbers.{rule-number, write-number}
 use Rattle.table.proofs.Parts.{fits-squares, grid-length}
-use Rattle.table.proofs.RoundTrip.{read-well-formed, read-bytes, bytes-read, written-well-formed, table-length}
-use Rattle.table.proofs.RoundTrip.{rule-written-reads-back, rule-read-writes-back}
+use Rattle.table.proofs.RoundTrip.{read-well-formed, read-bytes, bytes-read, written-well-formed, table-length, rule-written-reads-back, rule-read-writes-back}
 
 -- THE CALLS AND THE RULE
 

@@ -10,21 +10,22 @@ use borrow.Author.Tests.{eq-eqb, ne-eqb, eqb-true, le-leb, lt-leb}
 use lib.Dec.{eqb}
 use lib.ListN.{length, length-append}
 use lib.Pow.{pow-mono}
-use Rattle.table.specs.Limits.{maxStates, maxLetters}
-use Rattle.table.specs.Outcome.{Outcome, refused, accepted, ask}
-use Rattle.table.specs.Rule.{Rule}
-use Rattle.table.specs.Table.{setBytes, cellBytes, tableBytes, parts, gridOf, bytesFit}
-use Rattle.table.specs.Table.{inRange, startFits, askHeader, gridFits, writeRule}
-use Rattle.table.specs.Storing.{stored}
-use Rattle.table.specs.Header.{headerNumber}
+use Rattle.base.specs.Outcome.{Outcome, refused, accepted, ask}
+use Rattle.base.specs.LentBuffer.{stored}
+use Rattle.base.proofs.Logic.{and-in}
+use Rattle.base.proofs.Flattening.{flatMap-append}
+use Rattle.base.proofs.Storing.{StoredSoFar, stored-next}
+use Rattle.rule.specs.Limits.{maxStates, maxLetters}
+use Rattle.rule.specs.Rule.{Rule}
+use Rattle.rule.specs.WellFormed.{bytesFit, startFits}
+use Rattle.table.specs.Table.{setBytes, cellBytes, tableBytes, parts, gridOf, inRange, askHeader, gridFits, writeRule}
+use Rattle.table.specs.inner.Header.{headerNumber}
 use Rattle.table.specs.WriteCall.{writeOutcome, writeAnswer, tableAfter}
-use Rattle.table.specs.Writing.{transitionCount, rowCells, lengthOf}
+use Rattle.table.specs.inner.Writing.{transitionCount, rowCells, lengthOf}
 use Rattle.table.specs.declared.writer.Length.the-variants.{Exact, Refused}
 use Rattle.table.specs.declared.writer.WriteAnswer.{WriteAnswer}
-use Rattle.table.proofs.Logic.{and-in}
 use Rattle.table.proofs.Ranges.{InRange, in-range, start-fits}
-use Rattle.table.proofs.Parts.{flatMap-append, flatten-parts, length-parts, rows-of-grid}
-use Rattle.table.proofs.Storing.{StoredSoFar, stored-next}
+use Rattle.table.proofs.Parts.{flatten-parts, length-parts, rows-of-grid}
 use Rattle.table.proofs.RowWriting.{setByte, set-bytes-each}
 use Rattle.table.proofs.RoundTrip.{set-bytes-le}
 use Rattle.table.proofs.RuleReading.{header-refused, header-accepted}

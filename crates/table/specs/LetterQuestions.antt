@@ -2,8 +2,8 @@
 use mathlib.Core.List.{List}
 use Prim.Native.Nat.{ℕ}
 use lib.Dec.{ltb}
-use Rattle.table.specs.Outcome.{Outcome, accepted, ask, _then_}
-use Rattle.table.specs.Rule.{Rule}
+use Rattle.base.specs.Outcome.{Outcome, accepted, ask, _then_}
+use Rattle.rule.specs.Rule.{Rule}
 use Rattle.table.specs.Table.{readRule}
 
 -- questions 1 to 6 to the table, and 8 to the letter: is it below m?

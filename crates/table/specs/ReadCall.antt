@@ -4,13 +4,10 @@ use mathlib.Core.List.{List}
 use Prim.Native.Nat.{ℕ, _*_}
 use lib.Dec.{leb}
 use lib.ListN.{length}
-use Rattle.table.specs.Outcome.{Outcome, refused, accepted, ask, _then_}
-use Rattle.table.specs.Rule.{Grid, Rule}
+use Rattle.base.specs.Outcome.{Outcome, refused, accepted, ask, _then_}
+use Rattle.base.specs.LentBuffer.{stored}
+use Rattle.rule.specs.Rule.{Rule}
 use Rattle.table.specs.Table.{readRule, gridBytes}
-use Rattle.table.specs.Storing.{stored}
-use Rattle.table.specs.Held.{blankCells, held}
-use Rattle.table.specs.declared.reader.Reading.{Reading}
-use Rattle.table.specs.declared.reader.Reading.the-variants.{Refused, Rule as Reading·Rule}
 use Rattle.table.specs.declared.reader.ReadAnswer.{ReadAnswer}
 
 -- THE PUBLIC CALL `read`
@@ -35,15 +32,3 @@ gridAfter (accepted R) buffer = stored 0 (gridBytes (R .grid)) buffer
 -- the contract of the call: for a table and a lent buffer, this answer, and these bytes in the buffer afterwards
 abbrev pub ReadCall : List ℕ → List ℕ → ReadAnswer → List ℕ → Type 0
 ReadCall table grid answer after = (answer ≡ readAnswer (readOutcome table grid)) × (after ≡ gridAfter (readOutcome table grid) grid)
-
--- INSIDE: `read_rule`, for the crates above
-
--- the case of a `Reading` for each outcome: it carries document 01's number, or the values
-unfoldable pub readingOf : Outcome Rule → Reading
-readingOf (refused number) = Refused number
-readingOf (accepted R) = Reading·Rule (record { states = R .states; letters = R .letters; sets = R .sets; start = R .start })
-
--- the arrays afterwards: the rule's grid; on a refusal no transition anywhere
-unfoldable pub cellsAfter : Outcome Rule → Grid
-cellsAfter (refused number) = blankCells
-cellsAfter (accepted R) = held (R .grid)

@@ -1,14 +1,15 @@
 -- Rule tables (document 01, "The rule table" and "Questions in order", 1 to 6 and 11): what a table's bytes are, and
 -- which bytes are refused by which number.
-use mathlib.Core.Path.{_≡_}
-use mathlib.Core.Bool.{Bool, true, false, not, _&&_, _||_, cond}
+use mathlib.Core.Bool.{Bool, true, false, _&&_, cond}
 use mathlib.Core.List.{List, [], _∷_, map, flatten, flatMap}
 use Prim.Native.Nat.{ℕ, zero, suc, _+_, _*_, _/_, _%_, _^_}
 use lib.Dec.{eqb, leb, ltb}
 use lib.ListN.{length, getD, take, drop}
-use Rattle.table.specs.Limits.{maxStates, maxLetters, maxSets, noTransition}
-use Rattle.table.specs.Outcome.{Outcome, refused, accepted, ask, _then_}
-use Rattle.table.specs.Rule.{Grid, Rule}
+use Rattle.base.specs.Outcome.{Outcome, refused, accepted, ask, _then_}
+use Rattle.base.specs.Reading.{Read, readMany, ended}
+use Rattle.rule.specs.Limits.{maxStates, maxLetters, maxSets, noTransition}
+use Rattle.rule.specs.Rule.{Grid, Rule}
+use Rattle.rule.specs.WellFormed.{startFits, bytesFit}
 
 -- WHAT A TABLE'S BYTES ARE
 
@@ -50,40 +51,9 @@ gridOf n m bytes = map (parts n n) (parts (n * n) m bytes)
 unfoldable pub inRange : ℕ → ℕ → ℕ → Bool
 inRange n m k = (leb 1 n && leb n maxStates) && ((leb 1 m && leb m maxLetters) && (leb 1 k && leb k maxSets))
 
--- "Is the starting map non-empty, no bit from n up?"
-unfoldable pub startFits : ℕ → ℕ → Bool
-startFits n start = not (eqb start 0) && ltb start (2 ^ n)
-
 -- questions 2 and 3, and what follows on yes
 unfoldable pub askHeader : {A : Type 0} → ℕ → ℕ → ℕ → ℕ → Outcome A → Outcome A
 askHeader n m k start next = ask (inRange n m k) 2 (ask (startFits n start) 3 next)
-
--- "each 255 or below 2^k"
-unfoldable pub bytesFit : ℕ → List ℕ → Bool
-bytesFit k [] = true
-bytesFit k (x ∷ bytes) = (eqb x noTransition || ltb x (2 ^ k)) && bytesFit k bytes
-
--- every element of a list has a property
-abbrev pub Every : {A : Type 0} → (A → Type 0) → List A → Type 0
-Every P [] = Unit {0}
-Every P (x ∷ l) = P x × Every P l
-
--- a row of n bytes, and a square of n rows, that fit k sets
-abbrev pub RowFits : ℕ → ℕ → List ℕ → Type 0
-RowFits n k row = (length row ≡ n) × (bytesFit k row ≡ true)
-
-abbrev pub SquareFits : ℕ → ℕ → List (List ℕ) → Type 0
-SquareFits n k square = (length square ≡ n) × Every (RowFits n k) square
-
--- a rule whose starting map and grid fit its numbers, whatever these are
-pub record WellFormed (R : Rule) : Type 0 where
-  pub starts : startFits (R .states) (R .start) ≡ true
-  pub squares : length (R .grid) ≡ R .letters
-  pub fits : Every (SquareFits (R .states) (R .sets)) (R .grid)
-
--- what is read at the front of some bytes: a value and the bytes behind it
-abbrev pub Read : Type 0 → Type 0
-Read A = Outcome (A × List ℕ)
 
 -- "At each cell byte in turn: is it there? 4. Does a map have no bit from n up, a set byte none from k up? 5":
 -- one cell byte in which the bits below w may stand
@@ -108,22 +78,9 @@ readRow k (suc w) standing bytes =
 unfoldable pub readCell : ℕ → ℕ → ℕ → List ℕ → Read (List ℕ)
 readCell n k w bytes = readByte n bytes then λ standing. readRow k w (standing .0) (standing .1)
 
--- c things of a kind, one behind the other
-unfoldable pub readMany : {A : Type 0} → (List ℕ → Read A) → ℕ → List ℕ → Read (List A)
-readMany one zero bytes = accepted ([], bytes)
-readMany one (suc c) bytes =
-    one bytes then λ x.
-    readMany one c (x .1) then λ xs.
-    accepted (x .0 ∷ xs .0, xs .1)
-
 -- m times n cells, letter by letter, state by state
 unfoldable pub readGrid : ℕ → ℕ → ℕ → List ℕ → Read Grid
 readGrid n m k bytes = readMany (readMany (readCell n k n) n) m bytes
-
--- "Does the table end with its last cell?"
-unfoldable pub ended : List ℕ → Bool
-ended [] = true
-ended (x ∷ rest) = false
 
 -- questions 4, 5 and 6: the cells behind the header, and the end of the table
 unfoldable pub readBody : ℕ → ℕ → ℕ → ℕ → List ℕ → Outcome Rule

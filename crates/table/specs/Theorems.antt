@@ -5,12 +5,13 @@ use mathlib.Core.Logic.{_↔_}
 use mathlib.Core.List.{List, _++_, flatten}
 use Prim.Native.Nat.{ℕ, _≤_}
 use lib.ListN.{length}
-use Rattle.table.specs.Outcome.{accepted, Tells}
-use Rattle.table.specs.Rule.{Rule, squareOf}
-use Rattle.table.specs.Table.{WellFormed, inRange, tableBytes, gridBytes, readRule}
+use Rattle.base.specs.Outcome.{accepted, Tells}
+use Rattle.base.specs.Lists.{tabulate}
+use Rattle.base.specs.LentBuffer.{stored}
+use Rattle.rule.specs.Rule.{Rule, squareOf}
+use Rattle.rule.specs.WellFormed.{WellFormed}
+use Rattle.table.specs.Table.{inRange, tableBytes, gridBytes, readRule}
 use Rattle.table.specs.Cells.{headerBytes, letterCells}
-use Rattle.table.specs.Tabulate.{tabulate}
-use Rattle.table.specs.Storing.{stored}
 use Rattle.table.specs.ReadCall.{readOutcome, readAnswer, gridAfter}
 use Rattle.table.specs.WriteCall.{writeOutcome, writeAnswer}
 

@@ -4,9 +4,9 @@ use mathlib.Core.List.{List}
 use Prim.Native.Nat.{ℕ}
 use lib.Dec.{leb}
 use lib.ListN.{length}
-use Rattle.table.specs.Outcome.{Outcome, refused, accepted, ask, _then_}
+use Rattle.base.specs.Outcome.{Outcome, refused, accepted, ask, _then_}
+use Rattle.base.specs.LentBuffer.{stored}
 use Rattle.table.specs.Table.{writeRule, tableBytes}
-use Rattle.table.specs.Storing.{stored}
 use Rattle.table.specs.declared.writer.WriteAnswer.{WriteAnswer}
 
 -- questions 2, 3 and 11, then 10: "the exact length for a table", "longer is fine"; accepted, the table's bytes

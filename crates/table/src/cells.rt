@@ -1,25 +1,25 @@
 // Reading the cells of a table (questions 4 and 5) into arrays of arrays, and each state's images into a word.
 use crate::cursor::Cursor;
 use crate::cursor::Next;
-use crate::lanes::in_lane;
-use crate::lanes::spread;
-use crate::lanes::with_state;
-use crate::limits::Cells;
-use crate::limits::NO_TRANSITION;
-use crate::limits::Row;
-use crate::limits::STATES;
-use crate::limits::Square;
-use crate::limits::SquareWords;
-use crate::limits::Words;
 use crate::source::byte_at;
+use rule::lanes::in_lane;
+use rule::lanes::spread;
+use rule::lanes::with_state;
+use rule::limits::Cells;
+use rule::limits::NO_TRANSITION;
+use rule::limits::Row;
+use rule::limits::STATES;
+use rule::limits::Square;
+use rule::limits::SquareWords;
+use rule::limits::Words;
 ghost use mathlib.Core.Path.{_≡_};
 ghost use Prim.Native.Nat.{_^_, _<_, _≤_};
 ghost use lib.ListN.{drop};
-ghost use Rattle.table.specs.Limits.{maxLetters, maxSets, maxStates};
+ghost use Rattle.rule.specs.Limits.{maxLetters, maxSets, maxStates};
+ghost use Rattle.rule.specs.inner.Padded.{blankCells, blankRow, blankSquare};
+ghost use Rattle.rule.specs.inner.Lookup.{gridWords, rowWord, squareWords};
 ghost use Rattle.table.specs.Table.{readByte, readCell, readRow};
-ghost use Rattle.table.specs.Held.{blankCells, blankRow, blankSquare};
-ghost use Rattle.table.specs.Lookup.{gridWords, rowWord, squareWords};
-ghost use Rattle.table.specs.Cursor.{byteRead, progress, readHeld, readSquare};
+ghost use Rattle.table.specs.inner.Cursor.{byteRead, progress, readHeld, readSquare};
 
 // A cell byte with the cursor behind it, or the number of the question that it fails.
 pub enum CellByte {

@@ -1,6 +1,6 @@
 // A place in the bytes of a table, by value, and what stands there.
 ghost use mathlib.Core.Path.{_≡_};
-ghost use Rattle.table.specs.Cursor.{byteAt, nextAs};
+ghost use Rattle.table.specs.inner.Cursor.{byteAt, nextAs};
 
 // A place in the table's bytes.
 pub struct Cursor {

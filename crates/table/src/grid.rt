@@ -1,14 +1,14 @@
 // Grid bytes from the read table: letter by letter, row by row, column by column.
-use crate::limits::Cells;
-use crate::limits::Row;
-use crate::limits::Square;
+use rule::limits::Cells;
+use rule::limits::Row;
+use rule::limits::Square;
 ghost use mathlib.Core.Path.{_≡_};
 ghost use Prim.Native.Nat.{_+_, _*_, _≤_};
 ghost use lib.ListN.{length, take};
-ghost use Rattle.table.specs.Limits.{maxLetters, maxStates};
-ghost use Rattle.table.specs.Storing.{stored};
+ghost use Rattle.base.specs.LentBuffer.{stored};
+ghost use Rattle.rule.specs.Limits.{maxLetters, maxStates};
 ghost use Rattle.table.specs.Table.{gridBytes};
-ghost use Rattle.table.specs.Held.{narrow, squareBytes};
+ghost use Rattle.table.specs.inner.GridBytes.{narrow, squareBytes};
 
 // The first n bytes of a row, stored from a place on. Answers the place behind them.
 fn put_row(row: Row, n: usize, out: &mut [u8], from: usize) -> usize

@@ -1,14 +1,15 @@
 // The numbers of a rule, and questions 2 and 3, which the reader puts to a table's first bytes and the writer to its
 // numbers.
-use crate::limits::LETTERS;
-use crate::limits::SETS;
-use crate::limits::STATES;
+use rule::limits::LETTERS;
+use rule::limits::SETS;
+use rule::limits::STATES;
 ghost use mathlib.Core.Path.{_≡_};
 ghost use mathlib.Core.Bool.{_&&_};
 ghost use Prim.Native.Nat.{_<_};
 ghost use lib.Dec.{leb};
-ghost use Rattle.table.specs.Table.{inRange, startFits};
-ghost use Rattle.table.specs.Header.{headerNumber};
+ghost use Rattle.rule.specs.WellFormed.{startFits};
+ghost use Rattle.table.specs.Table.{inRange};
+ghost use Rattle.table.specs.inner.Header.{headerNumber};
 
 // n, m, k and the map of starting states.
 pub struct Header {

@@ -1,13 +1,13 @@
 // One letter of a table: its questions, and its look-up table.
-use crate::limits::LETTERS;
-use crate::limits::NO_TRANSITION;
-use crate::limits::STATES;
-use crate::lookup::LetterTable;
-use crate::lookup::fill_table;
 use crate::reader::Reading;
 use crate::reader::read_rule;
+use rule::limits::LETTERS;
+use rule::limits::NO_TRANSITION;
+use rule::limits::STATES;
+use rule::lookup::LetterTable;
+use rule::lookup::fill_table;
 ghost use Rattle.table.specs.LetterQuestions.{letterQuestions};
-ghost use Rattle.table.specs.Preparing.{PreparedLetter, Prepares};
+ghost use Rattle.table.specs.inner.Preparing.{PreparedLetter, Prepares};
 
 // Questions 1 to 6 to a table, and 8 to a letter. On yes the letter's look-up table is made in place.
 pub fn letter_questions(table: &[u8], letter: u8, lookup: &mut LetterTable) -> Reading

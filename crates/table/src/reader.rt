@@ -5,18 +5,18 @@ use crate::cursor::Cursor;
 use crate::grid::put_cells;
 use crate::header::Header;
 use crate::header::header_number;
-use crate::limits::Cells;
-use crate::limits::LETTERS;
-use crate::limits::NO_TRANSITION;
-use crate::limits::STATES;
-use crate::limits::Words;
+use rule::limits::Cells;
+use rule::limits::LETTERS;
+use rule::limits::NO_TRANSITION;
+use rule::limits::STATES;
+use rule::limits::Words;
 ghost use mathlib.Core.Path.{_≡_};
 ghost use Prim.Native.Nat.{_≤_};
 ghost use lib.ListN.{drop};
-ghost use Rattle.table.specs.Limits.{maxLetters, maxSets, maxStates};
-ghost use Rattle.table.specs.Outcome.{refused};
+ghost use Rattle.base.specs.Outcome.{refused};
+ghost use Rattle.rule.specs.Limits.{maxLetters, maxSets, maxStates};
 ghost use Rattle.table.specs.Table.{readBody, readRule};
-ghost use Rattle.table.specs.Preparing.{Blank, ReadInto};
+ghost use Rattle.table.specs.inner.Preparing.{Blank, ReadInto};
 ghost use Rattle.table.specs.ReadCall.{ReadCall, readAnswer};
 
 // The numbers of the rule that was read, or the number of the question that failed.

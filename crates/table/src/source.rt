@@ -3,7 +3,7 @@
 use crate::cursor::Cursor;
 use crate::cursor::Next;
 ghost use mathlib.Core.Path.{_≡_};
-ghost use Rattle.table.specs.Cursor.{byteAt, nextAs};
+ghost use Rattle.table.specs.inner.Cursor.{byteAt, nextAs};
 
 // The lent bytes of a table, and the place of the byte to be read next.
 pub struct Reader<'a> {

@@ -1,16 +1,16 @@
 // The writer: a rule's numbers and its grid bytes to table bytes in a lent buffer.
 use crate::header::header_number;
-use crate::limits::NO_TRANSITION;
+use rule::limits::NO_TRANSITION;
 ghost use mathlib.Core.Path.{_≡_};
 ghost use mathlib.Core.List.{[], _∷_};
 ghost use Prim.Native.Nat.{_+_, _*_, _<_, _≤_};
 ghost use lib.ListN.{length};
-ghost use Rattle.table.specs.Limits.{maxStates};
-ghost use Rattle.table.specs.Outcome.{refused};
-ghost use Rattle.table.specs.Storing.{stored};
+ghost use Rattle.base.specs.Outcome.{refused};
+ghost use Rattle.base.specs.LentBuffer.{stored};
+ghost use Rattle.rule.specs.Limits.{maxStates};
 ghost use Rattle.table.specs.Table.{cellBytes, mapByte, setBytes, writeRule};
 ghost use Rattle.table.specs.WriteCall.{WriteCall, writeAnswer};
-ghost use Rattle.table.specs.Writing.{countedAs, lengthOf, rowCells, transitionCount};
+ghost use Rattle.table.specs.inner.Writing.{countedAs, lengthOf, rowCells, transitionCount};
 
 // The writer's answer: 0 and the table's length, or the number of the question that failed and zero.
 #[repr(C)]

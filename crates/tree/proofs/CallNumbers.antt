@@ -5,10 +5,11 @@ use Prim.Native.Nat.{ℕ}
 use native.Mathlib.Omega.{arith}
 use lib.Dec.{leb}
 use lib.ListN.{length}
+use Rattle.base.specs.Outcome.{Outcome, refused, accepted, numberOf}
+use Rattle.base.proofs.Numbers.{IfRefused, NotZero, ask-number, then-number, tells}
 use Rattle.table.specs.LetterQuestions.{letterQuestions}
-use Rattle.table.specs.Outcome.{Outcome, refused, accepted, numberOf}
 use Rattle.table.specs.Table.{readRule}
-use Rattle.table.proofs.RefusalNumbers.{IfRefused, NotZero, ask-number, then-number, tells, rule-number, letter-number}
+use Rattle.table.proofs.RefusalNumbers.{rule-number, letter-number}
 use Rattle.history.specs.Record.{isRecord, readTree}
 use Rattle.tree.specs.TreeCalls.{recordRoom, startOutcome, startAnswer, Moved, stepUnder, stepOutcome, stepAnswer, StartNumber, StepNumber}
 

@@ -1,6 +1,6 @@
 -- The checks of a record, one byte after the other: at each place the answer is that of the bytes from there on.
 use mathlib.Core.Path.{_≡_, refl, sym, _∙_, ap}
-use mathlib.Core.Bool.{true, false, _&&_, _||_, cond}
+use mathlib.Core.Bool.{true, false, _&&_, cond}
 use mathlib.Core.List.{List, [], _∷_}
 use Prim.Native.Nat.{ℕ, suc, _+_, _-_, _/_, _^_, _≤_, _<_}
 use native.Mathlib.Omega.{arith}
@@ -10,20 +10,9 @@ use lib.Count.{ones}
 use lib.Dec.{eqb, leb, ltb}
 use lib.ListN.{length, getD, drop, drop-of-length-le}
 use lib.Seq.{drop-cons}
-use Rattle.history.specs.RecordChecks.{hostsBelow, isHost, allHost, activeFits, marksFollow, marksFit, bodyFits, recordChecks}
+use Rattle.history.specs.inner.RecordChecks.{isHost, allHost, activeFits, marksFollow, marksFit, bodyFits, recordChecks}
 
 -- HOSTS
-
--- the hosts from a place on: the host there, then those behind it
-pub below-from : (nodes : ℕ) (hosts : List ℕ) (at : ℕ) → at < length hosts
-    → hostsBelow nodes (drop at hosts) ≡ (ltb (getD hosts at 0) nodes && hostsBelow nodes (drop (suc at) hosts))
-unfolding hostsBelow
-below-from nodes hosts at h = rw (drop-cons hosts at 0 h)
-
-pub host-from : (node : ℕ) (hosts : List ℕ) (at : ℕ) → at < length hosts
-    → isHost node (drop at hosts) ≡ (eqb (getD hosts at 0) node || isHost node (drop (suc at) hosts))
-unfolding isHost
-host-from node hosts at h = rw (drop-cons hosts at 0 h)
 
 -- the nodes up to a number: the highest of them, then those below it
 pub all-from : (left : ℕ) (hosts : List ℕ) → 0 < left → allHost left hosts ≡ (isHost (left - 1) hosts && allHost (left - 1) hosts)

@@ -5,15 +5,15 @@ use mathlib.Core.Bool.{Bool, true, false, cond}
 use mathlib.Core.List.{List, [], _∷_, _++_, map, map-append}
 use Prim.Native.Nat.{ℕ, suc, _^_}
 use lib.Bits.{bitOr, or-zero-r}
-use Rattle.table.proofs.BitSet.{union-assoc}
+use Rattle.base.proofs.BitSet.{union-assoc}
 use Rattle.history.specs.Forest.{Forest, nil, node, change, listing, Named, namedFrom, named, sameNumbers}
 use Rattle.history.specs.Tree.{labels}
 use Rattle.history.specs.Letter.{Origin, was, Grown, kept, nextSet, isOld}
-use Rattle.tree.specs.Rows.{rowsFrom, withoutOld}
-use Rattle.tree.specs.Pass.{Pass}
-use Rattle.tree.specs.declared.rows.Row.{Row}
 use Rattle.history.proofs.StepsJoined.{plainNode, plain}
 use Rattle.history.proofs.Names.{same-self}
+use Rattle.tree.specs.inner.Rows.{rowsFrom, withoutOld}
+use Rattle.tree.specs.inner.Pass.{Pass}
+use Rattle.tree.specs.declared.rows.Row.{Row}
 
 -- MAPS BY NUMBER
 

@@ -10,8 +10,8 @@ use borrow.Author.Tests.{eq-eqb, ne-eqb}
 use lib.Bits.{bitOr}
 use lib.ListN.{length, getD, set, length-set}
 use lib.Seq.{getD-set-same, getD-set-other}
-use Rattle.table.specs.Limits.{maxStates}
-use Rattle.tree.specs.Pass.{levelsOf, ByDepth, entered, Entered}
+use Rattle.rule.specs.Limits.{maxStates}
+use Rattle.tree.specs.inner.Pass.{levelsOf, ByDepth, entered, Entered}
 use Rattle.tree.specs.declared.step.Met.{Met}
 
 -- as many levels as asked for

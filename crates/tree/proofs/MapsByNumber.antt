@@ -7,14 +7,15 @@ use borrow.Author.Tests.{lt-ltb}
 use lib.Bits.{bitOr}
 use lib.Dec.{eqb}
 use lib.ListN.{getD}
-use Rattle.table.specs.BitSet.{member, collect}
-use Rattle.table.specs.Rule.{Rule}
-use Rattle.table.proofs.Logic.{bool-ext, and-both, and-in}
-use Rattle.table.proofs.BitSet.{member-none, member-union, member-single, set-ext-below, member-collect, collect-lt}
+use Rattle.base.specs.BitSet.{member, collect}
+use Rattle.base.specs.Lists.{anyOf}
+use Rattle.base.proofs.Logic.{bool-ext, and-both, and-in}
+use Rattle.base.proofs.BitSet.{member-none, member-union, member-single, set-ext-below, member-collect, collect-lt}
+use Rattle.rule.specs.Rule.{Rule}
 use Rattle.history.specs.Forest.{Forest, nil, node, size, listing, named, names, sameNumbers}
 use Rattle.history.specs.Tree.{Tree}
-use Rattle.history.specs.Letter.{Origin, was, sprouted, survivors, isOld, anyOf, accepting, stable, byNumber, acceptingMap, stableMap}
-use Rattle.history.specs.OldNumbers.{noNode, oldNumber}
+use Rattle.history.specs.Letter.{Origin, was, sprouted, survivors, isOld, accepting, stable, byNumber, acceptingMap, stableMap}
+use Rattle.history.specs.inner.OldNumbers.{noNode, oldNumber}
 use Rattle.history.proofs.Conditions.{OneRoot}
 use Rattle.history.proofs.Names.{same-self, same-equal, any-node}
 use Rattle.tree.proofs.GrownRows.{marked, keepsName, acceptingOf, stableIn}

@@ -9,11 +9,11 @@ use borrow.Author.Tests.{eq-eqb, ne-eqb, eqb-true}
 use lib.Dec.{eqb}
 use lib.ListN.{length, getD, length-append}
 use lib.Seq.{getD-append-add}
-use Rattle.table.proofs.Logic.{never, bool-ext}
+use Rattle.base.proofs.Logic.{never, bool-ext}
 use Rattle.history.specs.Forest.{nil, node, size, names, sameNumbers}
 use Rattle.history.specs.Tree.{Node, Tree}
 use Rattle.history.specs.Letter.{Origin, was, sprouted, isOld}
-use Rattle.history.specs.OldNumbers.{noNode, numberFrom, oldNumber}
+use Rattle.history.specs.inner.OldNumbers.{noNode, numberFrom, oldNumber}
 use Rattle.history.proofs.Conditions.{OneRoot}
 use Rattle.history.proofs.Names.{same-self, same-equal}
 use Rattle.history.proofs.NamesDistinct.{names-distinct, length-names}

@@ -12,13 +12,12 @@ use borrow.Author.Tests.{lt-ltb, le-ltb, eq-eqb, ne-eqb}
 use lib.Dec.{eqb, ltb}
 use lib.ListN.{length, getD, set, take, drop, length-set, length-take, drop-of-length-le}
 use lib.Seq.{drop-cons, getD-take, getD-set-same, getD-set-other, take-suc-set, drop-drop, drop-set-lt, length-take-le}
-use Rattle.table.specs.Limits.{maxStates, maxSets}
-use Rattle.table.specs.Lookup.{LetterTable, lookUp}
-use Rattle.tree.specs.Pass.{blankRow, SetsFit, metBy, sproutRow, settledRow, written, joinedIf, Level, outermost, deepest}
-use Rattle.tree.specs.Pass.{Pass, metRow, passOver, atStart, steppedRows, levelsOf, ByDepth, Entered}
-use Rattle.tree.specs.PackedRows.{unpacked, rowsIn}
-use Rattle.tree.specs.RecordRows.{places}
-use Rattle.tree.specs.Sides.{rowsOn, TwoSides, Steppable, Stepping}
+use Rattle.rule.specs.Limits.{maxStates, maxSets}
+use Rattle.rule.specs.inner.Lookup.{LetterTable, lookUp}
+use Rattle.tree.specs.inner.Pass.{blankRow, SetsFit, metBy, sproutRow, settledRow, written, joinedIf, Level, outermost, deepest, Pass, metRow, passOver, atStart, steppedRows, levelsOf, ByDepth, Entered}
+use Rattle.tree.specs.inner.PackedRows.{unpacked, rowsIn}
+use Rattle.tree.specs.inner.RecordRows.{places}
+use Rattle.tree.specs.inner.Sides.{rowsOn, TwoSides, Steppable, Stepping}
 use Rattle.tree.specs.declared.rows.Row.{Row}
 use Rattle.tree.specs.declared.step.Met.{Met}
 use Rattle.tree.proofs.Levels.{levels-length}

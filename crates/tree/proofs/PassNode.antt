@@ -8,24 +8,21 @@ use borrow.Author.Tests.{eqb-true}
 use lib.Bits.{bitOr, or-zero-r}
 use lib.Dec.{eqb}
 use lib.ListN.{length}
-use Rattle.table.specs.BitSet.{member, minus}
-use Rattle.table.specs.Rule.{Rule, successors, successorsIn}
-use Rattle.table.proofs.BitSet.{member-union, member-minus, set-ext, union-assoc}
+use Rattle.base.specs.BitSet.{member, minus}
+use Rattle.base.proofs.BitSet.{member-union, member-minus, set-ext, union-assoc}
+use Rattle.rule.specs.Rule.{Rule, successors, successorsIn}
 use Rattle.history.specs.Forest.{Forest, nil, node, size}
 use Rattle.history.specs.Tree.{Node, Tree, labels}
 use Rattle.history.specs.Letter.{Origin, was, Grown, child}
-use Rattle.tree.specs.Rows.{rowsFrom}
-use Rattle.tree.specs.Pass.{metBy, Level, joinedIf, deepest}
-use Rattle.tree.specs.Pass.{Pass, metRow, passOver}
-use Rattle.tree.specs.declared.rows.Row.{Row}
-use Rattle.tree.specs.declared.step.Met.{Met}
 use Rattle.history.proofs.LocalStep.{newLabel, sproutOf, newBelow, accepts, step}
 use Rattle.history.proofs.LabelsOfStep.{labels-step}
 use Rattle.history.proofs.StepsJoined.{plain, heldNode, grown, advanced, grown-step, oldNode, begunFrom, held-begunFrom}
-use Rattle.tree.proofs.PassSteps.{level, pass, pass-skips, pass-meets}
-use Rattle.tree.proofs.PassSteps.{met-removed, met-accepting, met-kept}
-use Rattle.tree.proofs.GrownRows.{grownRows, acceptingOf, stableOf}
-use Rattle.tree.proofs.GrownRows.{rowsHere, acceptingHere, stableHere}
+use Rattle.tree.specs.inner.Rows.{rowsFrom}
+use Rattle.tree.specs.inner.Pass.{metBy, Level, joinedIf, deepest, Pass, metRow, passOver}
+use Rattle.tree.specs.declared.rows.Row.{Row}
+use Rattle.tree.specs.declared.step.Met.{Met}
+use Rattle.tree.proofs.PassSteps.{level, pass, pass-skips, pass-meets, met-removed, met-accepting, met-kept}
+use Rattle.tree.proofs.GrownRows.{grownRows, acceptingOf, stableOf, rowsHere, acceptingHere, stableHere}
 
 -- the row of a node at depth d
 abbrev pub rowAt : ℕ → Node → Tree → Row

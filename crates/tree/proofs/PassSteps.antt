@@ -9,8 +9,7 @@ use lib.Bits.{bitOr}
 use lib.Dec.{eqb}
 use lib.ListN.{length}
 use Rattle.history.specs.Letter.{nextSet}
-use Rattle.tree.specs.Pass.{Level, written, sproutRow, levelsTo, sproutsTo, deepest, Pass, closedTo, metBy, metRow, readRow, passOver}
-use Rattle.tree.specs.Pass.{settledRow, joinedIf, entered}
+use Rattle.tree.specs.inner.Pass.{Level, written, sproutRow, levelsTo, sproutsTo, deepest, Pass, closedTo, metBy, metRow, readRow, passOver, settledRow, joinedIf, entered}
 use Rattle.tree.specs.declared.rows.Row.{Row}
 use Rattle.tree.specs.declared.step.Met.{Met}
 

@@ -8,24 +8,22 @@ use native.Mathlib.Omega.{arith}
 use lib.Bits.{bitOr, or-zero-l, or-zero-r}
 use lib.Dec.{eqb}
 use lib.ListN.{length}
-use Rattle.table.specs.BitSet.{minus}
-use Rattle.table.specs.Rule.{Rule, successors, successorsIn}
-use Rattle.table.proofs.BitSet.{union-assoc}
+use Rattle.base.specs.BitSet.{minus}
+use Rattle.base.proofs.BitSet.{union-assoc}
+use Rattle.rule.specs.Rule.{Rule, successors, successorsIn}
 use Rattle.history.specs.Forest.{Forest, nil, node, size, change, namedFrom, named}
 use Rattle.history.specs.Tree.{Node, Tree, labels}
 use Rattle.history.specs.Letter.{Origin, was, sprouted, Grown, child, kept, fiveSteps}
-use Rattle.history.specs.OldNumbers.{noNode}
-use Rattle.tree.specs.Rows.{rowsFrom, rowsOf}
-use Rattle.tree.specs.Pass.{Level, sproutRow, written}
-use Rattle.tree.specs.Pass.{Pass, closedTo, levelsTo, sproutsTo, passOver, atStart}
-use Rattle.tree.specs.declared.rows.Row.{Row}
+use Rattle.history.specs.inner.OldNumbers.{noNode}
 use Rattle.history.proofs.LocalStep.{newLabel}
 use Rattle.history.proofs.Conditions.{Fits}
 use Rattle.history.proofs.StepsJoined.{grown, advanced, grown-new, oldNode, begunFrom}
 use Rattle.history.proofs.Origins.{grownBranch, grown-begun, steps-dead, steps-root}
+use Rattle.tree.specs.inner.Rows.{rowsFrom, rowsOf}
+use Rattle.tree.specs.inner.Pass.{Level, sproutRow, written, Pass, closedTo, levelsTo, sproutsTo, passOver, atStart}
+use Rattle.tree.specs.declared.rows.Row.{Row}
 use Rattle.tree.proofs.PassSteps.{level, pass, Closes, sproutOfLevel, none-closed, pass-closes}
-use Rattle.tree.proofs.GrownRows.{marked, grownRows, acceptingOf, stableOf, stableIn, Gives}
-use Rattle.tree.proofs.GrownRows.{rowsHere, acceptingHere, stableHere, rows-kept, accepting-kept, stable-kept, stable-root}
+use Rattle.tree.proofs.GrownRows.{marked, grownRows, acceptingOf, stableOf, stableIn, Gives, rowsHere, acceptingHere, stableHere, rows-kept, accepting-kept, stable-kept, stable-root}
 use Rattle.tree.proofs.Renamed.{new-none, renamed}
 use Rattle.tree.proofs.PassNode.{rowAt, cond-none, here, newKids, gone, full, full-is, Passes, pass-branch}
 

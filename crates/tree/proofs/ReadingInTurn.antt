@@ -11,14 +11,14 @@ use lib.Count.{ones}
 use lib.Dec.{leb, ltb}
 use lib.ListN.{length, getD, take, drop, set, replicate, length-set, length-drop, length-replicate, take-append-drop, drop-of-length-le}
 use lib.Seq.{drop-cons, drop-set-lt, length-take-le, take-suc-set, append-snoc}
-use Rattle.table.specs.BitSet.{member, collect}
-use Rattle.table.proofs.BitSet.{collect-more}
+use Rattle.base.specs.BitSet.{member, collect}
+use Rattle.base.specs.Lists.{pad}
+use Rattle.base.proofs.BitSet.{collect-more}
 use Rattle.history.specs.Record.{rank, hostedIn}
-use Rattle.table.specs.Held.{pad}
-use Rattle.tree.specs.Pass.{blankRow}
-use Rattle.tree.specs.RecordRows.{places, blankBehind, deeper, rowsOfMarks}
-use Rattle.tree.specs.declared.rows.Row.{Row}
 use Rattle.history.proofs.Members.{rank-all, rank-lt}
+use Rattle.tree.specs.inner.Pass.{blankRow}
+use Rattle.tree.specs.inner.RecordRows.{places, blankBehind, deeper, rowsOfMarks}
+use Rattle.tree.specs.declared.rows.Row.{Row}
 
 -- DEEPER MARKS
 

@@ -8,26 +8,26 @@ use native.Mathlib.Omega.{arith}
 use lib.ListN.{getD, List·getD-map}
 use lib.Pow.{pow-pos, pow-mono}
 use lib.Seq.{getD-take}
-use Rattle.table.specs.BitSet.{member}
-use Rattle.table.specs.HeldRule.{WithinLimits}
-use Rattle.table.specs.Rule.{Rule}
-use Rattle.table.specs.Table.{Every}
-use Rattle.table.proofs.BitSet.{member-none}
-use Rattle.table.proofs.Logic.{look, clash, never}
+use Rattle.base.specs.BitSet.{member}
+use Rattle.base.specs.Lists.{Every}
+use Rattle.base.proofs.BitSet.{member-none}
+use Rattle.base.proofs.Logic.{look, clash, never}
+use Rattle.rule.specs.Rule.{Rule}
+use Rattle.table.specs.inner.ReadRule.{WithinLimits}
 use Rattle.history.specs.Forest.{nil, node, size}
 use Rattle.history.specs.Tree.{Node, Tree, labels}
 use Rattle.history.specs.Record.{hostFrom, host, marks, recordOf}
-use Rattle.tree.specs.PackedRows.{rowsIn, countedRows}
-use Rattle.tree.specs.Rows.{rowsFrom, rowsOf, withoutOld, AreRows, HoldsTree}
-use Rattle.tree.specs.Pass.{blankRow}
-use Rattle.tree.specs.RecordRows.{hostRow, markOf, hostBytes, markBytes, rowsRecord, Recordable}
-use Rattle.tree.specs.declared.rows.Row.{Row}
-use Rattle.tree.specs.declared.rows.Tree.{Tree as CodeTree}
 use Rattle.history.proofs.Conditions.{Nested, Active, NestedTree}
 use Rattle.history.proofs.Hosts.{held-here, held-younger, held-in, host-below, host-here, host-younger}
 use Rattle.history.proofs.Members.{map-members}
 use Rattle.history.proofs.RecordOfTree.{root-states}
 use Rattle.history.proofs.TreesOf.{of-few, of-nested}
+use Rattle.tree.specs.inner.PackedRows.{rowsIn, countedRows}
+use Rattle.tree.specs.inner.Rows.{rowsFrom, rowsOf, withoutOld, AreRows, HoldsTree}
+use Rattle.tree.specs.inner.Pass.{blankRow}
+use Rattle.tree.specs.inner.RecordRows.{hostRow, markOf, hostBytes, markBytes, rowsRecord, Recordable}
+use Rattle.tree.specs.declared.rows.Row.{Row}
+use Rattle.tree.specs.declared.rows.Tree.{Tree as CodeTree}
 use Rattle.tree.proofs.TreeRows.{tree-small}
 
 -- HOSTS

@@ -6,8 +6,8 @@ use mathlib.Core.List.{List, [], _∷_, _++_, nil≢cons}
 use Prim.Native.Nat.{ℕ, suc, _<_}
 use native.Mathlib.Omega.{arith}
 use lib.Bits.{bitOr}
-use Rattle.table.specs.Rule.{Rule}
-use Rattle.table.proofs.Logic.{never}
+use Rattle.base.proofs.Logic.{never}
+use Rattle.rule.specs.Rule.{Rule}
 use Rattle.history.specs.Forest.{Forest, nil, node, change, namedFrom, sameNumbers}
 use Rattle.history.specs.Tree.{Tree}
 use Rattle.history.specs.Letter.{Origin, was, sprouted, Grown, child, kept, isOld}

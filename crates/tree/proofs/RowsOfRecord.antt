@@ -11,19 +11,14 @@ use lib.Dec.{leb}
 use lib.ListN.{length, getD, take, drop, length-append, length-drop, length-map}
 use lib.Pow.{pow-pos}
 use lib.Seq.{take-at, drop-at}
-use Rattle.table.specs.Limits.{maxStates, maxSets}
-use Rattle.table.specs.Outcome.{refused, accepted}
-use Rattle.table.proofs.BitSet.{member-lt}
-use Rattle.table.proofs.Logic.{and-in}
+use Rattle.base.specs.Outcome.{refused, accepted}
+use Rattle.base.proofs.BitSet.{member-lt}
+use Rattle.base.proofs.Logic.{and-in}
+use Rattle.rule.specs.Limits.{maxStates, maxSets}
 use Rattle.history.specs.Forest.{nil, node, size}
 use Rattle.history.specs.Tree.{Node, Tree, isTree}
 use Rattle.history.specs.Record.{host, members, marks, recordOf, hostedIn, decoded, readTree}
-use Rattle.history.specs.RecordChecks.{recordChecks}
-use Rattle.tree.specs.Rows.{rowsFrom, rowsOf}
-use Rattle.tree.specs.PackedRows.{rowsIn}
-use Rattle.tree.specs.RecordRows.{blankBehind, deeper, rowsOfMarks}
-use Rattle.tree.specs.RecordCode.{checkedTree, treeBeside, Checks}
-use Rattle.tree.specs.declared.record.Count.the-variants.{Nodes}
+use Rattle.history.specs.inner.RecordChecks.{recordChecks}
 use Rattle.history.proofs.HostLabels.{relabelled, ByNumber, labels-relabelled, labels-from-hosts}
 use Rattle.history.proofs.RecordOfTree.{Shallower, length-marks, hosted-law, root-states}
 use Rattle.history.proofs.Members.{length-members, map-at-rank}
@@ -31,6 +26,11 @@ use Rattle.history.proofs.Conditions.{Active, NestedTree, tree-nested, tree-out
 use Rattle.history.proofs.QuestionNine.{is-record-out}
 use Rattle.history.proofs.RecordChecks.{checks-exact, read-by-checks}
 use Rattle.history.proofs.TreesKept.{few-nodes}
+use Rattle.tree.specs.inner.Rows.{rowsFrom, rowsOf}
+use Rattle.tree.specs.inner.PackedRows.{rowsIn}
+use Rattle.tree.specs.inner.RecordRows.{blankBehind, deeper, rowsOfMarks}
+use Rattle.tree.specs.inner.RecordCode.{checkedTree, treeBeside, Checks}
+use Rattle.tree.specs.declared.record.Count.the-variants.{Nodes}
 use Rattle.tree.proofs.TreeRows.{rows-size}
 
 module _ (k : ℕ) (small : k < 16) where

@@ -4,21 +4,21 @@ use mathlib.Core.List.{List}
 use Prim.Native.Nat.{ℕ, _≤_, _<_}
 use borrow.Author.Tests.{le-leb, lt-leb}
 use lib.ListN.{length}
-use Rattle.table.specs.HeldRule.{WithinLimits}
-use Rattle.table.specs.Outcome.{refused}
-use Rattle.table.specs.Rule.{Grid, Rule}
-use Rattle.table.specs.Storing.{stored}
+use Rattle.base.specs.Outcome.{refused}
+use Rattle.base.specs.LentBuffer.{stored}
+use Rattle.rule.specs.Rule.{Grid, Rule}
+use Rattle.table.specs.inner.ReadRule.{WithinLimits}
 use Rattle.table.specs.Table.{readRule}
 use Rattle.table.specs.declared.header.Header.{Header}
 use Rattle.table.proofs.Asked.{RuleRead}
 use Rattle.history.specs.Tree.{labels, startTree}
-use Rattle.tree.specs.PackedRows.{countedRows}
-use Rattle.tree.specs.Rows.{rowsFrom, rowsOf, HoldsTree}
-use Rattle.tree.specs.RecordRows.{startRows, HasRows, rowsRecord, Recordable}
+use Rattle.history.proofs.TreesOf.{start-is-tree}
+use Rattle.tree.specs.inner.PackedRows.{countedRows}
+use Rattle.tree.specs.inner.Rows.{rowsFrom, rowsOf, HoldsTree}
+use Rattle.tree.specs.inner.RecordRows.{startRows, HasRows, rowsRecord, Recordable}
 use Rattle.tree.specs.TreeCalls.{recordRoom, startOutcome, startAnswer, startAfter, StartCall}
 use Rattle.tree.specs.declared.calls.StartAnswer.{StartAnswer}
 use Rattle.tree.specs.declared.rows.Tree.{Tree as CodeTree}
-use Rattle.history.proofs.TreesOf.{start-is-tree}
 use Rattle.tree.proofs.TreeRows.{has-holds}
 use Rattle.tree.proofs.RecordOfRows.{held-record, held-recordable}
 

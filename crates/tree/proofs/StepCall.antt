@@ -7,23 +7,25 @@ use native.Mathlib.Omega.{arith}
 use borrow.Author.Tests.{le-leb, lt-leb}
 use lib.Dec.{leb}
 use lib.ListN.{length}
-use Rattle.table.specs.Limits.{maxStates, maxSets}
-use Rattle.table.specs.Lookup.{LetterTable}
-use Rattle.table.specs.Outcome.{Outcome, refused, accepted, _then_}
-use Rattle.table.specs.Preparing.{PreparedLetter}
-use Rattle.table.specs.Rule.{Rule}
-use Rattle.table.specs.Storing.{stored}
+use Rattle.base.specs.Outcome.{Outcome, refused, accepted, _then_}
+use Rattle.base.specs.LentBuffer.{stored}
+use Rattle.base.proofs.Logic.{and-both}
+use Rattle.rule.specs.Limits.{maxStates, maxSets}
+use Rattle.rule.specs.inner.Lookup.{LetterTable}
+use Rattle.rule.specs.Rule.{Rule}
+use Rattle.table.specs.inner.Preparing.{PreparedLetter}
 use Rattle.table.specs.declared.header.Header.{Header}
-use Rattle.table.proofs.Logic.{and-both}
 use Rattle.history.specs.Forest.{size}
 use Rattle.history.specs.Tree.{Tree}
 use Rattle.history.specs.Record.{readTree}
-use Rattle.tree.specs.PackedRows.{countedRows}
-use Rattle.tree.specs.RecordCode.{checkedTree, countAs, treeBeside, Checks}
-use Rattle.tree.specs.Rows.{HoldsTree, StepsTo}
-use Rattle.tree.specs.Pass.{steppedRows}
-use Rattle.tree.specs.Sides.{treeOn, rowsOn, Laid, SomeTreeOn, Steppable, Stepping}
-use Rattle.tree.specs.RecordRows.{rowsRecord, Recordable}
+use Rattle.history.proofs.QuestionNine.{record-accepted}
+use Rattle.history.proofs.TreesOf.{of-tree}
+use Rattle.tree.specs.inner.PackedRows.{countedRows}
+use Rattle.tree.specs.inner.RecordCode.{checkedTree, countAs, treeBeside, Checks}
+use Rattle.tree.specs.inner.Rows.{HoldsTree, StepsTo}
+use Rattle.tree.specs.inner.Pass.{steppedRows}
+use Rattle.tree.specs.inner.Sides.{treeOn, rowsOn, Laid, SomeTreeOn, Steppable, Stepping}
+use Rattle.tree.specs.inner.RecordRows.{rowsRecord, Recordable}
 use Rattle.tree.specs.TreeCalls.{recordRoom, stepUnder, stepAnswer, stepAfter, StepDone}
 use Rattle.tree.specs.declared.calls.StepAnswer.{StepAnswer}
 use Rattle.tree.specs.declared.record.Count.the-variants.{Nodes, Refused}
@@ -31,8 +33,6 @@ use Rattle.tree.specs.declared.record.Checked.{Checked}
 use Rattle.tree.specs.declared.rows.Stepped.{Stepped}
 use Rattle.tree.specs.declared.rows.Tree.{Tree as CodeTree}
 use Rattle.tree.specs.declared.sides.OnSide.{OnSide}
-use Rattle.history.proofs.QuestionNine.{record-accepted}
-use Rattle.history.proofs.TreesOf.{of-tree}
 use Rattle.tree.proofs.TreeRows.{has-holds}
 use Rattle.tree.proofs.RowsOfRecord.{limits-yes}
 use Rattle.tree.proofs.StepOfRows.{place-ready, place-steps}

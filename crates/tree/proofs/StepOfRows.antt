@@ -11,28 +11,27 @@ use lib.Bits.{or-lt}
 use lib.Dec.{eqb, ltb}
 use lib.ListN.{List·getD-eq-default, length, getD}
 use lib.Pow.{pow-pos}
-use Rattle.table.specs.HeldRule.{WithinLimits}
-use Rattle.table.specs.Limits.{maxSets}
-use Rattle.table.specs.Rule.{Rule}
-use Rattle.table.specs.Lookup.{LetterTable, letterTable, lookUp}
-use Rattle.table.specs.Held.{held}
-use Rattle.table.proofs.LookupTable.{look-up-successors, look-up-successors-in}
+use Rattle.rule.specs.Limits.{maxSets}
+use Rattle.rule.specs.Rule.{Rule}
+use Rattle.rule.specs.inner.Lookup.{LetterTable, letterTable, lookUp}
+use Rattle.rule.specs.inner.Padded.{held}
+use Rattle.rule.proofs.LookupTable.{look-up-successors, look-up-successors-in}
+use Rattle.table.specs.inner.ReadRule.{WithinLimits}
 use Rattle.history.specs.Forest.{nil, node, size}
 use Rattle.history.specs.Tree.{Tree, isTreeOf}
 use Rattle.history.specs.Letter.{sprouted, fiveSteps, survivors, nextTree}
-use Rattle.history.specs.OldNumbers.{noNode, oldNumber, oldNumbers}
-use Rattle.tree.specs.PackedRows.{countedRows}
-use Rattle.tree.specs.Rows.{rowsFrom, rowsOf, withoutOld, AreRows, HoldsTree, StepsTo}
-use Rattle.tree.specs.Pass.{metBy, joinedIf, settledRow, deepest, Pass, closedTo, metRow, readRow, passOver, atStart}
-use Rattle.tree.specs.Pass.{blankRow, SetsFit, steppedRows}
-use Rattle.tree.specs.Sides.{treeOn, rowsOn, Stands, Steppable, Stepping}
+use Rattle.history.specs.inner.OldNumbers.{noNode, oldNumber, oldNumbers}
+use Rattle.history.proofs.Conditions.{Fits, Active, OneRoot}
+use Rattle.history.proofs.TreesOf.{of-out, of-root, of-few, of-nested, next-is-tree}
+use Rattle.history.proofs.StepsJoined.{plainNode, survivors-steps}
+use Rattle.tree.specs.inner.PackedRows.{countedRows}
+use Rattle.tree.specs.inner.Rows.{rowsFrom, rowsOf, withoutOld, AreRows, HoldsTree, StepsTo}
+use Rattle.tree.specs.inner.Pass.{metBy, joinedIf, settledRow, deepest, Pass, closedTo, metRow, readRow, passOver, atStart, blankRow, SetsFit, steppedRows}
+use Rattle.tree.specs.inner.Sides.{treeOn, rowsOn, Stands, Steppable, Stepping}
 use Rattle.tree.specs.declared.rows.Row.{Row}
 use Rattle.tree.specs.declared.rows.Stepped.{Stepped}
 use Rattle.tree.specs.declared.rows.Tree.{Tree as CodeTree}
 use Rattle.tree.specs.declared.sides.OnSide.{OnSide}
-use Rattle.history.proofs.Conditions.{Fits, Active, OneRoot}
-use Rattle.history.proofs.TreesOf.{of-out, of-root, of-few, of-nested, next-is-tree}
-use Rattle.history.proofs.StepsJoined.{plainNode, survivors-steps}
 use Rattle.tree.proofs.TreeRows.{rows-size, rows-are-nodes, tree-small}
 use Rattle.tree.proofs.GrownRows.{Gives, grown-rows, grown-olds}
 use Rattle.tree.proofs.PassTree.{pass-dead, pass-root}

@@ -6,17 +6,17 @@ use Prim.Native.Nat.{ℕ, suc, _-_, _≤_, _<_}
 use native.Mathlib.Omega.{arith}
 use lib.ListN.{length, getD, replicate, length-append, length-map}
 use lib.Seq.{take-at}
-use Rattle.table.specs.Held.{pad}
-use Rattle.table.specs.Limits.{maxStates}
-use Rattle.table.specs.Rule.{Rule}
+use Rattle.base.specs.Lists.{pad}
+use Rattle.rule.specs.Limits.{maxStates}
+use Rattle.rule.specs.Rule.{Rule}
 use Rattle.history.specs.Forest.{nil, node, size}
 use Rattle.history.specs.Tree.{Tree, isTreeOf}
 use Rattle.history.proofs.TreesOf.{of-few}
-use Rattle.tree.specs.Pass.{blankRow}
-use Rattle.tree.specs.PackedRows.{rowsIn, countedRows}
-use Rattle.tree.specs.Rows.{rowsFrom, rowsOf, withoutOld, AreRows, HoldsTree}
-use Rattle.tree.specs.RecordRows.{places, blankBehind, HasRows}
-use Rattle.tree.specs.Sides.{TwoSides}
+use Rattle.tree.specs.inner.Pass.{blankRow}
+use Rattle.tree.specs.inner.PackedRows.{rowsIn, countedRows}
+use Rattle.tree.specs.inner.Rows.{rowsFrom, rowsOf, withoutOld, AreRows, HoldsTree}
+use Rattle.tree.specs.inner.RecordRows.{places, blankBehind, HasRows}
+use Rattle.tree.specs.inner.Sides.{TwoSides}
 use Rattle.tree.specs.declared.rows.Row.{Row}
 use Rattle.tree.specs.declared.rows.Tree.{Tree as CodeTree}
 use Rattle.tree.proofs.PackedWords.{rows-many}

@@ -9,15 +9,14 @@ use native.Mathlib.Numerals.{add-one}
 use borrow.Author.Tests.{eq-eqb, ne-eqb}
 use lib.ListN.{length, getD, take, drop, set, length-set, length-append, length-map, length-take, drop-of-length-le}
 use lib.Seq.{drop-cons, take-suc, getD-take, length-take-le}
-use Rattle.table.specs.BitSet.{member}
-use Rattle.table.specs.Storing.{stored}
-use Rattle.table.proofs.Storing.{stored-start, stored-byte, stored-next}
-use Rattle.table.proofs.Storing.{PiecesStored, pieces-start, pieces-byte, pieces-skip, pieces-size, pieces-done}
+use Rattle.base.specs.BitSet.{member}
+use Rattle.base.specs.LentBuffer.{stored}
+use Rattle.base.proofs.Storing.{stored-start, stored-byte, stored-next, PiecesStored, pieces-start, pieces-byte, pieces-skip, pieces-size, pieces-done}
 use Rattle.history.specs.Record.{membersFrom, members}
 use Rattle.tree.specs.TreeCalls.{recordRoom}
-use Rattle.tree.specs.PackedRows.{rowsIn, countedRows}
-use Rattle.tree.specs.Pass.{blankRow}
-use Rattle.tree.specs.RecordRows.{places, hostRow, markOf, hostBytes, markBytes, rowsRecord, Recordable}
+use Rattle.tree.specs.inner.PackedRows.{rowsIn, countedRows}
+use Rattle.tree.specs.inner.Pass.{blankRow}
+use Rattle.tree.specs.inner.RecordRows.{places, hostRow, markOf, hostBytes, markBytes, rowsRecord, Recordable}
 use Rattle.tree.specs.declared.rows.Row.{Row}
 use Rattle.tree.specs.declared.rows.Tree.{Tree as CodeTree}
 

@@ -4,11 +4,11 @@ use mathlib.Core.List.{List}
 use Prim.Native.Nat.{ℕ}
 use lib.Dec.{leb}
 use lib.ListN.{length}
+use Rattle.base.specs.Outcome.{Outcome, refused, accepted, ask, _then_, Tells}
+use Rattle.base.specs.LentBuffer.{stored}
+use Rattle.rule.specs.Rule.{Rule}
 use Rattle.table.specs.LetterQuestions.{letterQuestions}
-use Rattle.table.specs.Outcome.{Outcome, refused, accepted, ask, _then_, Tells}
-use Rattle.table.specs.Rule.{Rule}
 use Rattle.table.specs.Table.{readRule}
-use Rattle.table.specs.Storing.{stored}
 use Rattle.history.specs.Tree.{startTree}
 use Rattle.history.specs.Letter.{nextTree, acceptingMap, stableMap}
 use Rattle.history.specs.Record.{recordOf, readTree}

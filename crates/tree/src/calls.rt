@@ -4,20 +4,20 @@ use crate::rows::Tree;
 use crate::sides::OnSide;
 use crate::step::step_rows;
 use crate::writing::put_record;
+use rule::limits::LETTERS;
+use rule::limits::NO_TRANSITION;
+use rule::limits::STATES;
+use rule::lookup::ENTRIES;
+use rule::lookup::LetterTable;
 use table::header::Header;
 use table::letter::letter_questions;
-use table::limits::LETTERS;
-use table::limits::NO_TRANSITION;
-use table::limits::STATES;
-use table::lookup::ENTRIES;
-use table::lookup::LetterTable;
 use table::reader::Reading;
 use table::reader::read_rule;
 ghost use mathlib.Core.Path.{_≡_};
 ghost use Prim.Native.Nat.{ℕ};
-ghost use Rattle.table.specs.Outcome.{refused};
-ghost use Rattle.table.specs.Preparing.{PreparedLetter};
-ghost use Rattle.table.specs.Rule.{Rule};
+ghost use Rattle.base.specs.Outcome.{refused};
+ghost use Rattle.rule.specs.Rule.{Rule};
+ghost use Rattle.table.specs.inner.Preparing.{PreparedLetter};
 ghost use Rattle.tree.specs.TreeCalls.{StartCall, StepCall, StepDone, startAnswer, stepAnswer, stepUnder};
 
 // 0 and the record's length, or the number of the question that failed and zero.

@@ -1,37 +1,11 @@
 // Question 9, byte by byte: are some bytes the record of a tree over n states and k sets?
+use base::bytes::all_below;
+use base::bytes::contains;
 ghost use mathlib.Core.Path.{_≡_};
 ghost use Prim.Native.Nat.{_<_, _≤_};
 ghost use lib.Count.{ones};
 ghost use lib.ListN.{length};
-ghost use Rattle.history.specs.RecordChecks.{hostsBelow, isHost, allHost, activeFits, marksFollow, marksFit, bodyFits, recordChecks};
-
-// Is each host the number of a node?
-fn hosts_below(nodes: usize, hosts: &[u8]) -> bool
-    ensures { λ r. ⌜ r ≡ hostsBelow nodes (now (hosts .entry)) ⌝ }
-{
-    let mut at = 0usize;
-    while at < hosts.len() {
-        if hosts[at] as usize >= nodes {
-            return false;
-        }
-        at += 1;
-    }
-    true
-}
-
-// Is the node of this number a host?
-fn is_host(node: usize, hosts: &[u8]) -> bool
-    ensures { λ r. ⌜ r ≡ isHost node (now (hosts .entry)) ⌝ }
-{
-    let mut at = 0usize;
-    while at < hosts.len() {
-        if hosts[at] as usize == node {
-            return true;
-        }
-        at += 1;
-    }
-    false
-}
+ghost use Rattle.history.specs.inner.RecordChecks.{allHost, activeFits, marksFollow, marksFit, bodyFits, recordChecks};
 
 // "Each node hosts at least one state."
 fn all_host(nodes: usize, hosts: &[u8]) -> bool
@@ -40,7 +14,7 @@ fn all_host(nodes: usize, hosts: &[u8]) -> bool
     let mut left = nodes;
     while 0 < left {
         left -= 1;
-        if !is_host(left, hosts) {
+        if !contains(hosts, left) {
             return false;
         }
     }
@@ -106,7 +80,7 @@ fn body_fits(k: usize, map: u16, left: &[u8]) -> bool
 {
     let states = u16::count_ones(map) as usize;
     let nodes = left.len() - states;
-    if !hosts_below(nodes, &left[..states]) {
+    if !all_below(nodes, &left[..states]) {
         return false;
     }
     if !all_host(nodes, &left[..states]) {

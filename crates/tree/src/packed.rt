@@ -1,7 +1,7 @@
 // A node's row as one machine word, so that the rows of a tree can be lent and a row is one load or one store.
 use crate::rows::Row;
 ghost use mathlib.Core.Path.{_≡_};
-ghost use Rattle.tree.specs.PackedRows.{unpacked};
+ghost use Rattle.tree.specs.inner.PackedRows.{unpacked};
 
 // The word of a row: depth, label, union of the children's labels, active set and old number, from the lowest bits up.
 pub fn pack(x: Row) -> u64

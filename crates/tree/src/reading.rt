@@ -10,8 +10,8 @@ ghost use lib.Count.{ones};
 ghost use lib.Dec.{leb, ltb};
 ghost use lib.ListN.{length};
 ghost use Rattle.history.specs.Record.{hostedIn};
-ghost use Rattle.tree.specs.PackedRows.{rowsIn};
-ghost use Rattle.tree.specs.RecordRows.{blankBehind, places, deeper, rowsOfMarks};
+ghost use Rattle.tree.specs.inner.PackedRows.{rowsIn};
+ghost use Rattle.tree.specs.inner.RecordRows.{blankBehind, places, deeper, rowsOfMarks};
 
 // How many marks at the front are deeper than a node: the number of nodes below it, where they follow its own mark.
 fn deeper(depth: u8, marks: &[u8]) -> usize

@@ -4,14 +4,14 @@ use crate::packed::pack;
 use crate::reading::record_rows;
 use crate::rows::Row;
 use crate::rows::Tree;
-use table::limits::SETS;
+use rule::limits::SETS;
 ghost use mathlib.Core.Path.{_≡_};
 ghost use mathlib.Core.Bool.{_&&_};
 ghost use lib.Dec.{leb};
-ghost use Rattle.table.specs.Limits.{maxSets, maxStates};
-ghost use Rattle.table.specs.Outcome.{refused};
-ghost use Rattle.tree.specs.RecordCode.{checkedTree, Checks};
-ghost use Rattle.tree.specs.RecordRows.{startRows, HasRows};
+ghost use Rattle.base.specs.Outcome.{refused};
+ghost use Rattle.rule.specs.Limits.{maxSets, maxStates};
+ghost use Rattle.tree.specs.inner.RecordCode.{checkedTree, Checks};
+ghost use Rattle.tree.specs.inner.RecordRows.{startRows, HasRows};
 
 // The number of nodes of a checked record's tree, or that the bytes are no record.
 pub enum Count {

@@ -1,5 +1,5 @@
 // A tree as the code holds it: its nodes in number order, one row each.
-use table::limits::STATES;
+use rule::limits::STATES;
 ghost use mathlib.Core.Path.{_≡_};
 
 // A node: its depth, its label, the union of its children's labels, its active set, and its number before the last

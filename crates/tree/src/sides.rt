@@ -3,7 +3,7 @@
 use crate::rows::Sides;
 use crate::rows::Tree;
 ghost use mathlib.Core.Path.{_≡_};
-ghost use Rattle.tree.specs.Sides.{treeOn, Laid, SomeTreeOn};
+ghost use Rattle.tree.specs.inner.Sides.{treeOn, Laid, SomeTreeOn};
 
 // A tree in place: which side it stands on, and how many of its rows count.
 pub struct OnSide {

@@ -8,20 +8,19 @@ use crate::rows::Row;
 use crate::rows::Sides;
 use crate::rows::Stepped;
 use crate::rows::Tree;
-use table::lanes::map_of;
-use table::lookup::LetterTable;
-use table::lookup::look_up;
+use rule::lanes::map_of;
+use rule::lookup::LetterTable;
+use rule::lookup::look_up;
 ghost use mathlib.Core.Path.{_≡_};
 ghost use mathlib.Core.Bool.{cond};
 ghost use Prim.Native.Nat.{_≤_, _<_};
 ghost use lib.Dec.{ltb};
-ghost use Rattle.table.specs.BitSet.{minus};
-ghost use Rattle.table.specs.Limits.{maxStates, maxSets};
-ghost use Rattle.table.specs.Lookup.{lookUp};
+ghost use Rattle.base.specs.BitSet.{minus};
+ghost use Rattle.rule.specs.Limits.{maxStates, maxSets};
+ghost use Rattle.rule.specs.inner.Lookup.{lookUp};
 ghost use Rattle.history.specs.Letter.{nextSet};
-ghost use Rattle.tree.specs.Pass.{metBy, sproutRow, settledRow, joinedIf};
-ghost use Rattle.tree.specs.Pass.{ByDepth, Entered, steppedRows};
-ghost use Rattle.tree.specs.Sides.{rowsOn, Steppable, Stepping};
+ghost use Rattle.tree.specs.inner.Pass.{metBy, sproutRow, settledRow, joinedIf, ByDepth, Entered, steppedRows};
+ghost use Rattle.tree.specs.inner.Sides.{rowsOn, Steppable, Stepping};
 
 // Sets of states by depth.
 type ByDepth = [u16; Tree::NODES + 1];

@@ -8,12 +8,12 @@ ghost use mathlib.Core.Path.{_≡_};
 ghost use mathlib.Core.Bool.{not, _&&_};
 ghost use Prim.Native.Nat.{_+_, _<_, _≤_};
 ghost use lib.ListN.{length};
-ghost use Rattle.table.specs.BitSet.{member};
-ghost use Rattle.table.specs.Storing.{stored};
+ghost use Rattle.base.specs.BitSet.{member};
+ghost use Rattle.base.specs.LentBuffer.{stored};
 ghost use Rattle.tree.specs.TreeCalls.{recordRoom};
-ghost use Rattle.tree.specs.PackedRows.{countedRows};
-ghost use Rattle.tree.specs.Sides.{treeOn, Stands};
-ghost use Rattle.tree.specs.RecordRows.{places, hostRow, hostBytes, markBytes, rowsRecord, Recordable};
+ghost use Rattle.tree.specs.inner.PackedRows.{countedRows};
+ghost use Rattle.tree.specs.inner.Sides.{treeOn, Stands};
+ghost use Rattle.tree.specs.inner.RecordRows.{places, hostRow, hostBytes, markBytes, rowsRecord, Recordable};
 
 // Does a node host a state: is the state in its label and in no child's?
 fn hosts_state(row: Row, state: usize) -> bool

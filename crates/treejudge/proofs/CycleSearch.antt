@@ -4,21 +4,20 @@ use mathlib.Core.Bool.{true, false}
 use mathlib.Core.List.{List, _++_}
 use Prim.Native.Nat.{ℕ, _+_, _-_, _^_, _≤_, _<_}
 use native.Mathlib.Omega.{arith}
-use Rattle.table.specs.Limits.{maxStates}
-use Rattle.table.specs.Rule.{Rule}
+use Rattle.rule.specs.Limits.{maxStates}
+use Rattle.rule.specs.Rule.{Rule}
 use Rattle.word.specs.Walk.{rounds}
+use Rattle.word.specs.inner.WalkTables.{Tables}
 use Rattle.word.proofs.Paths.{rounds-add, rounds-one}
 use Rattle.history.specs.Rounds.{readLetters, roundTree, FirstRepeat}
 use Rattle.history.proofs.TreesOfWalk.{round-next}
 use Rattle.history.proofs.RepeatExists.{repeat-exists}
 use Rattle.history.proofs.CycleVerdict.{read-rounds}
-use Rattle.history.proofs.CycleFinding.{BrentSoFar, Skips, brent-start, none-skips, brent-more, brent-reset, reset-skips}
-use Rattle.history.proofs.CycleFinding.{brent-found, lam-steps, power-doubles, brent-measure}
-use Rattle.word.specs.WalkTables.{Tables}
-use Rattle.treejudge.specs.Names.{allKept, Follows, FollowsOn, FollowsTo}
-use Rattle.treejudge.specs.SameRows.{sameTrees}
-use Rattle.treejudge.specs.Cycles.{AtRound, CycleOf}
+use Rattle.history.proofs.CycleFinding.{BrentSoFar, Skips, brent-start, none-skips, brent-more, brent-reset, reset-skips, brent-found, lam-steps, power-doubles, brent-measure}
 use Rattle.tree.specs.declared.rows.Tree.{Tree as CodeTree}
+use Rattle.treejudge.specs.inner.Names.{allKept, Follows, FollowsOn, FollowsTo}
+use Rattle.treejudge.specs.inner.SameRows.{sameTrees}
+use Rattle.treejudge.specs.inner.Cycles.{AtRound, CycleOf}
 use Rattle.treejudge.specs.declared.follow.Maps.{Maps}
 use Rattle.treejudge.proofs.NamesFollowed.{begun-follows}
 use Rattle.treejudge.proofs.RoundsRead.{both-small, rows-same, rows-differ}

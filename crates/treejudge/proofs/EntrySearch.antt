@@ -5,15 +5,15 @@ use mathlib.Core.List.{List}
 use Prim.Native.Nat.{ℕ, _+_, _-_, _≤_}
 use native.Mathlib.Omega.{arith}
 use native.Mathlib.Decide.{ℕ-discrete}
-use Rattle.table.specs.Rule.{Rule}
+use Rattle.rule.specs.Rule.{Rule}
+use Rattle.word.specs.inner.WalkTables.{Tables}
 use Rattle.history.specs.Rounds.{readLetters, roundTree}
 use Rattle.history.proofs.TreesOfWalk.{round-next}
 use Rattle.history.proofs.FirstRepeats.{repeat-only}
-use Rattle.word.specs.WalkTables.{Tables}
-use Rattle.treejudge.specs.Reading.{ReadsTo}
-use Rattle.treejudge.specs.SameRows.{sameTrees}
-use Rattle.treejudge.specs.Cycles.{AtRound, Ahead, ReadTo, Bracket, Searched}
 use Rattle.tree.specs.declared.rows.Tree.{Tree as CodeTree}
+use Rattle.treejudge.specs.inner.Reading.{ReadsTo}
+use Rattle.treejudge.specs.inner.SameRows.{sameTrees}
+use Rattle.treejudge.specs.inner.Cycles.{AtRound, Ahead, ReadTo, Bracket, Searched}
 use Rattle.treejudge.specs.declared.cycle.Cycle.{Cycle}
 use Rattle.treejudge.proofs.RoundsRead.{round-read, rounds-read, rows-same, rows-differ}
 

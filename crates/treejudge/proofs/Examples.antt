@@ -7,14 +7,15 @@ use Prim.Native.Nat.{ℕ}
 use native.Mathlib.Omega.{arith}
 use lib.Count.{ones, onesIn}
 use lib.ListN.{replicate, length-replicate}
+use Rattle.base.specs.Lists.{allBelow, allOf, Every}
+use Rattle.base.specs.Outcome.{Outcome, refused, accepted}
+use Rattle.base.proofs.Every.{every-weaker}
+use Rattle.base.proofs.Logic.{and-in}
+use Rattle.rule.specs.Rule.{Rule}
 use Rattle.table.specs.LetterQuestions.{letterQuestions}
-use Rattle.table.specs.Outcome.{Outcome, refused, accepted}
-use Rattle.table.specs.Rule.{Rule}
-use Rattle.table.specs.Table.{Every, readRule}
-use Rattle.table.proofs.Every.{every-weaker}
-use Rattle.table.proofs.Logic.{and-in}
+use Rattle.table.specs.Table.{readRule}
 use Rattle.word.specs.Judging.{walkQuestions, judgeQuestions}
-use Rattle.word.specs.Walk.{lengthsFit, lettersBelow, askWalk}
+use Rattle.word.specs.Walk.{lengthsFit, askWalk}
 use Rattle.word.proofs.JudgeQuestions.{with-room}
 use Rattle.word.proofs.WalkQuestions.{lengths-in}
 use Rattle.history.specs.Forest.{size}
@@ -30,13 +31,13 @@ use Rattle.treejudge.proofs.TreeVerdict.{tree-determined}
 
 -- is the walk accepted, and are these its entry, its period and the finding?
 unfoldable pub rowTest : List ℕ → List ℕ → List ℕ → ℕ → ℕ → Finding → Bool
-unfolding ruleTest verdictTest lengthsFit lettersBelow
+unfolding ruleTest verdictTest lengthsFit allOf
 rowTest table u v entry period finding =
-    lengthsFit u v && ruleTest (λ R. (lettersBelow (R .letters) u && lettersBelow (R .letters) v) && verdictTest R u v entry period finding) table
+    lengthsFit u v && ruleTest (λ R. (allBelow (R .letters) u && allBelow (R .letters) v) && verdictTest R u v entry period finding) table
 
 -- all questions are answered yes
 call-accepted : (table u v : List ℕ) (R : Rule) → readRule table ≡ accepted R → lengthsFit u v ≡ true
-    → (lettersBelow (R .letters) u && lettersBelow (R .letters) v) ≡ true → treeOutcome table u v (replicate nameRoom 0) ≡ accepted R
+    → (allBelow (R .letters) u && allBelow (R .letters) v) ≡ true → treeOutcome table u v (replicate nameRoom 0) ≡ accepted R
 unfolding treeOutcome judgeQuestions walkQuestions askWalk
 call-accepted table u v R reads fit below = rw (reads, fit, below)
 
@@ -47,7 +48,7 @@ row-holds table u v entry period finding h =
     let (fit, h′) = and-in (lengthsFit u v) _ h in
     let (_, filled, _) = lengths-in u v fit in
     let (R, reads, passes) = rule-by-test _ table h′ in
-    let (below, judged) = and-in (lettersBelow (R .letters) u && lettersBelow (R .letters) v) _ passes in
+    let (below, judged) = and-in (allBelow (R .letters) u && allBelow (R .letters) v) _ passes in
     let (repeats, found) = verdict-by-test R u v entry period finding filled judged in
     (R, call-accepted table u v R reads fit below, repeats, found)
 

@@ -6,30 +6,30 @@ use Prim.Native.Nat.{ℕ, _≤_, _<_}
 use native.Mathlib.Omega.{arith}
 use native.Mathlib.Decide.{decLt}
 use lib.ListN.{length, getD, take, length-take}
-use Rattle.table.specs.BitSet.{member}
-use Rattle.table.specs.Limits.{maxStates}
-use Rattle.table.specs.Rule.{Rule}
-use Rattle.table.specs.Storing.{stored}
+use Rattle.base.specs.BitSet.{member}
+use Rattle.base.specs.LentBuffer.{stored}
+use Rattle.base.proofs.BitSet.{some-member}
+use Rattle.base.proofs.Logic.{clash}
+use Rattle.rule.specs.Limits.{maxStates}
+use Rattle.rule.specs.Rule.{Rule}
 use Rattle.table.specs.declared.header.Header.{Header}
-use Rattle.table.proofs.BitSet.{some-member}
-use Rattle.table.proofs.Logic.{clash}
-use Rattle.word.specs.Prepared.{Prepared}
+use Rattle.word.specs.inner.Prepared.{Prepared}
 use Rattle.word.specs.Walk.{rounds, lettersLeft}
-use Rattle.word.specs.WalkTables.{Tables}
+use Rattle.word.specs.inner.WalkTables.{Tables}
 use Rattle.history.specs.Forest.{size, names}
 use Rattle.history.specs.Tree.{startTree}
 use Rattle.history.specs.Rounds.{roundTree}
 use Rattle.history.specs.Verdict.{FirstWitness}
 use Rattle.history.specs.Finding.{yes-node, no-node}
 use Rattle.history.proofs.TreesOf.{of-few}
-use Rattle.tree.specs.RecordRows.{startRows, HasRows}
+use Rattle.tree.specs.inner.RecordRows.{startRows, HasRows}
+use Rattle.tree.specs.declared.rows.Tree.{Tree as CodeTree}
 use Rattle.tree.proofs.StartCall.{start-holds}
 use Rattle.treejudge.specs.JudgeCall.{noName, treeAnswer, namesAfter, Judged}
-use Rattle.treejudge.specs.Reading.{HasSets, Reads, ReadsTo}
-use Rattle.treejudge.specs.Cycles.{AtRound}
-use Rattle.treejudge.specs.Repeats.{RepeatOf}
-use Rattle.treejudge.specs.NodeNames.{Lowest, SomeNode, IsName}
-use Rattle.tree.specs.declared.rows.Tree.{Tree as CodeTree}
+use Rattle.treejudge.specs.inner.Reading.{HasSets, Reads, ReadsTo}
+use Rattle.treejudge.specs.inner.Cycles.{AtRound}
+use Rattle.treejudge.specs.inner.Repeats.{RepeatOf}
+use Rattle.treejudge.specs.inner.NodeNames.{Lowest, SomeNode, IsName}
 use Rattle.treejudge.specs.declared.repeat.Repeat.{Repeat}
 use Rattle.treejudge.specs.declared.name.Name.{Name}
 

@@ -6,22 +6,22 @@ use native.Mathlib.Numerals.{add-one}
 use native.Mathlib.Omega.{arith}
 use lib.ListN.{length, getD, take}
 use lib.Seq.{take-suc, take-all}
-use Rattle.table.specs.Limits.{maxLetters}
-use Rattle.table.specs.Rule.{Rule}
-use Rattle.table.proofs.Every.{every-at}
+use Rattle.base.proofs.Every.{every-at}
+use Rattle.rule.specs.Limits.{maxLetters}
+use Rattle.rule.specs.Rule.{Rule}
+use Rattle.word.specs.inner.WalkTables.{Tables, Tabled}
 use Rattle.history.specs.Tree.{Tree}
 use Rattle.history.specs.Letter.{nextTree}
 use Rattle.history.specs.Rounds.{readLetters}
 use Rattle.history.proofs.TreesOfWalk.{read-append}
-use Rattle.tree.specs.Pass.{steppedRows}
-use Rattle.tree.specs.Sides.{treeOn, rowsOn, Stands, Laid, Steppable, Stepping}
+use Rattle.tree.specs.inner.Pass.{steppedRows}
+use Rattle.tree.specs.inner.Sides.{treeOn, rowsOn, Stands, Laid, Steppable, Stepping}
+use Rattle.tree.specs.inner.Rows.{HoldsTree}
 use Rattle.tree.specs.declared.rows.Stepped.{Stepped}
-use Rattle.tree.proofs.StepOfRows.{place-ready, place-steps}
-use Rattle.word.specs.WalkTables.{Tables, Tabled}
-use Rattle.tree.specs.Rows.{HoldsTree}
-use Rattle.treejudge.specs.Reading.{Reads, Readable, ReadsTo}
 use Rattle.tree.specs.declared.rows.Tree.{Tree as CodeTree}
 use Rattle.tree.specs.declared.sides.OnSide.{OnSide}
+use Rattle.tree.proofs.StepOfRows.{place-ready, place-steps}
+use Rattle.treejudge.specs.inner.Reading.{Reads, Readable, ReadsTo}
 
 -- a tree that is laid stands on side 0
 pub laid-first : {x : CodeTree} {sides : List (List ℕ)} → Laid x sides → {on : OnSide} → on ≡ record { side = 0; count = x .count }

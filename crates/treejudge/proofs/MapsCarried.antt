@@ -13,15 +13,15 @@ use lib.Dec.{eqb}
 use lib.ListN.{length, getD, take, length-map, List·getD-map}
 use lib.Pow.{pow-mono, shl-lt, shl-exact, shr-shr, split, high, low, mod-mod-pow}
 use lib.Seq.{length-take-le, getD-take}
-use Rattle.table.specs.BitSet.{member, collect}
-use Rattle.table.proofs.BitSet.{member-lt, member-mod, collect-lt, collect-ext, collect-more}
-use Rattle.table.proofs.Logic.{look, bool-ext}
-use Rattle.history.specs.Following.{carried}
-use Rattle.tree.specs.Pass.{blankRow}
-use Rattle.tree.specs.PackedRows.{rowsIn}
+use Rattle.base.specs.BitSet.{member, collect}
+use Rattle.base.proofs.BitSet.{member-lt, member-mod, collect-lt, collect-ext, collect-more}
+use Rattle.base.proofs.Logic.{look, bool-ext}
+use Rattle.history.specs.inner.Following.{carried}
+use Rattle.tree.specs.inner.Pass.{blankRow}
+use Rattle.tree.specs.inner.PackedRows.{rowsIn}
 use Rattle.tree.specs.declared.rows.Row.{Row}
 use Rattle.tree.specs.declared.rows.Tree.{Tree as CodeTree}
-use Rattle.treejudge.specs.Names.{carriedMaps}
+use Rattle.treejudge.specs.inner.Names.{carriedMaps}
 use Rattle.treejudge.specs.declared.follow.Maps.{Maps}
 
 -- ONE MAP

@@ -7,25 +7,25 @@ use native.Mathlib.Omega.{arith}
 use lib.Bits.{bitAnd, bitOr}
 use lib.ListN.{length, getD, take}
 use lib.Seq.{take-suc, take-all}
-use Rattle.table.specs.Limits.{maxStates}
-use Rattle.table.specs.Rule.{Rule}
-use Rattle.table.proofs.Every.{every-at}
+use Rattle.base.proofs.Every.{every-at}
+use Rattle.rule.specs.Limits.{maxStates}
+use Rattle.rule.specs.Rule.{Rule}
+use Rattle.word.specs.inner.WalkTables.{Tables, Tabled}
 use Rattle.history.specs.Tree.{Tree}
 use Rattle.history.specs.Rounds.{readLetters}
-use Rattle.history.specs.OldNumbers.{noNode}
+use Rattle.history.specs.inner.OldNumbers.{noNode}
 use Rattle.history.proofs.FollowingLaws.{follow-none, follow-kept, follow-accepted}
 use Rattle.history.proofs.TreesOfWalk.{read-append}
-use Rattle.tree.specs.Pass.{steppedRows}
-use Rattle.tree.specs.Sides.{treeOn, rowsOn, Stands, Steppable, Stepping}
+use Rattle.tree.specs.inner.Pass.{steppedRows}
+use Rattle.tree.specs.inner.Sides.{treeOn, rowsOn, Stands, Steppable, Stepping}
+use Rattle.tree.specs.inner.Rows.{HoldsTree, StepsTo}
 use Rattle.tree.specs.declared.rows.Stepped.{Stepped}
-use Rattle.tree.proofs.TreeRows.{tree-small}
-use Rattle.tree.proofs.StepOfRows.{place-ready, place-steps}
-use Rattle.word.specs.WalkTables.{Tables, Tabled}
-use Rattle.tree.specs.Rows.{HoldsTree, StepsTo}
-use Rattle.treejudge.specs.Reading.{Readable}
-use Rattle.treejudge.specs.Names.{allKept, carriedMaps, Follows, FollowsOn, Followable, FollowsTo}
 use Rattle.tree.specs.declared.rows.Tree.{Tree as CodeTree}
 use Rattle.tree.specs.declared.sides.OnSide.{OnSide}
+use Rattle.tree.proofs.TreeRows.{tree-small}
+use Rattle.tree.proofs.StepOfRows.{place-ready, place-steps}
+use Rattle.treejudge.specs.inner.Reading.{Readable}
+use Rattle.treejudge.specs.inner.Names.{allKept, carriedMaps, Follows, FollowsOn, Followable, FollowsTo}
 use Rattle.treejudge.specs.declared.follow.Maps.{Maps}
 
 -- the nodes of both maps that are stable at a letter; one that is accepting is a witness from there on

@@ -9,24 +9,23 @@ use native.Mathlib.Decide.{decLt}
 use borrow.Author.Tests.{eq-eqb, ne-eqb}
 use lib.ListN.{length, getD, take, set, length-take, length-set, List·getD-map}
 use lib.Seq.{getD-take, take-take, take-suc-set, length-take-le}
-use Rattle.table.specs.BitSet.{member}
-use Rattle.table.specs.Limits.{maxStates}
-use Rattle.table.specs.Rule.{Rule}
+use Rattle.base.specs.BitSet.{member}
+use Rattle.rule.specs.Limits.{maxStates}
+use Rattle.rule.specs.Rule.{Rule}
 use Rattle.history.specs.Forest.{nil, node, size, names}
-use Rattle.history.specs.NamesByDepth.{depthsFrom, depths, nameAfter}
+use Rattle.history.specs.inner.NamesByDepth.{depthsFrom, depths, nameAfter}
 use Rattle.history.specs.Tree.{Tree}
 use Rattle.history.proofs.Conditions.{OneRoot}
 use Rattle.history.proofs.TreesOf.{of-root, of-few}
 use Rattle.history.proofs.NamesByDepth.{after-deeper, after-beside, name-root, name-next, name-depth, depth-next, name-small}
-use Rattle.tree.specs.Rows.{rowsFrom, rowsOf, withoutOld}
-use Rattle.tree.specs.PackedRows.{rowsIn}
-use Rattle.tree.specs.Pass.{blankRow}
+use Rattle.tree.specs.inner.Rows.{rowsFrom, rowsOf, withoutOld, HoldsTree}
+use Rattle.tree.specs.inner.PackedRows.{rowsIn}
+use Rattle.tree.specs.inner.Pass.{blankRow}
 use Rattle.tree.specs.declared.rows.Row.{Row}
-use Rattle.treejudge.specs.JudgeCall.{nameRoom}
-use Rattle.treejudge.specs.NodeNames.{Lowest, SomeNode, IsName}
-use Rattle.tree.specs.Rows.{HoldsTree}
 use Rattle.tree.specs.declared.rows.Tree.{Tree as CodeTree}
 use Rattle.tree.proofs.TreeRows.{tree-small}
+use Rattle.treejudge.specs.JudgeCall.{nameRoom}
+use Rattle.treejudge.specs.inner.NodeNames.{Lowest, SomeNode, IsName}
 
 -- THE LOWEST NODE
 

@@ -6,30 +6,30 @@ use mathlib.Core.List.{List, [], _++_}
 use Prim.Native.Nat.{ℕ, _-_, _≤_, _<_}
 use native.Mathlib.Omega.{arith}
 use lib.ListN.{take, take-append-drop}
-use Rattle.table.specs.BitSet.{member}
-use Rattle.table.specs.Rule.{Rule}
-use Rattle.table.specs.Table.{Every}
-use Rattle.table.proofs.Every.{append-every}
-use Rattle.table.proofs.Logic.{clash}
+use Rattle.base.specs.BitSet.{member}
+use Rattle.base.specs.Lists.{Every}
+use Rattle.base.proofs.Every.{append-every}
+use Rattle.base.proofs.Logic.{clash}
+use Rattle.rule.specs.Rule.{Rule}
 use Rattle.word.specs.Walk.{rounds, lettersLeft}
+use Rattle.word.specs.inner.WalkTables.{Tables, Tabled}
 use Rattle.word.proofs.Paths.{rounds-one}
 use Rattle.history.specs.Forest.{size}
 use Rattle.history.specs.Tree.{Tree}
 use Rattle.history.specs.Rounds.{roundTree, FirstRepeat}
-use Rattle.history.specs.Following.{witnessMap}
+use Rattle.history.specs.inner.Following.{witnessMap}
 use Rattle.history.proofs.TreesOfWalk.{round-next}
 use Rattle.history.proofs.RepeatExists.{repeat-exists}
 use Rattle.history.proofs.CycleVerdict.{member-node, verdict-yes, verdict-no}
 use Rattle.history.proofs.FirstRepeats.{repeat-at-once}
 use Rattle.history.proofs.CutCycle.{cut-round, cut-rest, repeat-second, cut-first, cut-none}
-use Rattle.word.specs.WalkTables.{Tables, Tabled}
-use Rattle.tree.specs.Rows.{HoldsTree}
-use Rattle.treejudge.specs.Reading.{Reads, ReadsTo}
-use Rattle.treejudge.specs.Names.{allKept, Follows, FollowsOn, FollowsTo}
-use Rattle.treejudge.specs.SameRows.{sameTrees}
-use Rattle.treejudge.specs.Cycles.{AtRound, CycleFound, Searched, EntryFound}
-use Rattle.treejudge.specs.Repeats.{RepeatOf}
+use Rattle.tree.specs.inner.Rows.{HoldsTree}
 use Rattle.tree.specs.declared.rows.Tree.{Tree as CodeTree}
+use Rattle.treejudge.specs.inner.Reading.{Reads, ReadsTo}
+use Rattle.treejudge.specs.inner.Names.{allKept, Follows, FollowsOn, FollowsTo}
+use Rattle.treejudge.specs.inner.SameRows.{sameTrees}
+use Rattle.treejudge.specs.inner.Cycles.{AtRound, CycleFound, Searched, EntryFound}
+use Rattle.treejudge.specs.inner.Repeats.{RepeatOf}
 use Rattle.treejudge.specs.declared.cycle.Cycle.{Cycle}
 use Rattle.treejudge.specs.declared.follow.Maps.{Maps}
 use Rattle.treejudge.proofs.NamesFollowed.{begun-follows}

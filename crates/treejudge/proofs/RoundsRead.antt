@@ -4,17 +4,17 @@ use mathlib.Core.Bool.{true, false}
 use mathlib.Core.List.{List}
 use Prim.Native.Nat.{ℕ, _+_, _≤_}
 use native.Mathlib.Numerals.{add-one}
-use Rattle.table.specs.Limits.{maxStates}
-use Rattle.table.specs.Rule.{Rule}
-use Rattle.table.proofs.Logic.{clash}
+use Rattle.base.proofs.Logic.{clash}
+use Rattle.rule.specs.Limits.{maxStates}
+use Rattle.rule.specs.Rule.{Rule}
+use Rattle.word.specs.inner.WalkTables.{Tables}
 use Rattle.history.specs.Rounds.{roundTree}
 use Rattle.history.proofs.TreesOfWalk.{round-next}
-use Rattle.word.specs.WalkTables.{Tables}
-use Rattle.treejudge.specs.Reading.{Reads, ReadsTo}
-use Rattle.treejudge.specs.SameRows.{sameTrees}
-use Rattle.treejudge.specs.Cycles.{AtRound, Ahead}
 use Rattle.tree.specs.declared.rows.Tree.{Tree as CodeTree}
 use Rattle.tree.proofs.TreeRows.{tree-small}
+use Rattle.treejudge.specs.inner.Reading.{Reads, ReadsTo}
+use Rattle.treejudge.specs.inner.SameRows.{sameTrees}
+use Rattle.treejudge.specs.inner.Cycles.{AtRound, Ahead}
 use Rattle.treejudge.proofs.SameTrees.{same-rows-same, same-trees-same}
 
 module _ {R : Rule} {u v : List ℕ} {tables : Tables} {k i : ℕ} {x : CodeTree} (X : AtRound R u v tables k i x) where

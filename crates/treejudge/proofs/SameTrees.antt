@@ -10,22 +10,21 @@ use borrow.Author.Tests.{eqb-true, eq-eqb}
 use lib.Dec.{eqb}
 use lib.ListN.{length, getD, take, drop, drop-of-length-le}
 use lib.Seq.{drop-cons, getD-take, length-take-le}
-use Rattle.table.specs.Limits.{maxStates, maxSets}
-use Rattle.table.specs.Rule.{Rule}
-use Rattle.table.proofs.Logic.{never, clash, and-both, and-in, bool-ext}
+use Rattle.base.proofs.Logic.{never, clash, and-both, and-in, bool-ext}
+use Rattle.rule.specs.Limits.{maxStates, maxSets}
+use Rattle.rule.specs.Rule.{Rule}
 use Rattle.history.specs.Tree.{Tree}
 use Rattle.history.proofs.QuestionNine.{record-injective}
 use Rattle.history.proofs.TreesOf.{of-nested}
-use Rattle.tree.specs.Rows.{withoutOld}
-use Rattle.tree.specs.Pass.{blankRow}
-use Rattle.tree.specs.RecordRows.{places}
+use Rattle.tree.specs.inner.Rows.{withoutOld, HoldsTree}
+use Rattle.tree.specs.inner.Pass.{blankRow}
+use Rattle.tree.specs.inner.RecordRows.{places}
+use Rattle.tree.specs.inner.PackedRows.{unpacked, countedRows}
 use Rattle.tree.specs.declared.rows.Row.{Row}
+use Rattle.tree.specs.declared.rows.Tree.{Tree as CodeTree}
 use Rattle.tree.proofs.PackedWords.{low-same, same-low}
 use Rattle.tree.proofs.RecordOfRows.{record-of-rows, held-record}
-use Rattle.tree.specs.PackedRows.{unpacked, countedRows}
-use Rattle.treejudge.specs.SameRows.{sameRow, sameRows, sameTrees}
-use Rattle.tree.specs.Rows.{HoldsTree}
-use Rattle.tree.specs.declared.rows.Tree.{Tree as CodeTree}
+use Rattle.treejudge.specs.inner.SameRows.{sameRow, sameRows, sameTrees}
 
 -- ROW BY ROW
 

@@ -5,19 +5,19 @@ use mathlib.Core.Logic.{inl, inr}
 use mathlib.Core.List.{List, []}
 use Prim.Native.Nat.{ℕ, _≤_}
 use lib.ListN.{length}
-use Rattle.table.specs.Outcome.{Outcome, refused, accepted, numberOf}
-use Rattle.table.specs.Rule.{Rule}
-use Rattle.table.specs.Table.{WellFormed}
+use Rattle.base.specs.Outcome.{Outcome, refused, accepted, numberOf}
+use Rattle.rule.specs.Rule.{Rule}
+use Rattle.rule.specs.WellFormed.{WellFormed}
 use Rattle.word.specs.Keeps.{Keeps}
 use Rattle.word.specs.Verdict.{Decides}
+use Rattle.word.proofs.RefusalNumbers.{judge-tells}
+use Rattle.word.proofs.SameAlong.{SameAlong}
 use Rattle.history.specs.Rounds.{roundTree}
 use Rattle.history.specs.Finding.{Finding, yes-node, no-node, Found, WalkJudged}
 use Rattle.history.proofs.FirstRepeats.{repeat-unique}
 use Rattle.history.proofs.FirstWitness.{first-unique}
 use Rattle.history.proofs.SameAlong.{found-along, repeat-along}
 use Rattle.history.proofs.TreeTheorem.{tree-theorem}
-use Rattle.word.proofs.RefusalNumbers.{judge-tells}
-use Rattle.word.proofs.SameAlong.{SameAlong}
 use Rattle.treejudge.specs.JudgeCall.{nameRoom, treeOutcome, treeAnswer, namesAfter, Judged, TreeAnswers, TreeNumber}
 use Rattle.treejudge.specs.declared.judge.TreeAnswer.{TreeAnswer}
 

@@ -3,8 +3,8 @@ use mathlib.Core.Path.{_≡_}
 use mathlib.Core.List.{List, [], _∷_}
 use Prim.Native.Nat.{ℕ, _≤_}
 use lib.ListN.{length, replicate}
-use Rattle.table.specs.Outcome.{Outcome, refused, accepted}
-use Rattle.table.specs.Rule.{Rule}
+use Rattle.base.specs.Outcome.{Outcome, refused, accepted}
+use Rattle.rule.specs.Rule.{Rule}
 use Rattle.history.specs.Rounds.{roundTree, FirstRepeat}
 use Rattle.history.specs.Finding.{Finding, yes-node, no-node, Found}
 use Rattle.tree.specs.TreeCalls.{startOutcome, Moved, stepOutcome, recordRoom}

@@ -6,7 +6,7 @@ use crate::follow::follow_letters;
 use crate::same::same_tree;
 use tree::rows::Tree;
 use word::tables::AllTables;
-ghost use Rattle.treejudge.specs.Cycles.{FirstRound, CycleFound};
+ghost use Rattle.treejudge.specs.inner.Cycles.{FirstRound, CycleFound};
 
 // What the search has found: the tree t(power − 1), to which `period` rounds lead back; the map of its nodes that keep their names in
 // these rounds and are accepting once; and the tree that was held before it, t(half − 1), where it was not the first.

@@ -6,7 +6,7 @@ use crate::same::same_on;
 use tree::rows::Tree;
 use word::tables::AllTables;
 ghost use Prim.Native.Nat.{_≤_};
-ghost use Rattle.treejudge.specs.Cycles.{SomeRound, Ahead, TwoRounds, ReadTo, Bracketed, EntryBetween, SearchDone, EntryFound};
+ghost use Rattle.treejudge.specs.inner.Cycles.{SomeRound, Ahead, TwoRounds, ReadTo, Bracketed, EntryBetween, SearchDone, EntryFound};
 
 // The tree `count` rounds further.
 fn read_rounds(tables: &AllTables, k: u8, v: &[u8], count: u64, tree: Tree) -> Tree

@@ -7,9 +7,9 @@ use tree::step::step_rows;
 use word::tables::AllTables;
 ghost use mathlib.Core.Path.{_≡_};
 ghost use Prim.Native.Nat.{_≤_, min};
-ghost use Rattle.table.specs.Limits.{maxStates};
-ghost use Rattle.tree.specs.Sides.{treeOn, Stands};
-ghost use Rattle.treejudge.specs.Names.{allKept, carriedMaps, Followable, FollowsTo};
+ghost use Rattle.rule.specs.Limits.{maxStates};
+ghost use Rattle.tree.specs.inner.Sides.{treeOn, Stands};
+ghost use Rattle.treejudge.specs.inner.Names.{allKept, carriedMaps, Followable, FollowsTo};
 
 // The map of a tree's nodes that have kept their names, and that of the witnesses: those among them that were accepting once.
 pub struct Maps {

@@ -4,9 +4,9 @@ use crate::name::first_node;
 use crate::name::node_name;
 use crate::name::store_name;
 use crate::repeat::find_repeat;
+use rule::limits::LETTERS;
+use rule::lookup::ENTRIES;
 use table::header::Header;
-use table::limits::LETTERS;
-use table::lookup::ENTRIES;
 use table::reader::Reading;
 use tree::rows::Tree;
 use word::questions::walk_questions;
@@ -15,9 +15,9 @@ use word::walk::letters_left;
 ghost use mathlib.Core.Path.{_≡_};
 ghost use Prim.Native.Nat.{_≤_};
 ghost use lib.ListN.{length};
-ghost use Rattle.table.specs.Rule.{Rule};
+ghost use Rattle.rule.specs.Rule.{Rule};
 ghost use Rattle.word.specs.Judging.{askRoom};
-ghost use Rattle.word.specs.Prepared.{Prepared};
+ghost use Rattle.word.specs.inner.Prepared.{Prepared};
 ghost use Rattle.treejudge.specs.JudgeCall.{Judged, TreeAnswers, TreeCall, nameRoom};
 
 // The tree judge's answer: 0, the verdict (1 yes, 0 no), entry and period, and the length of the node's name (255 on no); or the

@@ -3,8 +3,8 @@ use tree::rows::Sides;
 use tree::sides::OnSide;
 use tree::step::step_rows;
 use word::tables::AllTables;
-ghost use Rattle.tree.specs.Sides.{treeOn, Stands};
-ghost use Rattle.treejudge.specs.Reading.{Readable, ReadsTo};
+ghost use Rattle.tree.specs.inner.Sides.{treeOn, Stands};
+ghost use Rattle.treejudge.specs.inner.Reading.{Readable, ReadsTo};
 
 // The tree after the letters w, which are read from the tree `from`.
 pub fn read_letters(tables: &AllTables, k: u8, w: &[u8], sides: &mut Sides, from: OnSide) -> OnSide

@@ -4,9 +4,9 @@ use tree::rows::Tree;
 ghost use mathlib.Core.Path.{_≡_};
 ghost use Prim.Native.Nat.{_≤_};
 ghost use lib.ListN.{length, take};
-ghost use Rattle.table.specs.Storing.{stored};
+ghost use Rattle.base.specs.LentBuffer.{stored};
 ghost use Rattle.treejudge.specs.JudgeCall.{nameRoom};
-ghost use Rattle.treejudge.specs.NodeNames.{Lowest, SomeNode, IsName};
+ghost use Rattle.treejudge.specs.inner.NodeNames.{Lowest, SomeNode, IsName};
 
 // A node's name: its numbers are the first `length` ones.
 pub struct Name {

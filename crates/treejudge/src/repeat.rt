@@ -10,8 +10,8 @@ use word::tables::AllTables;
 use word::walk::letters_left;
 ghost use mathlib.Core.List.{_++_};
 ghost use Prim.Native.Nat.{_≤_};
-ghost use Rattle.treejudge.specs.Cycles.{FirstRound};
-ghost use Rattle.treejudge.specs.Repeats.{FoundEarly, RepeatFound};
+ghost use Rattle.treejudge.specs.inner.Cycles.{FirstRound};
+ghost use Rattle.treejudge.specs.inner.Repeats.{FoundEarly, RepeatFound};
 
 // Entry and period of the first repeat, a tree of the cycle, and the map of the witnesses among its nodes: those that keep their names
 // around the cycle and are accepting once.

@@ -6,11 +6,11 @@ use tree::sides::OnSide;
 ghost use mathlib.Core.Path.{_≡_};
 ghost use Prim.Native.Nat.{_≤_};
 ghost use lib.ListN.{length, take};
-ghost use Rattle.table.specs.Limits.{maxStates};
-ghost use Rattle.tree.specs.PackedRows.{unpacked, rowsIn};
-ghost use Rattle.tree.specs.RecordRows.{places};
-ghost use Rattle.tree.specs.Sides.{treeOn, Stands};
-ghost use Rattle.treejudge.specs.SameRows.{sameRow, sameRows, sameTrees};
+ghost use Rattle.rule.specs.Limits.{maxStates};
+ghost use Rattle.tree.specs.inner.PackedRows.{unpacked, rowsIn};
+ghost use Rattle.tree.specs.inner.RecordRows.{places};
+ghost use Rattle.tree.specs.inner.Sides.{treeOn, Stands};
+ghost use Rattle.treejudge.specs.inner.SameRows.{sameRow, sameRows, sameTrees};
 
 // One row and another: the old number stands in a word's highest eight bits.
 fn same_row(a: u64, b: u64) -> bool

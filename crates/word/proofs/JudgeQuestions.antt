@@ -6,16 +6,18 @@ use Prim.Native.Nat.{ℕ, _≤_}
 use borrow.Author.Tests.{le-leb}
 use lib.Dec.{leb}
 use lib.ListN.{length}
-use Rattle.table.specs.Outcome.{refused, accepted, numberOf}
-use Rattle.table.specs.Rule.{Grid, Rule}
-use Rattle.table.specs.Table.{WellFormed, readRule}
+use Rattle.base.specs.Lists.{allBelow}
+use Rattle.base.specs.Outcome.{refused, accepted, numberOf}
+use Rattle.base.proofs.Accepted.{IfAccepted, itself, of-accepted, asked, followed, then-accepted}
+use Rattle.rule.specs.Rule.{Grid, Rule}
+use Rattle.rule.specs.WellFormed.{WellFormed}
+use Rattle.table.specs.Table.{readRule}
 use Rattle.table.specs.declared.header.Header.{Header}
-use Rattle.table.proofs.Accepted.{IfAccepted, itself, of-accepted, asked, followed, then-accepted}
 use Rattle.table.proofs.Asked.{within-limits, RuleRead}
-use Rattle.word.specs.Walk.{lengthsFit, lettersBelow, askWalk, walkOutcome}
-use Rattle.word.specs.WalkTables.{Tables, tablesAfter}
+use Rattle.word.specs.Walk.{lengthsFit, askWalk, walkOutcome}
+use Rattle.word.specs.inner.WalkTables.{Tables, tablesAfter}
 use Rattle.word.specs.Judging.{walkQuestions, judgeQuestions}
-use Rattle.word.specs.Prepared.{Prepared}
+use Rattle.word.specs.inner.Prepared.{Prepared}
 use Rattle.word.proofs.WalkQuestions.{fit-nonempty, walk-accepted, walk-next, walk-refused}
 use Rattle.word.proofs.WalkTables.{walk-prepared}
 
@@ -60,7 +62,7 @@ module _ (table u v : List ℕ) where
   unfolding walkQuestions askWalk
   walk-known = followed (λ R. readRule table ≡ accepted R) (Accepted table v) (readRule table) _ (itself (readRule table)) λ R is.
       asked (Accepted table v) (lengthsFit u v) 7 _ λ fit.
-      asked (Accepted table v) (lettersBelow (R .letters) u && lettersBelow (R .letters) v) 8 _ λ _.
+      asked (Accepted table v) (allBelow (R .letters) u && allBelow (R .letters) v) 8 _ λ _.
       let limits = within-limits table R is in
       record { read = is; well = limits .well; sets = limits .some-set; nonempty = fit-nonempty u v fit }
 

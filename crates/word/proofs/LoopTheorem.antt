@@ -4,8 +4,8 @@ use mathlib.Core.Path.{_≡_}
 use mathlib.Core.Logic.{_↔_}
 use mathlib.Core.List.{List, []}
 use Prim.Native.Nat.{ℕ}
-use Rattle.table.specs.Rule.{Rule}
-use Rattle.table.specs.Table.{WellFormed}
+use Rattle.rule.specs.Rule.{Rule}
+use Rattle.rule.specs.WellFormed.{WellFormed}
 use Rattle.word.specs.Keeps.{Keeps, KeepsByLoop}
 use Rattle.word.proofs.RunToLoop.{run-loop}
 use Rattle.word.proofs.LoopToRun.{loop-run}

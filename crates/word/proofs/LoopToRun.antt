@@ -10,10 +10,10 @@ use native.Mathlib.Decide.{decLt}
 use lib.Dec.{ltb}
 use lib.ListN.{length}
 use borrow.Author.Tests.{lt-ltb, le-ltb}
-use Rattle.table.specs.BitSet.{member}
-use Rattle.table.specs.Rule.{Rule, edge}
-use Rattle.table.specs.Table.{WellFormed}
-use Rattle.table.proofs.Edges.{member-edgeIn}
+use Rattle.base.specs.BitSet.{member}
+use Rattle.rule.specs.Rule.{Rule, edge}
+use Rattle.rule.specs.WellFormed.{WellFormed}
+use Rattle.rule.proofs.Edges.{member-edgeIn}
 use Rattle.word.specs.Walk.{letterAt, rounds}
 use Rattle.word.specs.Run.{Run, AcceptingRun, InfinitelyOften, Takes}
 use Rattle.word.specs.Loop.{Leads, Loop}

@@ -7,10 +7,10 @@ use Prim.Native.Nat.{ℕ, zero, suc, _+_, _*_, _≤_, _<_}
 use native.Mathlib.Omega.{arith}
 use native.Mathlib.Nat.{zero-add, zero-mul, suc-add}
 use lib.Bits.{bitOr, or-zero-r, or-self}
-use Rattle.table.specs.Rule.{Rule, edge, cellAt}
-use Rattle.table.specs.Table.{WellFormed}
-use Rattle.table.proofs.BitSet.{union-assoc}
-use Rattle.table.proofs.Edges.{edge-inside}
+use Rattle.base.proofs.BitSet.{union-assoc}
+use Rattle.rule.specs.Rule.{Rule, edge, cellAt}
+use Rattle.rule.specs.WellFormed.{WellFormed}
+use Rattle.rule.proofs.Edges.{edge-inside}
 use Rattle.word.specs.Walk.{rounds}
 use Rattle.word.specs.Loop.{Leads}
 

@@ -4,14 +4,13 @@ use mathlib.Core.Path.{_≡_, refl, sym, ap, _∙_}
 use mathlib.Core.List.{List, [], _∷_, _++_}
 use Prim.Native.Nat.{ℕ, zero, suc, _+_, _-_, _*_, _%_, _≤_, _<_}
 use native.Mathlib.Omega.{arith}
-use native.Mathlib.Nat.{zero-add, zero-mul, mod-lt, mod-eq-of-lt, add-mod-left, add-mod-right, add-mul-mod-self-right}
-use native.Mathlib.Nat.{mul-pos, mod-mod-of-dvd, dvd-mul-left}
+use native.Mathlib.Nat.{zero-add, zero-mul, mod-lt, mod-eq-of-lt, add-mod-left, add-mod-right, add-mul-mod-self-right, mul-pos, mod-mod-of-dvd, dvd-mul-left}
 use native.Mathlib.Decide.{decLt}
 use lib.ListN.{length, getD, length-append, List·getD-append}
 use lib.Seq.{getD-append-add}
 use borrow.Author.Tests.{lt-ltb, le-ltb}
-use Rattle.table.specs.Table.{Every}
-use Rattle.table.proofs.Every.{every-at}
+use Rattle.base.specs.Lists.{Every}
+use Rattle.base.proofs.Every.{every-at}
 use Rattle.word.specs.Walk.{letterAt, rounds}
 
 -- THE LETTER AT A POSITION

@@ -5,10 +5,12 @@ use Prim.Native.Nat.{ℕ}
 use native.Mathlib.Omega.{arith}
 use lib.Dec.{leb}
 use lib.ListN.{length}
-use Rattle.table.specs.Outcome.{Outcome, accepted, numberOf, Tells}
+use Rattle.base.specs.Lists.{allBelow}
+use Rattle.base.specs.Outcome.{Outcome, accepted, numberOf, Tells}
+use Rattle.base.proofs.Numbers.{IfRefused, NotZero, ask-number, then-number, tells}
 use Rattle.table.specs.Table.{readRule}
-use Rattle.table.proofs.RefusalNumbers.{IfRefused, NotZero, ask-number, then-number, tells, rule-number}
-use Rattle.word.specs.Walk.{lengthsFit, lettersBelow, askWalk, walkOutcome, WalkNumber}
+use Rattle.table.proofs.RefusalNumbers.{rule-number}
+use Rattle.word.specs.Walk.{lengthsFit, askWalk, walkOutcome, WalkNumber}
 use Rattle.word.specs.Judging.{walkQuestions, judgeQuestions}
 
 -- questions 7 and 8, and what follows
@@ -16,7 +18,7 @@ ask-walk-number : {A : Type 0} (m : ℕ) (u v : List ℕ) (next : Outcome A) →
 unfolding askWalk
 ask-walk-number m u v next later =
     ask-number NotZero (lengthsFit u v) 7 _ (λ e. omega arith)
-    (ask-number NotZero (lettersBelow m u && lettersBelow m v) 8 next (λ e. omega arith) later)
+    (ask-number NotZero (allBelow m u && allBelow m v) 8 next (λ e. omega arith) later)
 
 -- put to a walk by themselves
 pub walk-tells : WalkNumber

@@ -8,10 +8,10 @@ use native.Mathlib.Omega.{arith}
 use native.Mathlib.Nat.{add-suc, add-zero, zero-add, mul-le-mul-left}
 use native.Mathlib.Decide.{ℕ-discrete, le-ind}
 use lib.ListN.{length, length-append}
-use Rattle.table.specs.BitSet.{member}
-use Rattle.table.specs.Rule.{Rule}
-use Rattle.table.specs.Table.{WellFormed}
-use Rattle.table.proofs.Edges.{edge-inside, edgeIn-member}
+use Rattle.base.specs.BitSet.{member}
+use Rattle.rule.specs.Rule.{Rule}
+use Rattle.rule.specs.WellFormed.{WellFormed}
+use Rattle.rule.proofs.Edges.{edge-inside, edgeIn-member}
 use Rattle.word.specs.Walk.{rounds}
 use Rattle.word.specs.Run.{Run, AcceptingRun, Takes}
 use Rattle.word.specs.Loop.{Leads, Loop}

@@ -5,8 +5,8 @@ use mathlib.Core.Path.{_≡_, refl, sym, _∙_, ap}
 use mathlib.Core.List.{List}
 use Prim.Native.Nat.{ℕ, suc, _≤_}
 use lib.ListN.{length}
-use Rattle.table.specs.Rule.{Rule, squareOf}
-use Rattle.table.proofs.SameSquares.{same-edge, same-edge-in}
+use Rattle.rule.specs.Rule.{Rule, squareOf}
+use Rattle.rule.proofs.SameSquares.{same-edge, same-edge-in}
 use Rattle.word.specs.EqualOn.{EqualOn}
 use Rattle.word.specs.Keeps.{Keeps}
 use Rattle.word.specs.Run.{AcceptingRun}

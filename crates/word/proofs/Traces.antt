@@ -8,10 +8,10 @@ use Prim.Native.Nat.{ℕ, zero, suc, _<_}
 use native.Mathlib.Omega.{arith}
 use lib.Bits.{bitOr}
 use lib.ListN.{length, getD}
-use Rattle.table.specs.BitSet.{member}
-use Rattle.table.specs.Rule.{Rule, edge, cellAt}
-use Rattle.table.proofs.Logic.{clash, or-l, or-r, or-in}
-use Rattle.table.proofs.BitSet.{member-union, member-none}
+use Rattle.base.specs.BitSet.{member}
+use Rattle.base.proofs.Logic.{clash, or-l, or-r, or-in}
+use Rattle.base.proofs.BitSet.{member-union, member-none}
+use Rattle.rule.specs.Rule.{Rule, edge, cellAt}
 use Rattle.word.specs.Loop.{Leads}
 
 -- the states ρ 0, ρ 1, .. move over the letters w: a transition at each place

@@ -7,15 +7,16 @@ use Prim.Native.Nat.{ℕ}
 use native.Mathlib.Omega.{arith}
 use lib.Dec.{leb}
 use lib.ListN.{length}
+use Rattle.base.specs.Lists.{allBelow}
+use Rattle.base.specs.Outcome.{Outcome, refused, accepted, ask, _then_}
+use Rattle.base.proofs.Every.{every-weaker}
+use Rattle.rule.specs.Rule.{Rule, squareOf}
 use Rattle.table.specs.Cells.{letterCells}
-use Rattle.table.specs.Outcome.{Outcome, refused, accepted, ask, _then_}
-use Rattle.table.specs.Rule.{Rule, squareOf}
 use Rattle.table.specs.Table.{readRule}
-use Rattle.table.proofs.Every.{every-weaker}
 use Rattle.table.proofs.LetterCells.{same-numbers, same-headers, same-cells}
 use Rattle.word.specs.EqualOn.{EqualOn, EqualBytesOn, EqualByBytes}
 use Rattle.word.specs.Judging.{walkQuestions, judgeQuestions}
-use Rattle.word.specs.Walk.{lengthsFit, lettersBelow, askWalk}
+use Rattle.word.specs.Walk.{lengthsFit, askWalk}
 use Rattle.word.proofs.WalkQuestions.{fit-nonempty}
 
 -- BYTES AND RULES
@@ -57,7 +58,7 @@ same-way needed table table′ u v buffer buffer′ R S reads reads′ letters l
     rw (reads, reads′, ← below, ← room) (go (lengthsFit u v) refl (both (R .letters)) (leb needed (length buffer)))
   where
     both : ℕ → Bool
-    both m = lettersBelow m u && lettersBelow m v
+    both m = allBelow m u && allBelow m v
 
     below : both (R .letters) ≡ both (S .letters)
     below = ap both letters

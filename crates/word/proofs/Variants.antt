@@ -8,11 +8,11 @@ use native.Mathlib.Omega.{arith}
 use native.Mathlib.Nat.{zero-add, mod-one}
 use lib.Dec.{lit<}
 use lib.ListN.{length, getD}
-use Rattle.table.specs.BitSet.{member}
-use Rattle.table.specs.Rule.{Rule, edge, edgeIn, cellAt}
-use Rattle.table.specs.Table.{WellFormed, startFits, bytesFit}
-use Rattle.table.proofs.Logic.{clash}
-use Rattle.table.proofs.BitSet.{member-lt}
+use Rattle.base.specs.BitSet.{member}
+use Rattle.base.proofs.Logic.{clash}
+use Rattle.base.proofs.BitSet.{member-lt}
+use Rattle.rule.specs.Rule.{Rule, edge, edgeIn, cellAt}
+use Rattle.rule.specs.WellFormed.{WellFormed, startFits, bytesFit}
 use Rattle.word.specs.Walk.{letterAt, rounds}
 use Rattle.word.specs.Run.{Run, Takes, AcceptingRun}
 use Rattle.word.specs.Loop.{Leads, Loop}

@@ -1,30 +1,17 @@
--- Questions 7 and 8: how the letters are gone through one by one, and what follows for a walk that is accepted and
--- for one that is refused.
+-- Questions 7 and 8: what follows for a walk that is accepted and for one that is refused.
 use mathlib.Core.Path.{_≡_, refl, ap}
 use mathlib.Core.Bool.{Bool, true, false, _&&_}
-use mathlib.Core.List.{List, [], _∷_}
-use Prim.Native.Nat.{ℕ, suc, _≤_, _<_}
+use mathlib.Core.List.{List, []}
+use Prim.Native.Nat.{ℕ, _≤_, _<_}
 use native.Mathlib.Omega.{arith}
-use lib.Dec.{ltb, leb}
-use lib.ListN.{length, getD, drop}
-use lib.Seq.{drop-cons}
-use borrow.Author.Tests.{ltb-true, leb-true}
-use Rattle.table.specs.Outcome.{Outcome, refused, accepted, ask, numberOf}
-use Rattle.table.specs.Table.{Every}
-use Rattle.table.proofs.Logic.{and-in}
-use Rattle.word.specs.Walk.{maxLength, lengthsFit, lettersBelow, askWalk, walkOutcome}
-
--- the letters from a place on: the letter there, then those behind it
-pub below-from : (m : ℕ) (w : List ℕ) (at : ℕ) → at < length w
-    → lettersBelow m (drop at w) ≡ (ltb (getD w at 0) m && lettersBelow m (drop (suc at) w))
-unfolding lettersBelow
-below-from m w at h = rw (drop-cons w at 0 h)
-
--- letters that pass the question are below m
-below-every : (m : ℕ) (w : List ℕ) → lettersBelow m w ≡ true → Every (λ a. a < m) w
-unfolding lettersBelow
-below-every m [] h = tt
-below-every m (a ∷ w) h = let (first, rest) = and-in (ltb a m) (lettersBelow m w) h in (ltb-true a m first, below-every m w rest)
+use lib.Dec.{leb}
+use lib.ListN.{length}
+use borrow.Author.Tests.{leb-true}
+use Rattle.base.specs.Outcome.{Outcome, refused, accepted, ask, numberOf}
+use Rattle.base.specs.Lists.{Every, allBelow}
+use Rattle.base.proofs.Logic.{and-in}
+use Rattle.base.proofs.Every.{below-every}
+use Rattle.word.specs.Walk.{maxLength, lengthsFit, askWalk, walkOutcome}
 
 -- question 7 answered yes
 pub lengths-in : (u v : List ℕ) → lengthsFit u v ≡ true → (length u ≤ maxLength) × (1 ≤ length v) × (length v ≤ maxLength)
@@ -56,9 +43,9 @@ first-no false below next h = refl
 
 module _ (m : ℕ) (u v : List ℕ) where
   -- so for a walk
-  answers-yes : numberOf (walkOutcome m u v) ≡ 0 → (lengthsFit u v ≡ true) × ((lettersBelow m u && lettersBelow m v) ≡ true)
+  answers-yes : numberOf (walkOutcome m u v) ≡ 0 → (lengthsFit u v ≡ true) × ((allBelow m u && allBelow m v) ≡ true)
   unfolding walkOutcome askWalk
-  answers-yes h = both-yes (lengthsFit u v) (lettersBelow m u && lettersBelow m v) h
+  answers-yes h = both-yes (lengthsFit u v) (allBelow m u && allBelow m v) h
 
   -- an accepted walk has a lead-in and a tail of allowed length, and letters below m
   pub walk-accepted : numberOf (walkOutcome m u v) ≡ 0
@@ -66,7 +53,7 @@ module _ (m : ℕ) (u v : List ℕ) where
   walk-accepted h =
       let (fit, below) = answers-yes h in
       let (short, filled, short′) = lengths-in u v fit in
-      let (in-lead, in-tail) = and-in (lettersBelow m u) _ below in
+      let (in-lead, in-tail) = and-in (allBelow m u) _ below in
       (short, filled, short′, below-every m u in-lead, below-every m v in-tail)
 
 module _ {A : Type 0} (m : ℕ) (u v : List ℕ) (next : Outcome A) where
@@ -78,4 +65,4 @@ module _ {A : Type 0} (m : ℕ) (u v : List ℕ) (next : Outcome A) where
   -- a refused walk gives its number, whatever was to follow
   pub walk-refused : (numberOf (walkOutcome m u v) ≡ 0 → ⊥) → askWalk m u v next ≡ refused (numberOf (walkOutcome m u v))
   unfolding walkOutcome askWalk
-  walk-refused h = first-no (lengthsFit u v) (lettersBelow m u && lettersBelow m v) next h
+  walk-refused h = first-no (lengthsFit u v) (allBelow m u && allBelow m v) next h

@@ -13,23 +13,22 @@ use lib.Count.{trailingZeros}
 use lib.Dec.{eqb}
 use lib.ListN.{length, getD, take, set, length-set}
 use lib.Seq.{take-suc, take-all, ext-getD, getD-set-same, getD-set-other}
-use Rattle.table.specs.Limits.{maxLetters}
-use Rattle.table.specs.BitSet.{member, Subset, collect}
-use Rattle.table.specs.Rule.{Rule}
-use Rattle.table.specs.Table.{Every}
-use Rattle.table.specs.HeldRule.{HoldsRule}
+use Rattle.base.specs.BitSet.{member, Subset, collect}
+use Rattle.base.specs.Lists.{Every, tabulate}
+use Rattle.base.proofs.BitSet.{member-none, member-union, union-assoc, member-collect, collect-ext, collect-union, collect-single}
+use Rattle.base.proofs.Every.{every-weaker, every-both}
+use Rattle.base.proofs.Logic.{look, clash, never, or-l, or-r}
+use Rattle.base.proofs.LowestBit.{lowest-inside, lowest-stands, cleared-others, cleared-keeps}
+use Rattle.base.proofs.Tabulate.{length-tabulate, getD-tabulate, tabulate-ext}
+use Rattle.rule.specs.Limits.{maxLetters}
+use Rattle.rule.specs.Rule.{Rule}
+use Rattle.rule.specs.inner.Padded.{held}
+use Rattle.rule.specs.inner.Lookup.{joinedTable}
+use Rattle.rule.proofs.LookupSteps.{table-made}
+use Rattle.table.specs.inner.ReadRule.{HoldsRule}
 use Rattle.table.specs.declared.header.Header.{Header}
-use Rattle.table.specs.Held.{held}
-use Rattle.table.specs.Lookup.{joinedTable}
-use Rattle.table.specs.Tabulate.{tabulate}
-use Rattle.table.proofs.BitSet.{member-none, member-union, union-assoc, member-collect, collect-ext, collect-union, collect-single}
-use Rattle.table.proofs.Every.{every-weaker, every-both}
-use Rattle.table.proofs.Logic.{look, clash, never, or-l, or-r}
-use Rattle.table.proofs.LowestBit.{lowest-inside, lowest-stands, cleared-others, cleared-keeps}
-use Rattle.table.proofs.LookupSteps.{table-made}
-use Rattle.table.proofs.Tabulate.{length-tabulate, getD-tabulate, tabulate-ext}
-use Rattle.word.specs.Prepared.{Prepared}
-use Rattle.word.specs.WalkTables.{Tables, occurs, refilled, tablesAfter, Tabled}
+use Rattle.word.specs.inner.Prepared.{Prepared}
+use Rattle.word.specs.inner.WalkTables.{Tables, occurs, refilled, tablesAfter, Tabled}
 
 -- THE LETTERS THAT OCCUR
 

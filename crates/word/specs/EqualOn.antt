@@ -4,9 +4,10 @@ use mathlib.Core.Path.{_≡_}
 use mathlib.Core.Logic.{_↔_}
 use mathlib.Core.List.{List}
 use Prim.Native.Nat.{ℕ}
-use Rattle.table.specs.Outcome.{accepted}
-use Rattle.table.specs.Rule.{Rule, squareOf}
-use Rattle.table.specs.Table.{Every, readRule}
+use Rattle.base.specs.Outcome.{accepted}
+use Rattle.base.specs.Lists.{Every}
+use Rattle.rule.specs.Rule.{Rule, squareOf}
+use Rattle.table.specs.Table.{readRule}
 use Rattle.table.specs.Cells.{headerBytes, letterCells}
 
 -- "equal in header and starting map, and equal in all cells of the letters that occur in u or v". A letter from m up has no cells.

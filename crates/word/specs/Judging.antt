@@ -3,8 +3,8 @@ use mathlib.Core.List.{List}
 use Prim.Native.Nat.{ℕ}
 use lib.Dec.{leb}
 use lib.ListN.{length}
-use Rattle.table.specs.Outcome.{Outcome, accepted, ask, _then_}
-use Rattle.table.specs.Rule.{Rule}
+use Rattle.base.specs.Outcome.{Outcome, accepted, ask, _then_}
+use Rattle.rule.specs.Rule.{Rule}
 use Rattle.table.specs.Table.{readRule}
 use Rattle.word.specs.Walk.{askWalk}
 

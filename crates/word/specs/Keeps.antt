@@ -2,7 +2,7 @@
 -- the two say the same is the theorem on loops (crates/word/proofs/LoopTheorem.antt).
 use mathlib.Core.List.{List}
 use Prim.Native.Nat.{ℕ}
-use Rattle.table.specs.Rule.{Rule}
+use Rattle.rule.specs.Rule.{Rule}
 use Rattle.word.specs.Run.{AcceptingRun}
 use Rattle.word.specs.Loop.{Loop}
 

@@ -6,6 +6,5 @@ pub mod Loop
 pub mod Keeps
 pub mod Verdict
 pub mod EqualOn
--- Inside: the look-up tables of a walk, and what is ready once they are made.
-pub mod WalkTables
-pub mod Prepared
+-- Inside: what the contracts of inner functions cite.
+pub mod inner

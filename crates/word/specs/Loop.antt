@@ -4,8 +4,8 @@ use mathlib.Core.Bool.{true}
 use mathlib.Core.List.{List, [], _∷_, _++_}
 use Prim.Native.Nat.{ℕ, _≤_, _<_}
 use lib.Bits.{bitOr}
-use Rattle.table.specs.BitSet.{member}
-use Rattle.table.specs.Rule.{Rule, edge, cellAt}
+use Rattle.base.specs.BitSet.{member}
+use Rattle.rule.specs.Rule.{Rule, edge, cellAt}
 use Rattle.word.specs.Walk.{rounds}
 
 -- the letters w lead from state s to state t by transitions whose sets together are the map c

@@ -3,8 +3,8 @@ use mathlib.Core.Path.{_≡_}
 use mathlib.Core.Bool.{true}
 use mathlib.Core.List.{List}
 use Prim.Native.Nat.{ℕ, suc, _≤_}
-use Rattle.table.specs.BitSet.{member}
-use Rattle.table.specs.Rule.{Rule, edge, edgeIn}
+use Rattle.base.specs.BitSet.{member}
+use Rattle.rule.specs.Rule.{Rule, edge, edgeIn}
 use Rattle.word.specs.Walk.{letterAt}
 
 -- "An endless run over a walk has a state for every position, a starting state for position 0, and takes at each

@@ -1,12 +1,13 @@
 -- Walks (document 01, "Walks and verdicts"): ultimately periodic words u v v v …, a prefix u (the lead-in) and a
 -- cycle v (the tail) that repeats for ever.
 use mathlib.Core.Path.{_≡_}
-use mathlib.Core.Bool.{Bool, true, _&&_, cond}
-use mathlib.Core.List.{List, [], _∷_, _++_}
+use mathlib.Core.Bool.{Bool, _&&_, cond}
+use mathlib.Core.List.{List, [], _++_}
 use Prim.Native.Nat.{ℕ, zero, suc, _-_, _%_}
 use lib.Dec.{leb, ltb}
 use lib.ListN.{length, getD, drop}
-use Rattle.table.specs.Outcome.{Outcome, accepted, ask, numberOf, Tells}
+use Rattle.base.specs.Lists.{allBelow}
+use Rattle.base.specs.Outcome.{Outcome, accepted, ask, numberOf, Tells}
 
 -- "A walk is a lead-in u (0 to 4,096 letters, a byte each) and a tail v (1 to 4,096)."
 abbrev pub maxLength : ℕ
@@ -16,14 +17,9 @@ maxLength = 4096
 unfoldable pub lengthsFit : List ℕ → List ℕ → Bool
 lengthsFit u v = leb (length u) maxLength && (leb 1 (length v) && leb (length v) maxLength)
 
--- is each letter below m?
-unfoldable pub lettersBelow : ℕ → List ℕ → Bool
-lettersBelow m [] = true
-lettersBelow m (a ∷ w) = ltb a m && lettersBelow m w
-
 -- questions 7 and 8, "Is each letter, u before v, below m?", and what follows on yes
 unfoldable pub askWalk : {A : Type 0} → ℕ → List ℕ → List ℕ → Outcome A → Outcome A
-askWalk m u v next = ask (lengthsFit u v) 7 (ask (lettersBelow m u && lettersBelow m v) 8 next)
+askWalk m u v next = ask (lengthsFit u v) 7 (ask (allBelow m u && allBelow m v) 8 next)
 
 -- questions 7 and 8 put to a walk by themselves
 unfoldable pub walkOutcome : ℕ → List ℕ → List ℕ → Outcome (Unit {0})

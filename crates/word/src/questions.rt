@@ -2,17 +2,17 @@
 use crate::tables::AllTables;
 use crate::tables::walk_tables;
 use crate::walk::walk_number;
-use table::limits::LETTERS;
-use table::limits::NO_TRANSITION;
-use table::limits::STATES;
+use rule::limits::LETTERS;
+use rule::limits::NO_TRANSITION;
+use rule::limits::STATES;
 use table::reader::Reading;
 use table::reader::read_rule;
 ghost use mathlib.Core.Path.{_≡_};
 ghost use lib.ListN.{length};
-ghost use Rattle.table.specs.Limits.{maxLetters};
-ghost use Rattle.table.specs.Preparing.{Prepares};
+ghost use Rattle.rule.specs.Limits.{maxLetters};
+ghost use Rattle.table.specs.inner.Preparing.{Prepares};
 ghost use Rattle.word.specs.Judging.{walkQuestions};
-ghost use Rattle.word.specs.Prepared.{Prepared};
+ghost use Rattle.word.specs.inner.Prepared.{Prepared};
 
 // Questions 1 to 6 to a table, 7 and 8 to a walk. On yes the look-up tables of the walk's letters are made in place.
 pub fn walk_questions(table: &[u8], u: &[u8], v: &[u8], tables: &mut AllTables) -> Reading

@@ -1,14 +1,14 @@
 // The look-up tables of a walk: those of the letters that occur in it, each made once.
-use table::limits::LETTERS;
-use table::limits::Words;
-use table::lookup::LetterTable;
-use table::lookup::fill_table;
+use rule::limits::LETTERS;
+use rule::limits::Words;
+use rule::lookup::LetterTable;
+use rule::lookup::fill_table;
 ghost use mathlib.Core.Path.{_≡_};
 ghost use lib.Bits.{bitOr};
 ghost use lib.ListN.{length};
-ghost use Rattle.table.specs.BitSet.{collect, member};
-ghost use Rattle.table.specs.Limits.{maxLetters};
-ghost use Rattle.word.specs.WalkTables.{occurs, refilled, tablesAfter};
+ghost use Rattle.base.specs.BitSet.{collect, member};
+ghost use Rattle.rule.specs.Limits.{maxLetters};
+ghost use Rattle.word.specs.inner.WalkTables.{occurs, refilled, tablesAfter};
 
 // A table for each letter.
 pub type AllTables = [LetterTable; LETTERS];

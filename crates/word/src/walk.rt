@@ -1,9 +1,10 @@
 // Walks: the endless words u v v v …, with a lead-in u and a tail v that repeats for ever. Questions 7 and 8, and the
 // letters still to be read.
+use base::bytes::all_below;
 ghost use mathlib.Core.Path.{_≡_};
 ghost use lib.ListN.{drop};
-ghost use Rattle.table.specs.Outcome.{numberOf};
-ghost use Rattle.word.specs.Walk.{lengthsFit, lettersBelow, walkOutcome, lettersLeft};
+ghost use Rattle.base.specs.Outcome.{numberOf};
+ghost use Rattle.word.specs.Walk.{lengthsFit, walkOutcome, lettersLeft};
 
 // "A walk is a lead-in u (0 to 4,096 letters, a byte each) and a tail v (1 to 4,096)."
 pub const MAX_LENGTH: usize = 4096;
@@ -21,20 +22,6 @@ pub fn lengths_fit(u: &[u8], v: &[u8]) -> bool
     v.len() <= MAX_LENGTH
 }
 
-// Is each letter below m?
-fn letters_below(m: usize, w: &[u8]) -> bool
-    ensures { λ r. ⌜ r ≡ lettersBelow m (now (w .entry)) ⌝ }
-{
-    let mut at = 0usize;
-    while at < w.len() {
-        if w[at] as usize >= m {
-            return false;
-        }
-        at += 1;
-    }
-    true
-}
-
 // The number of the first of questions 7 and 8 that is answered no, or 0.
 pub fn walk_number(m: usize, u: &[u8], v: &[u8]) -> u8
     ensures { λ r. ⌜ r ≡ numberOf (walkOutcome m (now (u .entry)) (now (v .entry))) ⌝ }
@@ -42,10 +29,10 @@ pub fn walk_number(m: usize, u: &[u8], v: &[u8]) -> u8
     if !lengths_fit(u, v) {
         return 7;
     }
-    if !letters_below(m, u) {
+    if !all_below(m, u) {
         return 8;
     }
-    if letters_below(m, v) { 0 } else { 8 }
+    if all_below(m, v) { 0 } else { 8 }
 }
 
 // The letters of w from a place on: none from a place past the end.

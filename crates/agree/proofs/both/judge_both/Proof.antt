@@ -3,8 +3,8 @@ use borrow.Author.Needs.{needs}
 use mathlib.Core.Path.{refl}
 use Rattle.table.proofs.Asked.{asked-no, asked-yes}
 use Rattle.word.specs.Judging.{judgeQuestions}
-use Rattle.treejudge.specs.JudgeCall.{treeOutcome}
 use Rattle.plain.specs.PlainCall.{plainOutcome, scratchAfter}
+use Rattle.treejudge.specs.JudgeCall.{treeOutcome}
 use Rattle.agree.proofs.Agreeing.{both-answer}
 use Rattle.agree.proofs.both.judge_both.Statement.{statement}
 use Rattle.agree.proofs.both.judge_both.Tie as tie

@@ -1,7 +1,7 @@
 -- A job.
 use borrow.Author.Needs.{needs}
 use native.Mathlib.Omega.{arith}
-use Rattle.job.proofs.PartEnds.{split-yes, split-no, job-answered}
+use Rattle.job.proofs.Splitting.{split-yes, split-no, job-answered}
 use Rattle.job.proofs.call.judge_job.Statement.{statement}
 use Rattle.job.proofs.call.judge_job.Tie as tie
 

@@ -6,7 +6,7 @@ use borrow.Author.Tests.{ne-eqb}
 use lib.ListN.{length, take}
 use Rattle.job.specs.Ascii.{ascii}
 use Rattle.job.specs.JobCall.{line, nameText, nodeText}
-use Rattle.job.specs.TextCode.{findingOf}
+use Rattle.job.specs.inner.TextCode.{findingOf}
 use Rattle.job.proofs.Appending.{appended-length, appends, appends-length, appends-both, appends-regroup}
 use Rattle.job.proofs.lines.node_line.Statement.{statement}
 use Rattle.job.proofs.lines.node_line.Tie as tie

@@ -1,9 +1,9 @@
--- Question 12, by the laws of PartEnds.
+-- Question 12, by the laws of Splitting.
 use borrow.Author.Needs.{needs}
-use native.Mathlib.Omega.{arith}
 use mathlib.Core.Path.{sym, _∙_, ap}
-use Rattle.job.specs.SplitCode.{endAs}
-use Rattle.job.proofs.PartEnds.{part-at, too-short, too-long, no-table, no-lead, no-tail, not-ended, whole}
+use Rattle.base.specs.inner.PartEnds.{endAs}
+use Rattle.base.proofs.PartEnds.{part-at}
+use Rattle.job.proofs.Splitting.{too-short, too-long, no-table, no-lead, no-tail, not-ended, whole}
 use Rattle.job.proofs.split.split_job.Statement.{statement}
 use Rattle.job.proofs.split.split_job.Tie as tie
 
@@ -25,14 +25,10 @@ enum-told c = search needs
 returns-3 : tie.Need-returns-3
 returns-3 c =
     let called = c .before .before in
-    no-table _ (called .before .before .if1 .left) (called .before .if2 .left) (sym (called .part-end .ensures) ∙ ap endAs (c .enum-told .given .1))
+    no-table _ (called .before .before .if1 .left) (called .before .if2 .left) (sym (called .part-end .ensures 12) ∙ ap (endAs 12) (c .enum-told .given .1))
 
 part-end-requires-2 : tie.Need-part-end-requires-2
-part-end-requires-2 c κs =
-    let first = c .before in
-    let sized = first .before .before .before in
-    let table = part-at _ 0 (omega arith) _ (sym (first .before .before .part-end .ensures) ∙ ap endAs (first .table .given .1)) in
-    table .upto
+part-end-requires-2 c κs = search needs
 
 enum-known-lead : tie.Need-enum-known-lead
 enum-known-lead c = search needs
@@ -45,17 +41,11 @@ returns-4 c =
     let called = c .before .before in
     let first = called .before .before in
     let sized = first .before .before .before in
-    let table = part-at _ 0 (omega arith) _ (sym (first .before .before .part-end .ensures) ∙ ap endAs (first .table .given .1)) in
-    no-lead _ (sized .before .if1 .left) (sized .if2 .left) table (sym (called .part-end2 .ensures) ∙ ap endAs (c .enum-told2 .given .1))
+    let table = part-at 12 _ 0 _ (sym (first .before .before .part-end .ensures 12) ∙ ap (endAs 12) (first .table .given .1)) in
+    no-lead _ (sized .before .if1 .left) (sized .if2 .left) table (sym (called .part-end2 .ensures 12) ∙ ap (endAs 12) (c .enum-told2 .given .1))
 
 part-end-requires-3 : tie.Need-part-end-requires-3
-part-end-requires-3 c κs =
-    let second = c .before in
-    let first = second .before .before .before .before in
-    let sized = first .before .before .before in
-    let table = part-at _ 0 (omega arith) _ (sym (first .before .before .part-end .ensures) ∙ ap endAs (first .table .given .1)) in
-    let lead = part-at _ _ (table .upto) _ (sym (second .before .before .part-end2 .ensures) ∙ ap endAs (second .lead .given .1)) in
-    lead .upto
+part-end-requires-3 c κs = search needs
 
 enum-known-tail : tie.Need-enum-known-tail
 enum-known-tail c = search needs
@@ -69,9 +59,9 @@ returns-5 c =
     let second = called .before .before in
     let first = second .before .before .before .before in
     let sized = first .before .before .before in
-    let table = part-at _ 0 (omega arith) _ (sym (first .before .before .part-end .ensures) ∙ ap endAs (first .table .given .1)) in
-    let lead = part-at _ _ (table .upto) _ (sym (second .before .before .part-end2 .ensures) ∙ ap endAs (second .lead .given .1)) in
-    no-tail _ (sized .before .if1 .left) (sized .if2 .left) table lead (sym (called .part-end3 .ensures) ∙ ap endAs (c .enum-told3 .given .1))
+    let table = part-at 12 _ 0 _ (sym (first .before .before .part-end .ensures 12) ∙ ap (endAs 12) (first .table .given .1)) in
+    let lead = part-at 12 _ _ _ (sym (second .before .before .part-end2 .ensures 12) ∙ ap (endAs 12) (second .lead .given .1)) in
+    no-tail _ (sized .before .if1 .left) (sized .if2 .left) table lead (sym (called .part-end3 .ensures 12) ∙ ap (endAs 12) (c .enum-told3 .given .1))
 
 returns-6 : tie.Need-returns-6
 returns-6 c =
@@ -79,9 +69,9 @@ returns-6 c =
     let second = third .before .before .before .before in
     let first = second .before .before .before .before in
     let sized = first .before .before .before in
-    let table = part-at _ 0 (omega arith) _ (sym (first .before .before .part-end .ensures) ∙ ap endAs (first .table .given .1)) in
-    let lead = part-at _ _ (table .upto) _ (sym (second .before .before .part-end2 .ensures) ∙ ap endAs (second .lead .given .1)) in
-    let tail = part-at _ _ (lead .upto) _ (sym (third .before .before .part-end3 .ensures) ∙ ap endAs (third .tail .given .1)) in
+    let table = part-at 12 _ 0 _ (sym (first .before .before .part-end .ensures 12) ∙ ap (endAs 12) (first .table .given .1)) in
+    let lead = part-at 12 _ _ _ (sym (second .before .before .part-end2 .ensures 12) ∙ ap (endAs 12) (second .lead .given .1)) in
+    let tail = part-at 12 _ _ _ (sym (third .before .before .part-end3 .ensures 12) ∙ ap (endAs 12) (third .tail .given .1)) in
     not-ended _ (sized .before .if1 .left) (sized .if2 .left) table lead tail (c .if3 .taken)
 
 returns-7 : tie.Need-returns-7
@@ -90,9 +80,9 @@ returns-7 c =
     let second = third .before .before .before .before in
     let first = second .before .before .before .before in
     let sized = first .before .before .before in
-    let table = part-at _ 0 (omega arith) _ (sym (first .before .before .part-end .ensures) ∙ ap endAs (first .table .given .1)) in
-    let lead = part-at _ _ (table .upto) _ (sym (second .before .before .part-end2 .ensures) ∙ ap endAs (second .lead .given .1)) in
-    let tail = part-at _ _ (lead .upto) _ (sym (third .before .before .part-end3 .ensures) ∙ ap endAs (third .tail .given .1)) in
+    let table = part-at 12 _ 0 _ (sym (first .before .before .part-end .ensures 12) ∙ ap (endAs 12) (first .table .given .1)) in
+    let lead = part-at 12 _ _ _ (sym (second .before .before .part-end2 .ensures 12) ∙ ap (endAs 12) (second .lead .given .1)) in
+    let tail = part-at 12 _ _ _ (sym (third .before .before .part-end3 .ensures 12) ∙ ap (endAs 12) (third .tail .given .1)) in
     whole _ (sized .before .if1 .left) (sized .if2 .left) table lead tail (c .if3 .left)
 
 pub split-job-spec : {M : Type 1} → statement M

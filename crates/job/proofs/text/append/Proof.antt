@@ -5,8 +5,8 @@ use Prim.Native.Nat.{_-_}
 use native.Mathlib.Omega.{arith}
 use lib.ListN.{length, take}
 use lib.Seq.{take-suc, take-length}
-use Rattle.table.proofs.Storing.{PiecesStored, pieces-start, pieces-byte, pieces-done}
-use Rattle.job.specs.TextCode.{appended}
+use Rattle.base.proofs.Storing.{PiecesStored, pieces-start, pieces-byte, pieces-done}
+use Rattle.job.specs.inner.TextCode.{appended}
 use Rattle.job.proofs.Appending.{piece-place}
 use Rattle.job.proofs.text.append.Statement.{statement}
 use Rattle.job.proofs.text.append.Tie as tie

@@ -4,7 +4,7 @@ use mathlib.Core.Path.{_≡_, refl, _∙_, ap}
 use Prim.Native.Nat.{_+_}
 use native.Mathlib.Omega.{arith}
 use lib.ListN.{length, length-set}
-use Rattle.job.specs.TextCode.{appended}
+use Rattle.job.specs.inner.TextCode.{appended}
 use Rattle.job.proofs.DecimalDigits.{DigitsFrom, digits-short, places-start, places-left, places-turn, places-done}
 use Rattle.job.proofs.text.append_number.Statement.{statement}
 use Rattle.job.proofs.text.append_number.Tie as tie

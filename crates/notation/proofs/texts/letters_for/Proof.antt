@@ -1,8 +1,7 @@
 -- The letters at the front of a line.
 use borrow.Author.Needs.{needs}
 use native.Mathlib.Omega.{arith}
-use Rattle.notation.proofs.OneLines.{written-some, written-two, fronts-short, fronts-same, fronts-other}
-use Rattle.notation.proofs.OneLines.{fronts-newline, fronts-first, fronts-second}
+use Rattle.notation.proofs.OneLines.{written-some, written-two, fronts-short, fronts-same, fronts-other, fronts-newline, fronts-first, fronts-second}
 use Rattle.notation.proofs.texts.letters_for.Statement.{statement}
 use Rattle.notation.proofs.texts.letters_for.Tie as tie
 

@@ -4,11 +4,11 @@ use native.Mathlib.Omega.{arith}
 use mathlib.Core.Path.{_≡_, refl, sym, _∙_, ap}
 use Prim.Native.Nat.{ℕ, _-_, _≤_, _<_}
 use lib.ListN.{length, drop}
-use Rattle.table.specs.Limits.{maxLetters}
-use Rattle.table.specs.Lanes.{mapOf}
-use Rattle.table.specs.Lookup.{lookUp}
-use Rattle.table.proofs.Every.{every-at}
-use Rattle.plain.specs.Letters.{statesAfter}
+use Rattle.base.proofs.Every.{every-at}
+use Rattle.rule.specs.Limits.{maxLetters}
+use Rattle.rule.specs.inner.Lanes.{mapOf}
+use Rattle.rule.specs.inner.Lookup.{lookUp}
+use Rattle.plain.specs.inner.Letters.{statesAfter}
 use Rattle.plain.proofs.LetterLaws.{over-done, over-more}
 use Rattle.plain.proofs.lead.states_after.Statement.{statement}
 use Rattle.plain.proofs.lead.states_after.Tie as tie

@@ -3,10 +3,10 @@ use borrow.Author.Needs.{needs}
 use native.Mathlib.Omega.{arith}
 use mathlib.Core.Path.{_≡_, _∙_, ap}
 use Prim.Native.Nat.{ℕ, suc, _*_}
-use Rattle.table.specs.Lanes.{mapOf, eachLane, lanesWith, lanes}
-use Rattle.table.specs.Limits.{maxSets}
-use Rattle.table.proofs.LaneLaws.{kept-le, chosen-kept, stands, lanes-with, lanes-with-le}
-use Rattle.plain.specs.Rounds.{continued}
+use Rattle.rule.specs.inner.Lanes.{mapOf, eachLane, lanesWith, lanes}
+use Rattle.rule.specs.Limits.{maxSets}
+use Rattle.rule.proofs.LaneLaws.{kept-le, chosen-kept, stands, lanes-with, lanes-with-le}
+use Rattle.plain.specs.inner.Rounds.{continued}
 use Rattle.plain.proofs.rounds.continued.Statement.{statement}
 use Rattle.plain.proofs.rounds.continued.Tie as tie
 

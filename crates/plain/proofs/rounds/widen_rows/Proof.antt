@@ -4,9 +4,9 @@ use native.Mathlib.Omega.{arith}
 use mathlib.Core.Path.{_≡_, refl}
 use Prim.Native.Nat.{_-_, _≤_}
 use lib.ListN.{length}
-use Rattle.table.specs.Lanes.{laneWidth}
-use Rattle.plain.specs.Ways.{ways, AreWays}
-use Rattle.plain.specs.Rounds.{widened}
+use Rattle.rule.specs.inner.Lanes.{laneWidth}
+use Rattle.plain.specs.inner.Ways.{ways, AreWays}
+use Rattle.plain.specs.inner.Rounds.{widened}
 use Rattle.plain.proofs.RoundRows.{widened-more}
 use Rattle.plain.proofs.rounds.widen_rows.Statement.{statement}
 use Rattle.plain.proofs.rounds.widen_rows.Tie as tie

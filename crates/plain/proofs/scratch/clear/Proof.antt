@@ -6,7 +6,7 @@ use mathlib.Core.List.{List, _++_}
 use Prim.Native.Nat.{ℕ, _-_, _≤_}
 use borrow.Author.Fill.{fill-none, fill-more}
 use lib.ListN.{length, drop, set, replicate, length-set}
-use Rattle.table.specs.Storing.{stored}
+use Rattle.base.specs.LentBuffer.{stored}
 use Rattle.plain.specs.PlainCall.{scratchLength}
 use Rattle.plain.proofs.ScratchBytes.{scratch-length, cleared}
 use Rattle.plain.proofs.scratch.clear.Statement.{statement}

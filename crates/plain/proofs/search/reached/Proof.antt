@@ -5,7 +5,7 @@ use native.Mathlib.Nat.{mul-le-mul-left}
 use mathlib.Core.Path.{_≡_, refl}
 use Prim.Native.Nat.{_-_, _/_, _%_, _^_, _≤_}
 use native.Mathlib.Numerals.{add-one}
-use Rattle.plain.specs.Search.{reached}
+use Rattle.plain.specs.inner.Search.{reached}
 use Rattle.plain.proofs.search.reached.Statement.{statement}
 use Rattle.plain.proofs.search.reached.Tie as tie
 

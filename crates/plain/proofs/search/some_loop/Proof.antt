@@ -6,11 +6,11 @@ use mathlib.Core.Logic.{inl, inr}
 use Prim.Native.Nat.{ℕ, suc, _-_, _≤_, _<_}
 use borrow.Author.Count.{below-more}
 use borrow.Author.Tests.{eqb-true, eq-eqb}
-use Rattle.table.specs.BitSet.{member}
-use Rattle.table.specs.Lanes.{eachLane}
-use Rattle.table.proofs.LaneLaws.{each-out, each-in}
-use Rattle.plain.specs.Ways.{ways}
-use Rattle.plain.specs.Search.{LoopAt}
+use Rattle.base.specs.BitSet.{member}
+use Rattle.rule.specs.inner.Lanes.{eachLane}
+use Rattle.rule.proofs.LaneLaws.{each-out, each-in}
+use Rattle.plain.specs.inner.Ways.{ways}
+use Rattle.plain.specs.inner.Search.{LoopAt}
 use Rattle.plain.proofs.Searching.{reached-out, reached-in}
 use Rattle.plain.proofs.search.some_loop.Statement.{statement}
 use Rattle.plain.proofs.search.some_loop.Tie as tie

@@ -6,11 +6,11 @@ use mathlib.Core.Path.{_≡_, _∙_, ap, ap₂}
 use Prim.Native.Nat.{ℕ, suc, _-_, _≤_}
 use lib.Bits.{bitOr}
 use lib.Count.{trailingZeros, trailing-le}
-use Rattle.table.specs.Lanes.{mapOf, wordOf, eachLane, lanesWith, inLane, inLanes, lanes}
-use Rattle.table.specs.Limits.{maxSets}
-use Rattle.table.specs.Lookup.{imagesBy}
-use Rattle.table.proofs.LaneLaws.{lanes-with-le}
-use Rattle.plain.specs.Letters.{onward, extended}
+use Rattle.rule.specs.inner.Lanes.{mapOf, wordOf, eachLane, lanesWith, inLane, inLanes, lanes}
+use Rattle.rule.specs.Limits.{maxSets}
+use Rattle.rule.specs.inner.Lookup.{imagesBy}
+use Rattle.rule.proofs.LaneLaws.{lanes-with-le}
+use Rattle.plain.specs.inner.Letters.{onward, extended}
 use Rattle.plain.proofs.LetterLaws.{onward-lt, extended-first, extended-more, extended-full}
 use Rattle.plain.proofs.tail.extended.Statement.{statement}
 use Rattle.plain.proofs.tail.extended.Tie as tie

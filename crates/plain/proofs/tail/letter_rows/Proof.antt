@@ -3,8 +3,8 @@ use borrow.Author.Needs.{needs}
 use native.Mathlib.Omega.{arith}
 use mathlib.Core.Path.{_≡_}
 use Prim.Native.Nat.{_-_, _≤_}
-use Rattle.plain.specs.Ways.{Changed}
-use Rattle.plain.specs.Letters.{extended}
+use Rattle.plain.specs.inner.Ways.{Changed}
+use Rattle.plain.specs.inner.Letters.{extended}
 use Rattle.plain.proofs.RowLaws.{changed-none, changed-more}
 use Rattle.plain.proofs.tail.letter_rows.Statement.{statement}
 use Rattle.plain.proofs.tail.letter_rows.Tie as tie

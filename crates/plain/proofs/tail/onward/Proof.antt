@@ -2,10 +2,10 @@
 use borrow.Author.Needs.{needs}
 use mathlib.Core.Path.{sym, _∙_, ap}
 use Prim.Native.Nat.{ℕ}
-use Rattle.table.specs.Lanes.{mapOf}
-use Rattle.table.specs.Lookup.{lookUp}
+use Rattle.rule.specs.inner.Lanes.{mapOf}
+use Rattle.rule.specs.inner.Lookup.{lookUp}
+use Rattle.plain.specs.inner.Letters.{onward}
 use Rattle.plain.proofs.LetterLaws.{onward-none, onward-some}
-use Rattle.plain.specs.Letters.{onward}
 use Rattle.plain.proofs.tail.onward.Statement.{statement}
 use Rattle.plain.proofs.tail.onward.Tie as tie
 

@@ -4,10 +4,10 @@ use native.Mathlib.Omega.{arith}
 use mathlib.Core.Path.{_≡_, _∙_, ap}
 use Prim.Native.Nat.{ℕ, _*_, _-_, _%_, _^_, _<_}
 use lib.Pow.{pow-lt}
-use Rattle.table.specs.Lanes.{laneWidth, inLane}
-use Rattle.table.proofs.BitSet.{one-shifted}
-use Rattle.table.proofs.Tabulate.{Holds, holds-none, holds-more, holds-all}
-use Rattle.plain.specs.Letters.{ownRow}
+use Rattle.base.proofs.BitSet.{one-shifted}
+use Rattle.base.proofs.Tabulate.{Holds, holds-none, holds-more, holds-all}
+use Rattle.rule.specs.inner.Lanes.{laneWidth, inLane}
+use Rattle.plain.specs.inner.Letters.{ownRow}
 use Rattle.plain.proofs.tail.own_rows.Statement.{statement}
 use Rattle.plain.proofs.tail.own_rows.Tie as tie
 

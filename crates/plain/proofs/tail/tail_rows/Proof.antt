@@ -4,11 +4,11 @@ use native.Mathlib.Omega.{arith}
 use mathlib.Core.Path.{_≡_, sym, _∙_, ap}
 use Prim.Native.Nat.{ℕ, _-_, _≤_, _<_}
 use lib.ListN.{length, drop, getD}
-use Rattle.table.specs.Lanes.{laneWidth}
-use Rattle.table.specs.Limits.{maxLetters}
-use Rattle.table.proofs.Every.{every-at}
-use Rattle.table.proofs.Tabulate.{getD-tabulate}
-use Rattle.plain.specs.Letters.{ownRow, rowAfter}
+use Rattle.base.proofs.Every.{every-at}
+use Rattle.base.proofs.Tabulate.{getD-tabulate}
+use Rattle.rule.specs.inner.Lanes.{laneWidth}
+use Rattle.rule.specs.Limits.{maxLetters}
+use Rattle.plain.specs.inner.Letters.{ownRow, rowAfter}
 use Rattle.plain.proofs.LetterLaws.{over-done, over-more}
 use Rattle.plain.proofs.tail.tail_rows.Statement.{statement}
 use Rattle.plain.proofs.tail.tail_rows.Tie as tie

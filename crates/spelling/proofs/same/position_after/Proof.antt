@@ -1,7 +1,7 @@
 -- The next position, or the tail's first.
 use borrow.Author.Needs.{needs}
 use borrow.Author.Tests.{lt-ltb, le-ltb}
-use Rattle.spelling.specs.Comparing.{wrapped}
+use Rattle.spelling.specs.inner.Comparing.{wrapped}
 use Rattle.spelling.proofs.same.position_after.Statement.{statement}
 use Rattle.spelling.proofs.same.position_after.Tie as tie
 

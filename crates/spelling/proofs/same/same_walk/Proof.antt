@@ -1,6 +1,6 @@
 -- Question 7 to each walk, then their letters.
 use borrow.Author.Needs.{needs}
-use Rattle.table.proofs.Tests.{told-no, told-yes}
+use Rattle.base.proofs.Tests.{told-no, told-yes}
 use Rattle.spelling.proofs.SameAnswers.{first-refused, second-refused, walks-compared}
 use Rattle.spelling.proofs.same.same_walk.Statement.{statement}
 use Rattle.spelling.proofs.same.same_walk.Tie as tie

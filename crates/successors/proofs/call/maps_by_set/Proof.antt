@@ -3,9 +3,9 @@ use borrow.Author.Needs.{needs}
 use native.Mathlib.Omega.{arith}
 use mathlib.Core.Path.{_≡_, _∙_, ap}
 use Prim.Native.Nat.{suc, _+_, _-_}
-use Rattle.table.specs.Limits.{maxSets}
-use Rattle.table.specs.Lanes.{mapOf}
-use Rattle.table.proofs.Tabulate.{Holds, holds-none, holds-more, holds-all}
+use Rattle.base.proofs.Tabulate.{Holds, holds-none, holds-more, holds-all}
+use Rattle.rule.specs.Limits.{maxSets}
+use Rattle.rule.specs.inner.Lanes.{mapOf}
 use Rattle.successors.proofs.call.maps_by_set.Statement.{statement}
 use Rattle.successors.proofs.call.maps_by_set.Tie as tie
 

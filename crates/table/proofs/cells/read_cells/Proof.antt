@@ -4,12 +4,12 @@ use mathlib.Core.List.{[]}
 use mathlib.Core.Path.{_≡_, _∙_}
 use borrow.Author.Needs.{needs}
 use lib.ListN.{drop, getD-replicate}
-use Rattle.table.specs.Limits.{maxLetters}
-use Rattle.table.specs.Held.{blankSquare, blankCells}
-use Rattle.table.specs.Lookup.{gridWords}
-use Rattle.table.specs.Cursor.{readSquare, readHeld}
+use Rattle.rule.specs.Limits.{maxLetters}
+use Rattle.rule.specs.inner.Padded.{blankSquare, blankCells}
+use Rattle.rule.specs.inner.Lookup.{gridWords}
+use Rattle.rule.proofs.RowWords.{words-at, words-stored}
+use Rattle.table.specs.inner.Cursor.{readSquare, readHeld}
 use Rattle.table.proofs.ManyReading.{ManySoFar, many-start, many-place, many-more, many-refused, many-done}
-use Rattle.table.proofs.RowWords.{words-at, words-stored}
 use Rattle.table.proofs.cells.read_cells.Statement.{statement}
 use Rattle.table.proofs.cells.read_cells.Tie as tie
 

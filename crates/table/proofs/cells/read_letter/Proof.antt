@@ -4,13 +4,13 @@ use mathlib.Core.List.{[]}
 use mathlib.Core.Path.{_≡_, _∙_}
 use borrow.Author.Needs.{needs}
 use lib.ListN.{drop, getD-replicate}
-use Rattle.table.specs.Limits.{maxStates}
-use Rattle.table.specs.Held.{blankRow, blankSquare}
+use Rattle.rule.specs.Limits.{maxStates}
+use Rattle.rule.specs.inner.Padded.{blankRow, blankSquare}
+use Rattle.rule.specs.inner.Lookup.{squareWords}
+use Rattle.rule.proofs.RowWords.{word-at, word-stored}
 use Rattle.table.specs.Table.{readCell}
-use Rattle.table.specs.Lookup.{squareWords}
-use Rattle.table.specs.Cursor.{readSquare}
+use Rattle.table.specs.inner.Cursor.{readSquare}
 use Rattle.table.proofs.ManyReading.{ManySoFar, many-start, many-place, many-more, many-refused, many-done}
-use Rattle.table.proofs.RowWords.{word-at, word-stored}
 use Rattle.table.proofs.cells.read_letter.Statement.{statement}
 use Rattle.table.proofs.cells.read_letter.Tie as tie
 

@@ -5,13 +5,13 @@ use native.Mathlib.Omega.{arith}
 use borrow.Author.Needs.{needs}
 use lib.ListN.{drop}
 use lib.Pow.{pow-mono}
-use Rattle.table.specs.Limits.{maxStates}
-use Rattle.table.specs.Lanes.{lanes, setLanes, spread}
+use Rattle.rule.specs.Limits.{maxStates}
+use Rattle.rule.specs.inner.Lanes.{lanes, setLanes, spread}
+use Rattle.rule.proofs.LaneLaws.{chosen-le}
+use Rattle.rule.proofs.RowWords.{WordSoFar, word-blank, word-start, word-take, word-done}
 use Rattle.table.specs.Table.{readRow}
 use Rattle.table.proofs.CellByte.{byte-below}
-use Rattle.table.proofs.LaneLaws.{chosen-le}
 use Rattle.table.proofs.RowReading.{RowSoFar, row-start, row-some, row-inside, row-take, row-refused, row-none, row-done}
-use Rattle.table.proofs.RowWords.{WordSoFar, word-blank, word-start, word-take, word-done}
 use Rattle.table.proofs.cells.read_row.Statement.{statement}
 use Rattle.table.proofs.cells.read_row.Tie as tie
 

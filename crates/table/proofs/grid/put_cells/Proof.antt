@@ -4,7 +4,7 @@ use mathlib.Core.Path.{_≡_}
 use native.Mathlib.Omega.{arith}
 use native.Mathlib.Nat.{suc-mul, mul-le-mul-right}
 use borrow.Author.Needs.{needs}
-use Rattle.table.proofs.Storing.{PiecesStored, pieces-start, pieces-next, pieces-size, pieces-done}
+use Rattle.base.proofs.Storing.{PiecesStored, pieces-start, pieces-next, pieces-size, pieces-done}
 use Rattle.table.proofs.GridWriting.{squaresUpTo, squares-none, squares-more}
 use Rattle.table.proofs.grid.put_cells.Statement.{statement}
 use Rattle.table.proofs.grid.put_cells.Tie as tie

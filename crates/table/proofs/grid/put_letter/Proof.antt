@@ -4,8 +4,8 @@ use mathlib.Core.Path.{_≡_}
 use native.Mathlib.Omega.{arith}
 use native.Mathlib.Nat.{suc-mul, mul-le-mul-right}
 use borrow.Author.Needs.{needs}
-use Rattle.table.specs.Held.{squareBytes}
-use Rattle.table.proofs.Storing.{PiecesStored, pieces-start, pieces-next, pieces-size, pieces-done}
+use Rattle.base.proofs.Storing.{PiecesStored, pieces-start, pieces-next, pieces-size, pieces-done}
+use Rattle.table.specs.inner.GridBytes.{squareBytes}
 use Rattle.table.proofs.GridWriting.{rowsUpTo, rows-none, rows-more}
 use Rattle.table.proofs.grid.put_letter.Statement.{statement}
 use Rattle.table.proofs.grid.put_letter.Tie as tie

@@ -5,7 +5,7 @@ use native.Mathlib.Omega.{arith}
 use borrow.Author.Needs.{needs}
 use lib.ListN.{take}
 use lib.Seq.{take-suc, length-take-le}
-use Rattle.table.proofs.Storing.{PiecesStored, pieces-start, pieces-byte, pieces-size, pieces-done}
+use Rattle.base.proofs.Storing.{PiecesStored, pieces-start, pieces-byte, pieces-size, pieces-done}
 use Rattle.table.proofs.grid.put_row.Statement.{statement}
 use Rattle.table.proofs.grid.put_row.Tie as tie
 

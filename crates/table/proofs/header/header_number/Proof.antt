@@ -2,9 +2,9 @@
 use borrow.Author.Needs.{needs}
 use native.Mathlib.Omega.{arith}
 use mathlib.Core.Path.{sym, _∙_}
-use Rattle.table.specs.Header.{headerNumber}
+use Rattle.base.proofs.Tests.{told-no, told-yes}
+use Rattle.table.specs.inner.Header.{headerNumber}
 use Rattle.table.proofs.Ranges.{in-range}
-use Rattle.table.proofs.Tests.{told-no, told-yes}
 use Rattle.table.proofs.header.header_number.Statement.{statement}
 use Rattle.table.proofs.header.header_number.Tie as tie
 

@@ -1,7 +1,7 @@
 -- Question 2: three ranges.
 use borrow.Author.Needs.{needs}
+use Rattle.base.proofs.Tests.{told-no, told-yes}
 use Rattle.table.specs.Table.{inRange}
-use Rattle.table.proofs.Tests.{told-no, told-yes}
 use Rattle.table.proofs.header.in_range.Statement.{statement}
 use Rattle.table.proofs.header.in_range.Tie as tie
 

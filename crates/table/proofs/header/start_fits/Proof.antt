@@ -5,7 +5,7 @@ use native.Mathlib.Omega.{arith}
 use borrow.Author.Tests.{eq-eqb, ne-eqb}
 use lib.Pow.{shl-exact}
 use native.Mathlib.Nat.{one-mul}
-use Rattle.table.specs.Table.{startFits}
+use Rattle.rule.specs.WellFormed.{startFits}
 use Rattle.table.proofs.header.start_fits.Statement.{statement}
 use Rattle.table.proofs.header.start_fits.Tie as tie
 

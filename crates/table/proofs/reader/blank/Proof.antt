@@ -1,6 +1,6 @@
 -- `blank` meets its contract: the words of blank cells are 0.
 use mathlib.Core.Path.{refl}
-use Rattle.table.proofs.RowWords.{words-blank}
+use Rattle.rule.proofs.RowWords.{words-blank}
 use Rattle.table.proofs.reader.blank.Statement.{statement}
 use Rattle.table.proofs.reader.blank.Tie as tie
 

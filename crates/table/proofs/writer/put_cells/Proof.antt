@@ -2,7 +2,7 @@
 use Prim.Native.Nat.{_-_}
 use native.Mathlib.Omega.{arith}
 use borrow.Author.Needs.{needs}
-use Rattle.table.proofs.Storing.{pieces-size}
+use Rattle.base.proofs.Storing.{pieces-size}
 use Rattle.table.proofs.TableWriting.{CellsStored, cells-start, row-end, row-length, cells-room, cells-next, cells-done}
 use Rattle.table.proofs.writer.put_cells.Statement.{statement}
 use Rattle.table.proofs.writer.put_cells.Tie as tie

@@ -4,8 +4,8 @@ use mathlib.Core.Path.{ap}
 use native.Mathlib.Omega.{arith}
 use borrow.Author.Needs.{needs}
 use lib.ListN.{length}
-use Rattle.table.proofs.Storing.{pieces-size}
-use Rattle.table.proofs.EachStored.{EachStored, each-start, each-room, each-byte, each-skip, each-done}
+use Rattle.base.proofs.Storing.{pieces-size}
+use Rattle.base.proofs.EachStored.{EachStored, each-start, each-room, each-byte, each-skip, each-done}
 use Rattle.table.proofs.RowWriting.{setByte, set-bytes-each, set-byte-none, set-byte-one}
 use Rattle.table.proofs.writer.put_sets.Statement.{statement}
 use Rattle.table.proofs.writer.put_sets.Tie as tie

@@ -2,8 +2,7 @@
 use mathlib.Core.Path.{sym, _∙_}
 use native.Mathlib.Omega.{arith}
 use borrow.Author.Needs.{needs}
-use Rattle.table.proofs.WriteOutcome.{header-range, rows-small, bytes-small, count-small}
-use Rattle.table.proofs.WriteOutcome.{length-header, length-size, length-misfit, length-exact}
+use Rattle.table.proofs.WriteOutcome.{header-range, rows-small, bytes-small, count-small, length-header, length-size, length-misfit, length-exact}
 use Rattle.table.proofs.writer.table_length.Statement.{statement}
 use Rattle.table.proofs.writer.table_length.Tie as tie
 

@@ -3,8 +3,8 @@ use borrow.Author.Needs.{needs}
 use native.Mathlib.Omega.{arith}
 use mathlib.Core.List.{[]}
 use Prim.Native.Nat.{ℕ}
-use Rattle.table.specs.Rule.{Rule}
-use Rattle.table.specs.Preparing.{PreparedLetter}
+use Rattle.rule.specs.Rule.{Rule}
+use Rattle.table.specs.inner.Preparing.{PreparedLetter}
 use Rattle.tree.proofs.StepCall.{TreeRead, tree-read, numbers-fit, step-no-tree, step-no-room, step-ready, step-next, step-recordable, step-done}
 use Rattle.tree.proofs.calls.step_prepared.Statement.{statement}
 use Rattle.tree.proofs.calls.step_prepared.Tie as tie

@@ -1,7 +1,7 @@
 -- The two comparisons of an active set.
 use borrow.Author.Needs.{needs}
 use borrow.Author.Tests.{lt-leb, le-leb}
-use Rattle.history.specs.RecordChecks.{activeFits}
+use Rattle.history.specs.inner.RecordChecks.{activeFits}
 use Rattle.tree.proofs.checks.active_fits.Statement.{statement}
 use Rattle.tree.proofs.checks.active_fits.Tie as tie
 

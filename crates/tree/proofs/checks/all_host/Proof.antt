@@ -3,8 +3,8 @@ use borrow.Author.Needs.{needs}
 use mathlib.Core.Path.{_≡_}
 use Prim.Native.Nat.{_<_}
 use native.Mathlib.Omega.{arith}
-use Rattle.table.proofs.Tests.{told-no, told-yes}
-use Rattle.history.specs.RecordChecks.{allHost}
+use Rattle.base.proofs.Tests.{told-no, told-yes}
+use Rattle.history.specs.inner.RecordChecks.{allHost}
 use Rattle.tree.proofs.ChecksInTurn.{all-from}
 use Rattle.tree.proofs.checks.all_host.Statement.{statement}
 use Rattle.tree.proofs.checks.all_host.Tie as tie
@@ -21,14 +21,14 @@ loop-holds c = search needs
 sub-left : tie.Need-sub-left Inv-loop μ-loop
 sub-left c = search needs
 
-is-host-requires : tie.Need-is-host-requires Inv-loop μ-loop
-is-host-requires c κs = search needs
+contains-requires : tie.Need-contains-requires Inv-loop μ-loop
+contains-requires c κs = search needs
 
 returns : tie.Need-returns Inv-loop μ-loop
 returns c =
     let turn = c .before .before in
     let some : 0 < turn .before .loop .left = omega arith in
-    rw (all-from _ _ some, told-no (c .before .is-host .ensures) (c .if1 .taken)) at (turn .before .loop .inv)
+    rw (all-from _ _ some, told-no (c .before .contains .ensures) (c .if1 .taken)) at (turn .before .loop .inv)
 
 loop-less : tie.Need-loop-less Inv-loop μ-loop
 loop-less c = search needs
@@ -37,7 +37,7 @@ loop-again : tie.Need-loop-again Inv-loop μ-loop
 loop-again c =
     let turn = c .before .before in
     let some : 0 < turn .before .loop .left = omega arith in
-    rw (all-from _ _ some, told-yes (c .before .is-host .ensures) (c .if1 .left)) at (turn .before .loop .inv)
+    rw (all-from _ _ some, told-yes (c .before .contains .ensures) (c .if1 .left)) at (turn .before .loop .inv)
 
 returns-2 : tie.Need-returns-2 Inv-loop μ-loop
 unfolding allHost
@@ -51,7 +51,7 @@ all-host-spec =
     μ-loop
     loop-holds
     sub-left
-    is-host-requires
+    contains-requires
     returns
     loop-less
     loop-again

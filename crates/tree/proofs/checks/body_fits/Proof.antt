@@ -2,9 +2,9 @@
 use borrow.Author.Needs.{needs}
 use mathlib.Core.Path.{sym}
 use lib.Seq.{length-take-le}
-use Rattle.table.proofs.Tests.{told-no, told-yes}
-use Rattle.history.specs.RecordChecks.{bodyFits}
-use Rattle.table.proofs.Parts.{to-end}
+use Rattle.base.proofs.Tests.{told-no, told-yes}
+use Rattle.base.proofs.Flattening.{to-end}
+use Rattle.history.specs.inner.RecordChecks.{bodyFits}
 use Rattle.tree.proofs.checks.body_fits.Statement.{statement}
 use Rattle.tree.proofs.checks.body_fits.Tie as tie
 
@@ -14,15 +14,15 @@ cast-states c = search needs
 sub-nodes : tie.Need-sub-nodes
 sub-nodes c = search needs
 
-slice-aggregate-hosts-below : tie.Need-slice-aggregate-hosts-below
-slice-aggregate-hosts-below c = sym (length-take-le _ _ (c .before .before .pre))
+slice-aggregate-all-below : tie.Need-slice-aggregate-all-below
+slice-aggregate-all-below c = sym (length-take-le _ _ (c .before .before .pre))
 
-hosts-below-requires : tie.Need-hosts-below-requires
-hosts-below-requires c κs = search needs
+all-below-requires : tie.Need-all-below-requires
+all-below-requires c κs = search needs
 
 returns : tie.Need-returns
 unfolding bodyFits
-returns c = rw (told-no (c .before .hosts-below .ensures) (c .if1 .taken))
+returns c = rw (told-no (c .before .all-below .ensures) (c .if1 .taken))
 
 slice-aggregate-all-host : tie.Need-slice-aggregate-all-host
 slice-aggregate-all-host c = sym (length-take-le _ _ (c .before .before .before .before .before .pre))
@@ -34,7 +34,7 @@ returns-2 : tie.Need-returns-2
 unfolding bodyFits
 returns-2 c =
     let numbers = c .before .before .before in
-    rw (told-yes (numbers .before .hosts-below .ensures) (numbers .if1 .left), told-no (c .before .all-host .ensures) (c .if2 .taken))
+    rw (told-yes (numbers .before .all-below .ensures) (numbers .if1 .left), told-no (c .before .all-host .ensures) (c .if2 .taken))
 
 sub-marks-fit : tie.Need-sub-marks-fit
 sub-marks-fit c = search needs
@@ -53,7 +53,7 @@ unfolding bodyFits
 returns-3 c =
     let each = c .before .before .before in
     let numbers = each .before .before in
-    rw (told-yes (numbers .before .hosts-below .ensures) (numbers .if1 .left), told-yes (each .all-host .ensures) (c .before .before .if2 .left))
+    rw (told-yes (numbers .before .all-below .ensures) (numbers .if1 .left), told-yes (each .all-host .ensures) (c .before .before .if2 .left))
     (rw to-end at (c .marks-fit .ensures))
 
 pub body-fits-spec : {M : Type 1} → statement M
@@ -62,8 +62,8 @@ body-fits-spec =
     (tie.spec
     cast-states
     sub-nodes
-    slice-aggregate-hosts-below
-    hosts-below-requires
+    slice-aggregate-all-below
+    all-below-requires
     returns
     slice-aggregate-all-host
     all-host-requires

@@ -1,8 +1,8 @@
 -- The root's mark, then those behind it.
 use borrow.Author.Needs.{needs}
 use borrow.Author.Tests.{eq-eqb, ne-eqb}
-use Rattle.table.proofs.Tests.{told-no, told-yes}
-use Rattle.table.proofs.Parts.{to-end}
+use Rattle.base.proofs.Tests.{told-no, told-yes}
+use Rattle.base.proofs.Flattening.{to-end}
 use Rattle.tree.proofs.ChecksInTurn.{fit-none, fit-parts}
 use Rattle.tree.proofs.checks.marks_fit.Statement.{statement}
 use Rattle.tree.proofs.checks.marks_fit.Tie as tie

@@ -3,7 +3,7 @@ use borrow.Author.Needs.{needs}
 use Prim.Native.Nat.{_-_}
 use native.Mathlib.Omega.{arith}
 use lib.ListN.{length}
-use Rattle.table.proofs.Tests.{told-no, told-yes}
+use Rattle.base.proofs.Tests.{told-no, told-yes}
 use Rattle.tree.proofs.ChecksInTurn.{MarksAhead, marks-start, marks-no-depth, marks-too-deep, marks-no-set, marks-next, marks-done}
 use Rattle.tree.proofs.checks.marks_follow.Statement.{statement}
 use Rattle.tree.proofs.checks.marks_follow.Tie as tie

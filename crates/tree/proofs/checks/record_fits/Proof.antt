@@ -4,8 +4,8 @@ use mathlib.Core.Path.{_∙_}
 use native.Mathlib.Omega.{arith}
 use lib.Count.{ones-le}
 use lib.ListN.{getD}
-use Rattle.table.proofs.BitSet.{one-shifted}
-use Rattle.table.proofs.Parts.{to-end}
+use Rattle.base.proofs.BitSet.{one-shifted}
+use Rattle.base.proofs.Flattening.{to-end}
 use Rattle.tree.proofs.ChecksInTurn.{checks-none, checks-dead, checks-large, checks-short, checks-body}
 use Rattle.tree.proofs.checks.record_fits.Statement.{statement}
 use Rattle.tree.proofs.checks.record_fits.Tie as tie

@@ -4,9 +4,9 @@ use Prim.Native.Nat.{_+_, _-_}
 use mathlib.Core.Path.{refl}
 use native.Mathlib.Omega.{arith}
 use lib.ListN.{length}
+use Rattle.base.proofs.Flattening.{to-end}
 use Rattle.history.specs.Record.{hostedIn}
-use Rattle.table.proofs.Parts.{to-end}
-use Rattle.tree.specs.PackedRows.{unpacked, rowsIn}
+use Rattle.tree.specs.inner.PackedRows.{unpacked, rowsIn}
 use Rattle.tree.proofs.PackedWords.{row-written}
 use Rattle.tree.proofs.ReadingInTurn.{deeper-few, RowsSoFar, rows-start, rows-next, rows-done}
 use Rattle.tree.proofs.reading.record_rows.Statement.{statement}

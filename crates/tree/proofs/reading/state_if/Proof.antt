@@ -1,7 +1,7 @@
 -- The set of a state, by the number of its host.
 use borrow.Author.Needs.{needs}
 use borrow.Author.Tests.{lt-leb, le-leb, lt-ltb, le-ltb}
-use Rattle.table.proofs.BitSet.{one-shifted}
+use Rattle.base.proofs.BitSet.{one-shifted}
 use Rattle.tree.proofs.reading.state_if.Statement.{statement}
 use Rattle.tree.proofs.reading.state_if.Tie as tie
 

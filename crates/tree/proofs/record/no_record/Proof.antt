@@ -1,10 +1,10 @@
 -- The dead tree, by computation.
 use mathlib.Core.Path.{refl}
-use Rattle.table.specs.Held.{pad}
-use Rattle.tree.specs.PackedRows.{unpacked}
-use Rattle.tree.specs.RecordCode.{treeBeside}
-use Rattle.tree.specs.RecordRows.{blankBehind}
-use Rattle.tree.specs.Rows.{rowsFrom, rowsOf}
+use Rattle.base.specs.Lists.{pad}
+use Rattle.tree.specs.inner.PackedRows.{unpacked}
+use Rattle.tree.specs.inner.RecordCode.{treeBeside}
+use Rattle.tree.specs.inner.RecordRows.{blankBehind}
+use Rattle.tree.specs.inner.Rows.{rowsFrom, rowsOf}
 use Rattle.tree.proofs.record.no_record.Statement.{statement}
 use Rattle.tree.proofs.record.no_record.Tie as tie
 

@@ -4,7 +4,7 @@ use native.Mathlib.Nat.{one-mul}
 use borrow.Author.Needs.{needs}
 use lib.Bits.{bitOr}
 use lib.Pow.{shl-exact}
-use Rattle.tree.specs.Pass.{joinedIf}
+use Rattle.tree.specs.inner.Pass.{joinedIf}
 use Rattle.tree.proofs.step.joined_if.Statement.{statement}
 use Rattle.tree.proofs.step.joined_if.Tie as tie
 

@@ -1,7 +1,7 @@
 -- `meet` meets its contract: two look-ups and two differences.
 use borrow.Author.Needs.{needs}
-use Rattle.table.specs.Lookup.{lookUp}
-use Rattle.tree.specs.Pass.{metBy}
+use Rattle.rule.specs.inner.Lookup.{lookUp}
+use Rattle.tree.specs.inner.Pass.{metBy}
 use Rattle.tree.proofs.step.meet.Statement.{statement}
 use Rattle.tree.proofs.step.meet.Tie as tie
 

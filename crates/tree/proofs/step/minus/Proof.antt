@@ -1,6 +1,6 @@
 -- `minus` meets its contract: the difference is the exclusive or with the intersection.
 use borrow.Author.Needs.{needs}
-use Rattle.table.specs.BitSet.{minus}
+use Rattle.base.specs.BitSet.{minus}
 use Rattle.tree.proofs.step.minus.Statement.{statement}
 use Rattle.tree.proofs.step.minus.Tie as tie
 

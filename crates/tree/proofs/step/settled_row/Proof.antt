@@ -1,7 +1,7 @@
 -- `settled_row` meets its contract, by step 4's test.
 use borrow.Author.Tests.{eq-eqb, ne-eqb}
 use borrow.Author.Needs.{needs}
-use Rattle.tree.specs.Pass.{settledRow}
+use Rattle.tree.specs.inner.Pass.{settledRow}
 use Rattle.tree.proofs.step.settled_row.Statement.{statement}
 use Rattle.tree.proofs.step.settled_row.Tie as tie
 

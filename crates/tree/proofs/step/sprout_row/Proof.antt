@@ -1,6 +1,6 @@
 -- `sprout_row` meets its contract.
 use borrow.Author.Needs.{needs}
-use Rattle.tree.specs.Pass.{sproutRow}
+use Rattle.tree.specs.inner.Pass.{sproutRow}
 use Rattle.tree.proofs.step.sprout_row.Statement.{statement}
 use Rattle.tree.proofs.step.sprout_row.Tie as tie
 

@@ -7,10 +7,9 @@ use borrow.Author.Needs.{needs}
 use borrow.Author.Tests.{ltb-true, ltb-false}
 use mathlib.Core.List.{[]}
 use lib.ListN.{getD}
-use Rattle.tree.specs.Pass.{blankRow, levelsOf}
-use Rattle.tree.specs.PackedRows.{rowsIn}
-use Rattle.tree.proofs.PassLoop.{row-left, set-fits, close-none, close-some, row-skipped, row-removed, row-kept}
-use Rattle.tree.proofs.PassLoop.{OnSides, sides-start, side-read, sides-kept, sides-written, sides-done}
+use Rattle.tree.specs.inner.Pass.{blankRow, levelsOf}
+use Rattle.tree.specs.inner.PackedRows.{rowsIn}
+use Rattle.tree.proofs.PassLoop.{row-left, set-fits, close-none, close-some, row-skipped, row-removed, row-kept, OnSides, sides-start, side-read, sides-kept, sides-written, sides-done}
 use Rattle.tree.proofs.step.step_rows.Statement.{statement}
 use Rattle.tree.proofs.step.step_rows.Tie as tie
 use Rattle.tree.proofs.step.step_rows.Reads as reads

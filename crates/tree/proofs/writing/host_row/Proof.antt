@@ -4,7 +4,7 @@ use mathlib.Core.Path.{sym, _∙_}
 use mathlib.Core.List.{List, []}
 use Prim.Native.Nat.{ℕ, _-_}
 use lib.ListN.{getD}
-use Rattle.tree.specs.Sides.{treeOn}
+use Rattle.tree.specs.inner.Sides.{treeOn}
 use Rattle.tree.proofs.PackedWords.{row-read}
 use Rattle.tree.proofs.TreeRows.{side-rows}
 use Rattle.tree.proofs.WritingInTurn.{HostAhead, host-start, host-found, host-next, host-none}

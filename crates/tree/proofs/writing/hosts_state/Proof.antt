@@ -1,7 +1,7 @@
 -- Two bits.
 use borrow.Author.Needs.{needs}
 use borrow.Author.Tests.{eq-eqb, ne-eqb}
-use Rattle.table.specs.BitSet.{member}
+use Rattle.base.specs.BitSet.{member}
 use Rattle.tree.proofs.writing.hosts_state.Statement.{statement}
 use Rattle.tree.proofs.writing.hosts_state.Tie as tie
 

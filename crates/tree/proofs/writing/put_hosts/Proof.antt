@@ -2,9 +2,9 @@
 use borrow.Author.Needs.{needs}
 use Prim.Native.Nat.{_-_}
 use native.Mathlib.Omega.{arith}
-use Rattle.table.proofs.Storing.{pieces-size}
-use Rattle.tree.specs.PackedRows.{countedRows}
-use Rattle.tree.specs.Sides.{treeOn}
+use Rattle.base.proofs.Storing.{pieces-size}
+use Rattle.tree.specs.inner.PackedRows.{countedRows}
+use Rattle.tree.specs.inner.Sides.{treeOn}
 use Rattle.tree.proofs.WritingInTurn.{HostsStored, hosts-start, hosts-skip, hosts-fits, hosts-put, hosts-done}
 use Rattle.tree.proofs.writing.put_hosts.Statement.{statement}
 use Rattle.tree.proofs.writing.put_hosts.Tie as tie

@@ -4,8 +4,8 @@ use mathlib.Core.List.{List, []}
 use Prim.Native.Nat.{ℕ, _+_, _-_, _*_, _<_}
 use native.Mathlib.Omega.{arith}
 use lib.ListN.{getD}
-use Rattle.table.proofs.Storing.{pieces-size}
-use Rattle.tree.specs.Sides.{treeOn}
+use Rattle.base.proofs.Storing.{pieces-size}
+use Rattle.tree.specs.inner.Sides.{treeOn}
 use Rattle.tree.proofs.PackedWords.{row-read}
 use Rattle.tree.proofs.TreeRows.{side-rows}
 use Rattle.tree.proofs.WritingInTurn.{MarksStored, marks-start, mark-small, marks-fits, marks-put, marks-done}

@@ -3,8 +3,8 @@ use borrow.Author.Needs.{needs}
 use mathlib.Core.Path.{_≡_, _∙_}
 use native.Mathlib.Omega.{arith}
 use lib.ListN.{getD, length-set}
-use Rattle.tree.specs.PackedRows.{rowsIn}
-use Rattle.tree.specs.Pass.{blankRow}
+use Rattle.tree.specs.inner.PackedRows.{rowsIn}
+use Rattle.tree.specs.inner.Pass.{blankRow}
 use Rattle.tree.proofs.PackedWords.{row-read, rows-many}
 use Rattle.tree.proofs.WritingInTurn.{record-dead, root-small, marks-room-left, record-live}
 use Rattle.tree.proofs.writing.put_record.Statement.{statement}

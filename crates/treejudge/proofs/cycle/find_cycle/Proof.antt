@@ -4,14 +4,13 @@ use native.Mathlib.Omega.{arith}
 use mathlib.Core.Path.{refl, sym, _∙_}
 use mathlib.Core.List.{List}
 use Prim.Native.Nat.{ℕ, _+_, _-_, _^_}
-use Rattle.table.specs.Rule.{Rule}
-use Rattle.tree.specs.Sides.{treeOn, Stands}
-use Rattle.treejudge.specs.Names.{Followable}
-use Rattle.treejudge.specs.Cycles.{AtRound, FirstRound, CycleFound}
+use Rattle.rule.specs.Rule.{Rule}
+use Rattle.tree.specs.inner.Sides.{treeOn, Stands}
+use Rattle.treejudge.specs.inner.Names.{Followable}
+use Rattle.treejudge.specs.inner.Cycles.{AtRound, FirstRound, CycleFound}
 use Rattle.treejudge.proofs.LettersRead.{laid-first}
 use Rattle.treejudge.proofs.RoundsRead.{both-small}
-use Rattle.treejudge.proofs.CycleSearch.{Searching, search-start, search-follows, lam-fits, search-measure, search-small}
-use Rattle.treejudge.proofs.CycleSearch.{search-next, search-found, search-more, power-fits, search-reset}
+use Rattle.treejudge.proofs.CycleSearch.{Searching, search-start, search-follows, lam-fits, search-measure, search-small, search-next, search-found, search-more, power-fits, search-reset}
 use Rattle.treejudge.proofs.cycle.find_cycle.Statement.{statement}
 use Rattle.treejudge.proofs.cycle.find_cycle.Tie as tie
 

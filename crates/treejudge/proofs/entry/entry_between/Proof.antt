@@ -5,10 +5,10 @@ use native.Mathlib.Omega.{arith}
 use mathlib.Core.Path.{sym, _∙_}
 use mathlib.Core.List.{List}
 use Prim.Native.Nat.{ℕ, _-_}
-use Rattle.table.specs.Rule.{Rule}
-use Rattle.tree.specs.Sides.{treeOn, Stands}
-use Rattle.treejudge.specs.Reading.{Readable}
-use Rattle.treejudge.specs.Cycles.{Bracket, Bracketed, EntryBetween}
+use Rattle.rule.specs.Rule.{Rule}
+use Rattle.tree.specs.inner.Sides.{treeOn, Stands}
+use Rattle.treejudge.specs.inner.Reading.{Readable}
+use Rattle.treejudge.specs.inner.Cycles.{Bracket, Bracketed, EntryBetween}
 use Rattle.treejudge.proofs.LettersRead.{laid-first}
 use Rattle.treejudge.proofs.RoundsRead.{round-reads, both-small}
 use Rattle.treejudge.proofs.EntrySearch.{entry-here, entry-later, bracket-more}

@@ -1,6 +1,6 @@
 -- `find_entry` meets its contract: the search for the entry begins at t(0), or at t(half) for a period no longer than `half`.
 use native.Mathlib.Omega.{arith}
-use Rattle.treejudge.specs.Cycles.{SomeRound, TwoRounds, Bracketed, EntryBetween, SearchDone, EntryFound}
+use Rattle.treejudge.specs.inner.Cycles.{SomeRound, TwoRounds, Bracketed, EntryBetween, SearchDone, EntryFound}
 use Rattle.treejudge.proofs.EntrySearch.{held-place, before-place, bracket-first, entry-from-half, half-place, bracket-half}
 use Rattle.treejudge.proofs.entry.find_entry.Statement.{statement}
 use Rattle.treejudge.proofs.entry.find_entry.Tie as tie

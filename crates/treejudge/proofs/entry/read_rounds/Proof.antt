@@ -4,10 +4,10 @@ use native.Mathlib.Omega.{arith}
 use mathlib.Core.Path.{_≡_}
 use mathlib.Core.List.{List}
 use Prim.Native.Nat.{ℕ, _+_, _-_, _≤_}
-use Rattle.table.specs.Rule.{Rule}
-use Rattle.tree.specs.Sides.{treeOn, Stands}
-use Rattle.treejudge.specs.Reading.{Readable}
-use Rattle.treejudge.specs.Cycles.{AtRound, SomeRound, Ahead}
+use Rattle.rule.specs.Rule.{Rule}
+use Rattle.tree.specs.inner.Sides.{treeOn, Stands}
+use Rattle.treejudge.specs.inner.Reading.{Readable}
+use Rattle.treejudge.specs.inner.Cycles.{AtRound, SomeRound, Ahead}
 use Rattle.treejudge.proofs.LettersRead.{laid-first}
 use Rattle.treejudge.proofs.RoundsRead.{round-reads, round-read}
 use Rattle.treejudge.proofs.entry.read_rounds.Statement.{statement}

@@ -1,7 +1,7 @@
 -- `read_to` meets its contract: the place is as many rounds further as are read.
 use borrow.Author.Needs.{needs}
 use native.Mathlib.Omega.{arith}
-use Rattle.treejudge.specs.Cycles.{SomeRound, TwoRounds, ReadTo}
+use Rattle.treejudge.specs.inner.Cycles.{SomeRound, TwoRounds, ReadTo}
 use Rattle.treejudge.proofs.RoundsRead.{rounds-read}
 use Rattle.treejudge.proofs.entry.read_to.Statement.{statement}
 use Rattle.treejudge.proofs.entry.read_to.Tie as tie

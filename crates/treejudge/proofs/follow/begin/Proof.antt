@@ -2,7 +2,7 @@
 use borrow.Author.Needs.{needs}
 use native.Mathlib.Omega.{arith}
 use lib.Pow.{pow-pos}
-use Rattle.table.proofs.BitSet.{one-shifted}
+use Rattle.base.proofs.BitSet.{one-shifted}
 use Rattle.treejudge.proofs.follow.begin.Statement.{statement}
 use Rattle.treejudge.proofs.follow.begin.Tie as tie
 

@@ -5,8 +5,8 @@ use mathlib.Core.List.{[]}
 use Prim.Native.Nat.{_-_, _≤_}
 use native.Mathlib.Omega.{arith}
 use lib.ListN.{getD}
-use Rattle.table.specs.BitSet.{collect}
-use Rattle.tree.specs.PackedRows.{rowsIn}
+use Rattle.base.specs.BitSet.{collect}
+use Rattle.tree.specs.inner.PackedRows.{rowsIn}
 use Rattle.tree.proofs.PackedWords.{row-read}
 use Rattle.tree.proofs.TreeRows.{side-rows}
 use Rattle.treejudge.proofs.MapsCarried.{carriedTo, bothTo, both-more, both-all}

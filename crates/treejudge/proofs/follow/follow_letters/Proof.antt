@@ -3,10 +3,9 @@ use borrow.Author.Needs.{needs}
 use Prim.Native.Nat.{_-_}
 use native.Mathlib.Omega.{arith}
 use lib.ListN.{length}
-use Rattle.tree.specs.Sides.{treeOn}
+use Rattle.tree.specs.inner.Sides.{treeOn}
 use Rattle.treejudge.proofs.LettersRead.{letter-small}
-use Rattle.treejudge.proofs.NamesFollowed.{FollowedUpTo, followed-reads, followed-none, followed-ready}
-use Rattle.treejudge.proofs.NamesFollowed.{followed-few, followed-more, followed-all}
+use Rattle.treejudge.proofs.NamesFollowed.{FollowedUpTo, followed-reads, followed-none, followed-ready, followed-few, followed-more, followed-all}
 use Rattle.treejudge.proofs.follow.follow_letters.Statement.{statement}
 use Rattle.treejudge.proofs.follow.follow_letters.Tie as tie
 

@@ -2,13 +2,13 @@
 use borrow.Author.Needs.{needs}
 use native.Mathlib.Omega.{arith}
 use mathlib.Core.List.{[]}
-use Rattle.table.specs.Rule.{Rule}
-use Rattle.word.specs.Prepared.{Prepared}
+use Rattle.rule.specs.Rule.{Rule}
+use Rattle.word.specs.inner.Prepared.{Prepared}
 use Rattle.history.specs.Tree.{startTree}
-use Rattle.tree.specs.Sides.{treeOn}
-use Rattle.treejudge.specs.Reading.{Reads, Readable, ReadsTo}
-use Rattle.treejudge.specs.Cycles.{AtRound, FirstRound}
-use Rattle.treejudge.specs.Repeats.{RepeatFound}
+use Rattle.tree.specs.inner.Sides.{treeOn}
+use Rattle.treejudge.specs.inner.Reading.{Reads, Readable, ReadsTo}
+use Rattle.treejudge.specs.inner.Cycles.{AtRound, FirstRound}
+use Rattle.treejudge.specs.inner.Repeats.{RepeatFound}
 use Rattle.treejudge.proofs.LettersRead.{laid-first, reads-taken}
 use Rattle.treejudge.proofs.Judging.{sets-small, lead-reads, first-round, says-no, some-node, says-yes}
 use Rattle.treejudge.proofs.judge.judge_walk.Statement.{statement}

@@ -3,7 +3,7 @@ use borrow.Author.Needs.{needs}
 use Prim.Native.Nat.{_-_}
 use native.Mathlib.Omega.{arith}
 use lib.ListN.{length}
-use Rattle.tree.specs.Sides.{treeOn}
+use Rattle.tree.specs.inner.Sides.{treeOn}
 use Rattle.treejudge.proofs.LettersRead.{ReadUpTo, letter-small, upto-none, upto-ready, upto-more, upto-all}
 use Rattle.treejudge.proofs.letters.read_letters.Statement.{statement}
 use Rattle.treejudge.proofs.letters.read_letters.Tie as tie

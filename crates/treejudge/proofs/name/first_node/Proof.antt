@@ -2,7 +2,7 @@
 use borrow.Author.Needs.{needs}
 use borrow.Author.Tests.{eqb-true, eqb-false}
 use Prim.Native.Nat.{_-_}
-use Rattle.table.specs.Limits.{maxStates}
+use Rattle.rule.specs.Limits.{maxStates}
 use Rattle.treejudge.proofs.NodeNames.{NoneBefore, none-start, none-next, lowest-here, lowest-none}
 use Rattle.treejudge.proofs.name.first_node.Statement.{statement}
 use Rattle.treejudge.proofs.name.first_node.Tie as tie

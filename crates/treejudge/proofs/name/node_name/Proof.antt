@@ -3,13 +3,12 @@ use borrow.Author.Needs.{needs}
 use mathlib.Core.Path.{_≡_, refl, ap}
 use Prim.Native.Nat.{_+_, _-_}
 use lib.ListN.{getD}
-use Rattle.tree.specs.PackedRows.{rowsIn}
-use Rattle.tree.specs.Pass.{blankRow}
+use Rattle.tree.specs.inner.PackedRows.{rowsIn}
+use Rattle.tree.specs.inner.Pass.{blankRow}
 use Rattle.tree.specs.declared.rows.Row.{Row}
 use Rattle.tree.proofs.PackedWords.{row-read}
 use native.Mathlib.Omega.{arith}
-use Rattle.treejudge.proofs.NodeNames.{NamedSoFar, name-start, node-few, depth-low, depth-short, number-small}
-use Rattle.treejudge.proofs.NodeNames.{name-beside, name-deeper, name-done}
+use Rattle.treejudge.proofs.NodeNames.{NamedSoFar, name-start, node-few, depth-low, depth-short, number-small, name-beside, name-deeper, name-done}
 use Rattle.treejudge.proofs.name.node_name.Statement.{statement}
 use Rattle.treejudge.proofs.name.node_name.Tie as tie
 

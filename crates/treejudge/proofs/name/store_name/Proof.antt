@@ -5,8 +5,8 @@ use Prim.Native.Nat.{_-_}
 use native.Mathlib.Omega.{arith}
 use lib.ListN.{length, take}
 use lib.Seq.{take-suc}
-use Rattle.table.specs.Limits.{maxStates}
-use Rattle.table.proofs.Storing.{PiecesStored, pieces-start, pieces-byte, pieces-size, pieces-done}
+use Rattle.base.proofs.Storing.{PiecesStored, pieces-start, pieces-byte, pieces-size, pieces-done}
+use Rattle.rule.specs.Limits.{maxStates}
 use Rattle.treejudge.proofs.name.store_name.Statement.{statement}
 use Rattle.treejudge.proofs.name.store_name.Tie as tie
 

@@ -3,16 +3,15 @@ use borrow.Author.Needs.{needs}
 use mathlib.Core.Logic.{⊎-elim}
 use mathlib.Core.Path.{sym, _∙_}
 use mathlib.Core.List.{[]}
-use Rattle.table.proofs.Tests.{told-yes}
-use Rattle.tree.specs.Sides.{treeOn}
+use Rattle.base.proofs.Tests.{told-yes}
+use Rattle.tree.specs.inner.Sides.{treeOn}
 use Rattle.tree.proofs.TreeRows.{tree-small}
-use Rattle.treejudge.specs.Reading.{Readable, ReadsTo}
-use Rattle.treejudge.specs.Names.{allKept, Followable, FollowsTo}
-use Rattle.treejudge.specs.Cycles.{FirstRound}
-use Rattle.treejudge.specs.Repeats.{RepeatFound}
+use Rattle.treejudge.specs.inner.Reading.{Readable, ReadsTo}
+use Rattle.treejudge.specs.inner.Names.{allKept, Followable, FollowsTo}
+use Rattle.treejudge.specs.inner.Cycles.{FirstRound}
+use Rattle.treejudge.specs.inner.Repeats.{RepeatFound}
 use Rattle.treejudge.proofs.LettersRead.{laid-first, reads-taken}
-use Rattle.treejudge.proofs.RepeatSearch.{head-reads, cut-holds, rest-follows, head-follows, second-holds}
-use Rattle.treejudge.proofs.RepeatSearch.{again-holds, repeat-still, repeat-moved}
+use Rattle.treejudge.proofs.RepeatSearch.{head-reads, cut-holds, rest-follows, head-follows, second-holds, again-holds, repeat-still, repeat-moved}
 use Rattle.treejudge.proofs.repeat.early_repeat.Statement.{statement}
 use Rattle.treejudge.proofs.repeat.early_repeat.Tie as tie
 

@@ -2,8 +2,8 @@
 use borrow.Author.Needs.{needs}
 use native.Mathlib.Omega.{arith}
 use Rattle.word.specs.Walk.{lettersLeft}
-use Rattle.treejudge.specs.Cycles.{FirstRound, SearchDone}
-use Rattle.treejudge.specs.Repeats.{RepeatFound}
+use Rattle.treejudge.specs.inner.Cycles.{FirstRound, SearchDone}
+use Rattle.treejudge.specs.inner.Repeats.{RepeatFound}
 use Rattle.treejudge.proofs.RepeatSearch.{two-parts, searched, repeat-searched}
 use Rattle.treejudge.proofs.repeat.find_repeat.Statement.{statement}
 use Rattle.treejudge.proofs.repeat.find_repeat.Tie as tie

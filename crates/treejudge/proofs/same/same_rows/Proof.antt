@@ -3,10 +3,10 @@ use borrow.Author.Needs.{needs}
 use mathlib.Core.Path.{_≡_, refl}
 use Prim.Native.Nat.{_-_}
 use lib.ListN.{length}
-use Rattle.tree.specs.PackedRows.{rowsIn}
-use Rattle.tree.specs.RecordRows.{places}
+use Rattle.base.proofs.Tests.{told-no, told-yes}
+use Rattle.tree.specs.inner.PackedRows.{rowsIn}
+use Rattle.tree.specs.inner.RecordRows.{places}
 use Rattle.tree.proofs.PackedWords.{row-read, rows-many}
-use Rattle.table.proofs.Tests.{told-no, told-yes}
 use Rattle.treejudge.proofs.SameTrees.{SameBefore, same-start, same-not, same-next, same-done}
 use Rattle.treejudge.proofs.same.same_rows.Statement.{statement}
 use Rattle.treejudge.proofs.same.same_rows.Tie as tie

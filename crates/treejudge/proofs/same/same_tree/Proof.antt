@@ -2,7 +2,7 @@
 use borrow.Author.Needs.{needs}
 use mathlib.Core.Path.{_≡_, _∙_}
 use lib.ListN.{length, length-map}
-use Rattle.tree.specs.RecordRows.{places}
+use Rattle.tree.specs.inner.RecordRows.{places}
 use Rattle.tree.proofs.PackedWords.{rows-many}
 use Rattle.tree.proofs.TreeRows.{side-rows}
 use Rattle.treejudge.proofs.SameTrees.{counts-differ}

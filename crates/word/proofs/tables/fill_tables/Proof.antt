@@ -4,7 +4,7 @@ use Prim.Native.Nat.{_-_, _<_}
 use native.Mathlib.Omega.{arith}
 use lib.Bits.{and-le-r}
 use lib.Count.{trailingZeros}
-use Rattle.table.specs.Limits.{maxLetters}
+use Rattle.rule.specs.Limits.{maxLetters}
 use Rattle.word.proofs.WalkTables.{TablesBut, tables-none, letter-inside, tables-more, tables-end}
 use Rattle.word.proofs.tables.fill_tables.Statement.{statement}
 use Rattle.word.proofs.tables.fill_tables.Tie as tie

@@ -3,8 +3,8 @@ use borrow.Author.Needs.{needs}
 use Prim.Native.Nat.{_-_, _%_}
 use native.Mathlib.Omega.{arith}
 use lib.ListN.{length, getD}
-use Rattle.table.specs.Limits.{maxLetters}
-use Rattle.table.proofs.BitSet.{one-shifted}
+use Rattle.base.proofs.BitSet.{one-shifted}
+use Rattle.rule.specs.Limits.{maxLetters}
 use Rattle.word.proofs.WalkTables.{LettersUpTo, letters-none, letters-next, letters-end}
 use Rattle.word.proofs.tables.occurring.Statement.{statement}
 use Rattle.word.proofs.tables.occurring.Tie as tie

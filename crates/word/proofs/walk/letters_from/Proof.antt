@@ -4,7 +4,7 @@ use mathlib.Core.Path.{sym, _∙_}
 use native.Mathlib.Omega.{arith}
 use lib.ListN.{length, drop-of-length-le}
 use lib.Seq.{drop-length}
-use Rattle.table.proofs.Parts.{to-end}
+use Rattle.base.proofs.Flattening.{to-end}
 use Rattle.word.proofs.walk.letters_from.Statement.{statement}
 use Rattle.word.proofs.walk.letters_from.Tie as tie
 

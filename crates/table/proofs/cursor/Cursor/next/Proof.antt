@@ -1,7 +1,7 @@
 -- The cursor tells the byte at its place, or the end.
 use borrow.Author.Needs.{needs}
 use borrow.Author.Tests.{lt-ltb, le-ltb}
-use Rattle.table.specs.Cursor.{byteAt}
+use Rattle.table.specs.inner.Cursor.{byteAt}
 use Rattle.table.proofs.cursor.Cursor.next.Statement.{statement}
 use Rattle.table.proofs.cursor.Cursor.next.Tie as tie
 

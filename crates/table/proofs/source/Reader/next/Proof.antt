@@ -41,8 +41,8 @@ use denote.Triple.Table.{entered, cited}
 use denote.Triple.Walked.{says, Stays, stay-none, walkOf, goes-none, Walks, ends-at, walked, walk-meets}
 use denote.Exit.{yes}
 use denote.Triple.Clauses.{ensured, lasts}
-use Rattle.table.specs.Outcome.{Outcome}
-use Rattle.table.specs.Cursor.{byteAt, nextAs}
+use Rattle.base.specs.Outcome.{Outcome}
+use Rattle.table.specs.inner.Cursor.{byteAt, nextAs}
 use Rattle.table.specs.declared.source.Reader.{Reader}
 use Rattle.table.specs.declared.cursor.Cursor.{Cursor}
 use Rattle.table.specs.declared.cursor.Next.{Next}

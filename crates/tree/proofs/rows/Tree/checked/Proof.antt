@@ -7,9 +7,9 @@ use native.Mathlib.Omega.{arith}
 use lib.Count.{ones}
 use lib.Dec.{leb}
 use lib.ListN.{length, getD}
-use Rattle.table.specs.Limits.{maxSets, maxStates}
-use Rattle.table.proofs.Tests.{told-no, told-yes}
-use Rattle.table.proofs.Parts.{to-end}
+use Rattle.base.proofs.Tests.{told-no, told-yes}
+use Rattle.base.proofs.Flattening.{to-end}
+use Rattle.rule.specs.Limits.{maxSets, maxStates}
 use Rattle.tree.proofs.RowsOfRecord.{passed-long, passed-parts, checked-yes, checked-no, behind-first, limits-no, limits-fit, limits-yes}
 use Rattle.tree.proofs.rows.Tree.checked.Statement.{statement}
 use Rattle.tree.proofs.rows.Tree.checked.Tie as tie

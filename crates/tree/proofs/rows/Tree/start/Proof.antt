@@ -1,9 +1,9 @@
 -- The starting tree: one row in front of blank ones.
 use borrow.Author.Needs.{needs}
 use mathlib.Core.Path.{refl}
-use Rattle.table.specs.Held.{pad}
-use Rattle.tree.specs.PackedRows.{unpacked}
-use Rattle.tree.specs.RecordRows.{startRows, blankBehind}
+use Rattle.base.specs.Lists.{pad}
+use Rattle.tree.specs.inner.PackedRows.{unpacked}
+use Rattle.tree.specs.inner.RecordRows.{startRows, blankBehind}
 use Rattle.tree.proofs.rows.Tree.start.Statement.{statement}
 use Rattle.tree.proofs.rows.Tree.start.Tie as tie
 

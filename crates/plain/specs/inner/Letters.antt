@@ -1,0 +1,36 @@
+-- Letters read by their tables, inside the plain judge: the states that they lead to, and the ways that they open.
+use mathlib.Core.Bool.{cond}
+use mathlib.Core.List.{List, [], _∷_}
+use Prim.Native.Nat.{ℕ, suc, _^_}
+use lib.Bits.{bitOr}
+use lib.Dec.{eqb}
+use lib.ListN.{getD}
+use Rattle.rule.specs.inner.Lanes.{mapOf, wordOf, inLane}
+use Rattle.rule.specs.Limits.{maxSets}
+use Rattle.rule.specs.inner.Lookup.{LetterTable, imagesBy, lookUp}
+use Rattle.word.specs.inner.WalkTables.{Tables}
+
+-- what f, which takes a letter's table, makes of x, letter by letter
+unfoldable pub over : (LetterTable → ℕ → ℕ) → Tables → List ℕ → ℕ → ℕ
+over f tables [] x = x
+over f tables (a ∷ w) x = over f tables w (f (getD tables a []) x)
+
+-- the states that the letters lead to
+unfoldable pub statesAfter : Tables → List ℕ → ℕ → ℕ
+statesAfter = over (λ table states. lookUp table 0 states)
+
+-- where any transition of a letter leads to from the states s; from none nowhere, whatever the table
+unfoldable pub onward : LetterTable → ℕ → ℕ
+onward table s = cond (eqb s 0) 0 (lookUp table 0 s)
+
+-- the row of no letter: state s leads to itself, and no transition is taken
+unfoldable pub ownRow : ℕ → ℕ
+ownRow s = inLane (2 ^ s) 0
+
+-- a row with a letter behind its ways: for set i the letter's transition is one of it, or the way before it takes one
+unfoldable pub extended : LetterTable → ℕ → ℕ
+extended table row = bitOr (imagesBy table (mapOf row 0)) (wordOf (suc maxSets) (λ i. onward table (mapOf row i)))
+
+-- and with the letters
+unfoldable pub rowAfter : Tables → List ℕ → ℕ → ℕ
+rowAfter = over extended
