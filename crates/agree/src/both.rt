@@ -27,8 +27,8 @@ pub fn judge_both<'a>(
     ensures { λ r. ⌜ BothAnswer (now (table .entry)) (now (u .entry)) (now (v .entry)) (now (names .entry)) (now (scratch .entry))
         r (now (names .exit)) (now (scratch .exit)) ⌝ }
 {
-    let mut tables = [[0u64; ENTRIES]; LETTERS];
-    match walk_questions(table, u, v, &mut tables) {
+    let mut lookups = [[0u64; ENTRIES]; LETTERS];
+    match walk_questions(table, u, v, &mut lookups) {
         Reading::Refused(number) => {
             let tree = tree_refusal(number);
             let plain = plain_refusal(number);
@@ -38,8 +38,8 @@ pub fn judge_both<'a>(
             }
         }
         Reading::Rule(header) => {
-            let tree = treejudge::judge::judge_prepared(&tables, header, u, v, names);
-            let plain = plain::judge::judge_prepared(&tables, header, u, v, scratch);
+            let tree = treejudge::judge::judge_prepared(&lookups, header, u, v, names);
+            let plain = plain::judge::judge_prepared(&lookups, header, u, v, scratch);
             BothAnswers {
                 tree: tree,
                 plain: plain,

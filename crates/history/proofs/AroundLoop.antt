@@ -13,10 +13,10 @@ use Rattle.base.specs.BitSet.{member}
 use Rattle.rule.specs.Rule.{Rule, edge, edgeIn}
 use Rattle.rule.proofs.Edges.{member-edgeIn}
 use Rattle.word.specs.Walk.{letterAt, rounds}
-use Rattle.word.specs.Loop.{Leads}
+use Rattle.word.specs.Lasso.{Leads}
 use Rattle.word.proofs.Paths.{rounds-add, leads-append, leads-repeat}
 use Rattle.word.proofs.Periods.{Periodic}
-use Rattle.word.proofs.Positions.{letter-cycle, letter-unrolled, length-rounds}
+use Rattle.word.proofs.Positions.{letter-behind, letter-unrolled, length-rounds}
 use Rattle.word.proofs.Traces.{Trace, place-of, leads-trace}
 use Rattle.history.specs.Rounds.{roundTree, FirstRepeat}
 use Rattle.history.proofs.Stretches.{length-lead}
@@ -69,7 +69,7 @@ module _ (u v : List ℕ) (filled : 1 ≤ length v) (turns : ℕ) (positive : 1 
   letter d =
       sym (letter-unrolled u v r turns positive filled (length u + r * length v + d))
       ∙ ap (λ x. letterAt (u ++ rounds r v) (rounds turns v) (x + d)) (sym (length-lead u v r))
-      ∙ letter-cycle (u ++ rounds r v) (rounds turns v) d
+      ∙ letter-behind (u ++ rounds r v) (rounds turns v) d
 
   -- the run around a loop, from the end of a round on from which the trees repeat: all return after p turns of the loop
   pub around : (R S : Rule) (entry period : ℕ) → FirstRepeat (roundTree R u v) entry period → entry ≤ r

@@ -1,7 +1,7 @@
 -- The tree theorem, and what it rests on.
 pub mod TreeTheorem
-pub mod WitnessToLoop
-pub mod LoopToWitness
+pub mod WitnessToLasso
+pub mod LassoToWitness
 pub mod WeakerVerdicts
 -- The first repeat.
 pub mod RepeatExists
@@ -24,7 +24,7 @@ pub mod FirstWitness
 -- One node and one letter, paths between accepting letters, the descent into children, siblings.
 pub mod OneNode
 pub mod BranchFits
-pub mod BetweenAccepting
+pub mod BetweenBreakpoints
 pub mod Descent
 pub mod Siblings
 -- One letter: the local form, and that it is document 01's steps.
@@ -44,7 +44,7 @@ pub mod TreesOf
 pub mod Hosts
 pub mod HostLabels
 pub mod Members
-pub mod Marks
+pub mod Tags
 pub mod RecordOfTree
 pub mod QuestionNine
 pub mod RecordChecks

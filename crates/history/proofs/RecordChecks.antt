@@ -18,14 +18,14 @@ use Rattle.base.proofs.Logic.{clash, bool-ext, and-both, and-in}
 use Rattle.base.proofs.BitSet.{member-lt, set-ext}
 use Rattle.history.specs.Forest.{nil, node, size}
 use Rattle.history.specs.Tree.{Node, Tree, isTree}
-use Rattle.history.specs.Record.{host, members, rank, marks, recordOf, hostedIn, decoded, isRecord, readTree}
-use Rattle.history.specs.inner.RecordChecks.{isHost, allHost, marksFit, bodyFits, recordChecks}
+use Rattle.history.specs.Record.{host, members, rank, tags, recordOf, hostedIn, decoded, isRecord, readTree}
+use Rattle.history.specs.inner.RecordChecks.{isHost, allHost, tagsFit, bodyFits, recordChecks}
 use Rattle.history.proofs.Conditions.{Active, fits-active, IsTree, tree-out, tree-in}
 use Rattle.history.proofs.Hosts.{host-to, each-hosts}
 use Rattle.history.proofs.HostLabels.{relabelled, ByNumber, relabelled-host, relabelled-fits}
 use Rattle.history.proofs.Members.{rank-all, rank-onto, rank-lt, length-members, map-at-rank, map-members, map-ranks}
-use Rattle.history.proofs.RecordOfTree.{length-marks, hosted-law, root-states, record-length}
-use Rattle.history.proofs.Marks.{marks-relabelled, marks-in, marks-out}
+use Rattle.history.proofs.RecordOfTree.{length-tags, hosted-law, root-states, record-length}
+use Rattle.history.proofs.Tags.{tags-relabelled, tags-in, tags-out}
 use Rattle.history.proofs.QuestionNine.{is-record-exact}
 
 -- WHAT THE CHECKS OF HOSTS SAY
@@ -49,7 +49,7 @@ all-host-in (suc nodes) hosts h = and-both (isHost nodes hosts) _ (h nodes (omeg
 
 -- what follows the map, in its two parts
 body-parts : (k s : ℕ) (hosts left : List ℕ) → length hosts ≡ ones s
-    → bodyFits k s (hosts ++ left) ≡ ((allBelow (length left) hosts && allHost (length left) hosts) && marksFit k left)
+    → bodyFits k s (hosts ++ left) ≡ ((allBelow (length left) hosts && allHost (length left) hosts) && tagsFit k left)
 unfolding bodyFits
 body-parts k s hosts left e =
     let nodes : length (hosts ++ left) - ones s ≡ length left = omega (arith, length-append hosts left) in
@@ -57,16 +57,16 @@ body-parts k s hosts left e =
 
 -- RECORDS PASS
 
--- the hosts and the marks of a tree
+-- the hosts and the tags of a tree
 body-in : (n k : ℕ) (x : Node) (below : Tree) → IsTree n k (node x below nil) → k < 16
-    → bodyFits k (x .label) (map (host (node x below nil)) (members n (x .label)) ++ marks 0 (node x below nil)) ≡ true
+    → bodyFits k (x .label) (map (host (node x below nil)) (members n (x .label)) ++ tags 0 (node x below nil)) ≡ true
 unfolding host
 body-in n k x below t h =
-    body-parts k s hosts (marks 0 T) many
-    ∙ ap (λ (c : ℕ). (allBelow c hosts && allHost c hosts) && marksFit k (marks 0 T)) (length-marks 0 T)
+    body-parts k s hosts (tags 0 T) many
+    ∙ ap (λ (c : ℕ). (allBelow c hosts && allHost c hosts) && tagsFit k (tags 0 T)) (length-tags 0 T)
     ∙ and-both (allBelow (size T) hosts && allHost (size T) hosts) _
     (and-both (allBelow (size T) hosts) _ (below-in (size T) hosts low) (all-host-in (size T) hosts each))
-    (marks-in k x below (fits-active k T (t .fits)) h)
+    (tags-in k x below (fits-active k T (t .fits)) h)
   where
     T : Tree
     T = node x below nil
@@ -104,7 +104,7 @@ checks-in n k (node x below nil) t h =
     let w = tree-out n k T t in
     let s : ℕ = x .label in
     let small : s < 2 ^ n = rw (root-states x below) at (w .states) in
-    let left : List ℕ = map (host T) (members n s) ++ marks 0 T in
+    let left : List ℕ = map (host T) (members n s) ++ tags 0 T in
     let long = record-length n x below nil small in
     rw (ne-eqb s 0 (w .fits .0 .nonempty)) (and-both (ltb s (2 ^ n)) _ (lt-ltb s (2 ^ n) small)
     (and-both (ltb (ones s) (length left)) _ (lt-ltb (ones s) (length left) (omega arith)) (body-in n k x below w h)))
@@ -112,10 +112,10 @@ checks-in n k (node x below (node y other younger)) t h = absurd (tree-out n k (
 
 -- WHAT PASSES IS A RECORD
 
--- the tree of a map, of hosts and of marks that fit
+-- the tree of a map, of hosts and of tags that fit
 module _ (n k s : ℕ) (hosts left : List ℕ) (small : s < 2 ^ n) (many : length hosts ≡ ones s)
     (below : allBelow (length left) hosts ≡ true) (each : allHost (length left) hosts ≡ true)
-    (x : Node) (down : Tree) (whole : marks 0 (node x down nil) ≡ left) (active : Active k (node x down nil)) where
+    (x : Node) (down : Tree) (whole : tags 0 (node x down nil) ≡ left) (active : Active k (node x down nil)) where
   number : ℕ → ℕ
   number q = getD hosts (rank s q) 0
 
@@ -124,7 +124,7 @@ module _ (n k s : ℕ) (hosts left : List ℕ) (small : s < 2 ^ n) (many : lengt
   law = hosted-law n s hosts number small (λ q m. refl)
 
   nodes : size (node x down nil) ≡ length left
-  nodes = sym (length-marks 0 (node x down nil)) ∙ ap length whole
+  nodes = sym (length-tags 0 (node x down nil)) ∙ ap length whole
 
   number-lt : (q : ℕ) → member s q ≡ true → number q < size (node x down nil)
   unfolding number
@@ -153,13 +153,13 @@ module _ (n k s : ℕ) (hosts left : List ℕ) (small : s < 2 ^ n) (many : lengt
     fits = relabelled-fits s number (hostedIn n s hosts) law k 0 (node x down nil) active number-onto;
   })
 
-  -- its hosts are the hosts, its marks are the marks
+  -- its hosts are the hosts, its tags are the tags
   record-is : recordOf n (relabelled (hostedIn n s hosts) 0 (node x down nil)) ≡ s ∷ (hosts ++ left)
   unfolding recordOf relabelled host number
   record-is = let T : Tree = relabelled (hostedIn n s hosts) 0 (node x down nil) in
-      ap (λ (c : ℕ). c ∷ (map (host T) (members n c) ++ marks 0 T)) root-is
+      ap (λ (c : ℕ). c ∷ (map (host T) (members n c) ++ tags 0 T)) root-is
       ∙ ap₂ (λ (u v : List ℕ). s ∷ (u ++ v)) (map-members (host T) number n s host-is ∙ hosts-are)
-      (marks-relabelled (hostedIn n s hosts) 0 0 (node x down nil) ∙ whole)
+      (tags-relabelled (hostedIn n s hosts) 0 0 (node x down nil) ∙ whole)
     where
       host-is : (q : ℕ) → q < n → member s q ≡ true → host (relabelled (hostedIn n s hosts) 0 (node x down nil)) q ≡ number q
       host-is q _ m = relabelled-host s number (hostedIn n s hosts) law 0 (node x down nil) q m (omega arith) (omega (arith, number-lt q m))
@@ -191,7 +191,7 @@ checks-out n k (s ∷ left) h = go (eqb s 0) refl h
         let (numbers, marked) = and-in (allBelow (length ends) hosts && allHost (length ends) hosts) _
         (sym (body-parts k s hosts ends many) ∙ ap (bodyFits k s) parts ∙ fits) in
         let (low, each) = and-in (allBelow (length ends) hosts) _ numbers in
-        let (x, down, whole, active) = marks-out k ends marked in
+        let (x, down, whole, active) = tags-out k ends marked in
         let all = ltb-true s (2 ^ n) small in (
           relabelled (hostedIn n s hosts) 0 (node x down nil),
           tree-fits n k s hosts ends all many low each x down whole active,

@@ -1,4 +1,4 @@
--- The record of a tree gives the tree back: planting its marks, with the labels that its hosts give, is the tree. And how long
+-- The record of a tree gives the tree back: planting its tags, with the labels that its hosts give, is the tree. And how long
 -- a record is.
 use mathlib.Core.Path.{_≡_, refl, sym, _∙_, ap, ap₂, subst}
 use mathlib.Core.Logic.{_⊎_, inl, inr}
@@ -18,7 +18,7 @@ use Rattle.base.proofs.Logic.{and-both, and-in}
 use Rattle.base.proofs.BitSet.{member-lt, member-collect}
 use Rattle.history.specs.Forest.{nil, node, size}
 use Rattle.history.specs.Tree.{Node, Tree, labels, isTree}
-use Rattle.history.specs.Record.{host, members, marks, recordOf, rank, hostedIn, planted, decoded}
+use Rattle.history.specs.Record.{host, members, tags, recordOf, rank, hostedIn, planted, decoded}
 use Rattle.history.proofs.Conditions.{Active, NestedTree, tree-nested, tree-out}
 use Rattle.history.proofs.Hosts.{size-labels}
 use Rattle.history.proofs.HostLabels.{relabelled, size-relabelled, ByNumber, labels-from-hosts}
@@ -26,29 +26,29 @@ use Rattle.history.proofs.Members.{length-members, map-at-rank}
 
 -- PLANTING THE MARKS
 
--- one mark for each node
-pub length-marks : (d : ℕ) (F : Tree) → length (marks d F) ≡ size F
-unfolding marks size
-length-marks d nil = refl
-length-marks d (node x below younger) =
-    omega (arith, length-append (marks (suc d) below) (marks d younger), length-marks (suc d) below, length-marks d younger)
+-- one tag for each node
+pub length-tags : (d : ℕ) (F : Tree) → length (tags d F) ≡ size F
+unfolding tags size
+length-tags d nil = refl
+length-tags d (node x below younger) =
+    omega (arith, length-append (tags (suc d) below) (tags d younger), length-tags (suc d) below, length-tags d younger)
 
--- the first mark, if any, is of less depth than d: there is no further sibling at depth d or below
+-- the first tag, if any, is of less depth than d: there is no further sibling at depth d or below
 abbrev pub Shallower : ℕ → List ℕ → Type 0
 Shallower d [] = Unit {0}
 Shallower d (m ∷ left) = m / 16 < d
 
 module _ (k : ℕ) (h : k < 16) where
-  shallower-next : (d : ℕ) (F : Tree) (left : List ℕ) → Active k F → Shallower d left → Shallower (suc d) (marks d F ++ left)
-  unfolding marks
+  shallower-next : (d : ℕ) (F : Tree) (left : List ℕ) → Active k F → Shallower d left → Shallower (suc d) (tags d F ++ left)
+  unfolding tags
   shallower-next d nil [] w s = tt
   shallower-next d nil (m ∷ left) w s = omega arith
   shallower-next d (node x below younger) left w s = omega (arith, w .1)
 
-  -- the marks of a forest plant its nodes, each with the label of its numbers
+  -- the tags of a forest plant its nodes, each with the label of its numbers
   planted-front : (label : ℕ → ℕ → ℕ) (fuel d i : ℕ) (F : Tree) (left : List ℕ) → size F ≤ fuel → Active k F → Shallower d left
-      → planted fuel label d i (marks d F ++ left) ≡ (relabelled label i F, left)
-  unfolding planted marks relabelled size
+      → planted fuel label d i (tags d F ++ left) ≡ (relabelled label i F, left)
+  unfolding planted tags relabelled size
   planted-front label zero d i nil left l w s = refl
   planted-front label (suc fuel) d i nil [] l w s = refl
   planted-front label (suc fuel) d i nil (m ∷ left) l w s = rw (ne-eqb (m / 16) d (λ e. omega arith))
@@ -59,19 +59,19 @@ module _ (k : ℕ) (h : k < 16) where
       let end : suc i + size below ≡ suc (i + size below) = omega arith in
       let next = shallower-next d younger left (w .3) s in
       rw (
-        append-assoc (marks (suc d) below) (marks d younger) left,
+        append-assoc (tags (suc d) below) (tags d younger) left,
         eq-eqb _ _ depth,
         active,
-        planted-front label fuel (suc d) (suc i) below (marks d younger ++ left) (omega arith) (w .2) next,
+        planted-front label fuel (suc d) (suc i) below (tags d younger ++ left) (omega arith) (w .2) next,
         size-relabelled label (suc i) below,
         end,
         planted-front label fuel d (suc (i + size below)) younger left (omega arith) (w .3) s,
       )
 
-  pub planted-marks : (label : ℕ → ℕ → ℕ) (d i : ℕ) (F : Tree) → Active k F
-      → planted (length (marks d F)) label d i (marks d F) ≡ (relabelled label i F, [])
-  planted-marks label d i F w = ap (planted (length (marks d F)) label d i) (sym (append-nil (marks d F)))
-      ∙ planted-front label (length (marks d F)) d i F [] (omega (arith, length-marks d F)) w tt
+  pub planted-tags : (label : ℕ → ℕ → ℕ) (d i : ℕ) (F : Tree) → Active k F
+      → planted (length (tags d F)) label d i (tags d F) ≡ (relabelled label i F, [])
+  planted-tags label d i F w = ap (planted (length (tags d F)) label d i) (sym (append-nil (tags d F)))
+      ∙ planted-front label (length (tags d F)) d i F [] (omega (arith, length-tags d F)) w tt
 
 -- THE LABELS FROM THE HOSTS
 
@@ -97,7 +97,7 @@ hosted-law n s hosts number small e = record {
 
 -- THE TREE OF A RECORD
 
--- decoding a live record: its map, its hosts and its marks
+-- decoding a live record: its map, its hosts and its tags
 decoded-parts : (n s : ℕ) (hosts left : List ℕ) → length hosts ≡ ones s
     → decoded n (s ∷ (hosts ++ left)) ≡ planted (length left) (hostedIn n s hosts) 0 0 left .0
 unfolding decoded
@@ -121,8 +121,8 @@ decoded-nested n k (node x below nil) w h =
     let hosts : List ℕ = map (host T) (members n s) in
     let many : length hosts ≡ ones s = length-map (members n s) (host T) ∙ length-members n s small in
     let law = hosted-law n s hosts (host T) small (λ q m. map-at-rank (host T) n s q (member-lt n s q small m) m) in
-    decoded-parts n s hosts (marks 0 T) many
-    ∙ ap (λ (p : Tree × List ℕ). p .0) (planted-marks k h (hostedIn n s hosts) 0 0 T (w .active))
+    decoded-parts n s hosts (tags 0 T) many
+    ∙ ap (λ (p : Tree × List ℕ). p .0) (planted-tags k h (hostedIn n s hosts) 0 0 T (w .active))
     ∙ labels-from-hosts 0 T (hostedIn n s hosts) (w .nested)
     (subst (λ (a : ℕ). ByNumber a (host T) (hostedIn n s hosts)) (sym (root-states x below)) law)
 decoded-nested n k (node x below (node y other younger)) w h = absurd (w .one-root)
@@ -144,10 +144,10 @@ unfolding recordOf
 record-length n x below younger small = let T : Tree = node x below younger in
     omega (
       arith,
-      length-append (map (host T) (members n (x .label))) (marks 0 T),
+      length-append (map (host T) (members n (x .label))) (tags 0 T),
       length-map (members n (x .label)) (host T),
       length-members n (x .label) small,
-      length-marks 0 T,
+      length-tags 0 T,
     )
 
 -- "A record has 1, or 3 to 17, bytes": 17 is 1 + 2 · 8

@@ -7,7 +7,7 @@ use native.Mathlib.Omega.{arith}
 use native.Mathlib.Nat.{add-mul-mod-self-right, mul-pos, mul-le-mul-right, div-add-mod', div-lt-iff-lt-mul, mod-lt}
 use lib.ListN.{length, getD}
 use Rattle.word.specs.Walk.{letterAt}
-use Rattle.word.proofs.Positions.{letter-cycle}
+use Rattle.word.proofs.Positions.{letter-behind}
 use Rattle.history.specs.Verdict.{LetterPlace}
 
 -- the letters of a walk return after each round
@@ -16,8 +16,8 @@ letters-back u v k p h =
     let q : ℕ = p - length u in
     let e : length u + q ≡ p = omega arith in
     let e′ : p + k * length v ≡ length u + (q + k * length v) = omega arith in
-    ap (letterAt u v) e′ ∙ letter-cycle u v (q + k * length v) ∙ ap (λ (x : ℕ). getD v x 0) (add-mul-mod-self-right q k (length v))
-    ∙ sym (letter-cycle u v q) ∙ ap (letterAt u v) e
+    ap (letterAt u v) e′ ∙ letter-behind u v (q + k * length v) ∙ ap (λ (x : ℕ). getD v x 0) (add-mul-mod-self-right q k (length v))
+    ∙ sym (letter-behind u v q) ∙ ap (letterAt u v) e
 
 -- the place of a letter of rounds e+1 to e+p among all of them
 abbrev pub placeIn : List ℕ → ℕ → ℕ → ℕ → ℕ

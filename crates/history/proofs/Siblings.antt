@@ -21,7 +21,7 @@ use Rattle.history.proofs.LocalStep.{newLabel, step, Branch, branchAt, 
 use Rattle.history.proofs.OneNode.{placeOf, holds-at-place, successors-out, branch-step, name-step, label-from, stays-among, place-falls, place-same}
 use Rattle.history.proofs.BranchFits.{label-inside, branch-fits, name-fits}
 use Rattle.history.proofs.Stretches.{stretch}
-use Rattle.history.proofs.BetweenAccepting.{Return, loops-back}
+use Rattle.history.proofs.BetweenBreakpoints.{Return, loops-back}
 use Rattle.history.proofs.Descent.{level, Home, kept-name}
 
 -- a node that survives has a label

@@ -9,7 +9,7 @@ use Rattle.base.specs.BitSet.{member}
 use Rattle.rule.specs.Rule.{Rule, successors}
 use Rattle.rule.specs.WellFormed.{WellFormed}
 use Rattle.word.specs.Walk.{letterAt}
-use Rattle.word.specs.Loop.{Leads}
+use Rattle.word.specs.Lasso.{Leads}
 use Rattle.history.specs.Tree.{labels, isTreeOf, startTree}
 use Rattle.history.proofs.Conditions.{IsTree}
 use Rattle.history.proofs.LocalStep.{step}

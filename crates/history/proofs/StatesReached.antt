@@ -7,7 +7,7 @@ use Prim.Native.Nat.{ℕ, zero, suc}
 use Rattle.base.specs.BitSet.{member, Subset}
 use Rattle.rule.specs.Rule.{Rule, cellAt, successors}
 use Rattle.rule.specs.WellFormed.{WellFormed}
-use Rattle.word.specs.Loop.{Leads}
+use Rattle.word.specs.Lasso.{Leads}
 use Rattle.word.proofs.Paths.{leads-one, one-leads, leads-append, leads-split}
 use Rattle.history.proofs.Stretches.{stretch}
 use Rattle.history.proofs.OneNode.{successors-out, successors-in}

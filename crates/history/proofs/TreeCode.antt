@@ -20,11 +20,11 @@ use Rattle.base.proofs.BitSet.{member-lt, set-ext}
 use Rattle.rule.specs.Limits.{maxStates, maxSets}
 use Rattle.history.specs.Forest.{nil, node, size}
 use Rattle.history.specs.Tree.{Tree, labels, isTree}
-use Rattle.history.specs.Record.{host, members, marks, recordOf}
+use Rattle.history.specs.Record.{host, members, tags, recordOf}
 use Rattle.history.proofs.Conditions.{Active, fits-active, IsTree, tree-nested, tree-out}
 use Rattle.history.proofs.Hosts.{host-to, each-hosts, size-labels}
 use Rattle.history.proofs.Members.{map-members}
-use Rattle.history.proofs.RecordOfTree.{length-marks, root-states}
+use Rattle.history.proofs.RecordOfTree.{length-tags, root-states}
 use Rattle.history.proofs.QuestionNine.{record-injective}
 use Rattle.history.proofs.Positional.{positional, positional-lt, same-digits}
 
@@ -34,13 +34,13 @@ use Rattle.history.proofs.Positional.{positional, positional-lt, same-d
 hostDigit : Tree → ℕ → ℕ
 hostDigit T q = cond (member (labels T) q) (suc (host T q)) 0
 
--- of a mark: 4 times the depth, and the active set counted from 0
-markDigit : ℕ → ℕ
-markDigit m = 4 * (m / 16) + (m % 16 - 1)
+-- of a tag: 4 times the depth, and the active set counted from 0
+tagDigit : ℕ → ℕ
+tagDigit m = 4 * (m / 16) + (m % 16 - 1)
 
 -- of a node, by its number
 nodeDigit : Tree → ℕ → ℕ
-nodeDigit T i = markDigit (getD (marks 0 T) i 0)
+nodeDigit T i = tagDigit (getD (tags 0 T) i 0)
 
 -- of a tree
 pub treeCode : ℕ → Tree → ℕ
@@ -48,27 +48,27 @@ treeCode n T = (positional 9 (hostDigit T) n * 4 + nodeDigit T 0) * 2 ^ 35 + pos
 
 -- MARKS
 
--- a mark of a tree within the limits
-MarkFits : ℕ → Type 0
-MarkFits m = (m / 16 < maxStates) × (1 ≤ m % 16) × (m % 16 ≤ maxSets)
+-- a tag of a tree within the limits
+TagFits : ℕ → Type 0
+TagFits m = (m / 16 < maxStates) × (1 ≤ m % 16) × (m % 16 ≤ maxSets)
 
-every-mark : (k d : ℕ) (F : Tree) → Active k F → k ≤ maxSets → d + size F ≤ maxStates → Every MarkFits (marks d F)
-unfolding marks size MarkFits
-every-mark k d nil w h l = tt
-every-mark k d (node x below younger) (low, high, down, on) h l = (
+every-tag : (k d : ℕ) (F : Tree) → Active k F → k ≤ maxSets → d + size F ≤ maxStates → Every TagFits (tags d F)
+unfolding tags size TagFits
+every-tag k d nil w h l = tt
+every-tag k d (node x below younger) (low, high, down, on) h l = (
   (omega arith, omega arith, omega arith),
-  every-append MarkFits (marks (suc d) below) (marks d younger) (every-mark k (suc d) below down h (omega arith))
-      (every-mark k d younger on h (omega arith)),
+  every-append TagFits (tags (suc d) below) (tags d younger) (every-tag k (suc d) below down h (omega arith))
+      (every-tag k d younger on h (omega arith)),
 )
 
--- such marks are known from their digits
-mark-digit-lt : (m : ℕ) → MarkFits m → markDigit m < 32
-unfolding MarkFits markDigit
-mark-digit-lt m w = omega arith
+-- such tags are known from their digits
+tag-digit-lt : (m : ℕ) → TagFits m → tagDigit m < 32
+unfolding TagFits tagDigit
+tag-digit-lt m w = omega arith
 
-same-mark : (m c : ℕ) → MarkFits m → MarkFits c → markDigit m ≡ markDigit c → m ≡ c
-unfolding MarkFits markDigit
-same-mark m c (deep, low, high) (deep′, low′, high′) e = omega arith
+same-tag : (m c : ℕ) → TagFits m → TagFits c → tagDigit m ≡ tagDigit c → m ≡ c
+unfolding TagFits tagDigit
+same-tag m c (deep, low, high) (deep′, low′, high′) e = omega arith
 
 -- IT IS BELOW 2^63
 
@@ -81,19 +81,19 @@ module _ (n k : ℕ) (T : Tree) (t : IsTree n k T) (hn : n ≤ maxStates) (hk : 
   unfolding hostDigit host
   host-digit-lt q = ⊎-elim (λ h. rw h (omega (arith, host-to 0 T q h, few))) (λ h. rw h (omega arith)) (look (member (labels T) q))
 
-  all-marks : Every MarkFits (marks 0 T)
-  all-marks = every-mark k 0 T (fits-active k T (t .fits)) hk (omega (arith, few))
+  all-tags : Every TagFits (tags 0 T)
+  all-tags = every-tag k 0 T (fits-active k T (t .fits)) hk (omega (arith, few))
 
   node-digit-lt : (i : ℕ) → nodeDigit T i < 32
-  unfolding nodeDigit markDigit
-  node-digit-lt i = go (decLt i (length (marks 0 T)))
+  unfolding nodeDigit tagDigit
+  node-digit-lt i = go (decLt i (length (tags 0 T)))
     where
-      go : Dec (i < length (marks 0 T)) → nodeDigit T i < 32
-      go (yes l) = mark-digit-lt (getD (marks 0 T) i 0) (every-at MarkFits (marks 0 T) i 0 all-marks l)
-      go (no l) = rw (List·getD-eq-default (marks 0 T) 0 {n = i} (omega arith)) (omega arith)
+      go : Dec (i < length (tags 0 T)) → nodeDigit T i < 32
+      go (yes l) = tag-digit-lt (getD (tags 0 T) i 0) (every-at TagFits (tags 0 T) i 0 all-tags l)
+      go (no l) = rw (List·getD-eq-default (tags 0 T) 0 {n = i} (omega arith)) (omega arith)
 
   root-digit-lt : nodeDigit T 0 < 4
-  unfolding nodeDigit markDigit marks
+  unfolding nodeDigit tagDigit tags
   root-digit-lt = go T (fits-active k T (t .fits))
     where
       go : (F : Tree) → Active k F → nodeDigit F 0 < 4
@@ -143,10 +143,10 @@ module _ (n k : ℕ) (T U : Tree) (t : IsTree n k T) (u : IsTree n k U)
       go (yes h) = let (q, held, e) = each-hosts k 0 T (t .fits) (size U) (omega arith) (omega arith) in
           absurd (omega (arith, e, same-host q held, host-to 0 U q (held-too q held)))
 
--- trees with the same states, hosts and marks have the same record
+-- trees with the same states, hosts and tags have the same record
 same-record : (n k : ℕ) (T U : Tree) → IsTree n k T → IsTree n k U → labels T ≡ labels U
-    → ((q : ℕ) → member (labels T) q ≡ true → host T q ≡ host U q) → marks 0 T ≡ marks 0 U → recordOf n T ≡ recordOf n U
-unfolding recordOf marks
+    → ((q : ℕ) → member (labels T) q ≡ true → host T q ≡ host U q) → tags 0 T ≡ tags 0 U → recordOf n T ≡ recordOf n U
+unfolding recordOf tags
 same-record n k nil nil t u s h m = refl
 same-record n k nil (node y down others) t u s h m = let z : _≡_ {A = ℕ} 0 1 = cc in absurd (omega arith)
 same-record n k (node x below others) nil t u s h m = let z : _≡_ {A = ℕ} 0 1 = cc in absurd (omega arith)
@@ -158,7 +158,7 @@ same-record n k (node x below nil) (node y down nil) t u s h m =
     let root : x .label ≡ y .label = sym (root-states x below) ∙ s ∙ root-states y down in
     let hosts : map (host T) (members n (x .label)) ≡ map (host U) (members n (x .label)) =
     map-members (host T) (host U) n (x .label) (λ q _ g. h q (rw (root-states x below) g)) in
-    ap₂ (λ (a b : List ℕ). x .label ∷ (a ++ b)) hosts m ∙ ap (λ (c : ℕ). c ∷ (map (host U) (members n c) ++ marks 0 U)) root
+    ap₂ (λ (a b : List ℕ). x .label ∷ (a ++ b)) hosts m ∙ ap (λ (c : ℕ). c ∷ (map (host U) (members n c) ++ tags 0 U)) root
 
 -- trees with the same number are the same
 pub code-injective : (n k : ℕ) (T U : Tree) → isTree n k T ≡ true → isTree n k U ≡ true → n ≤ maxStates → k ≤ maxSets
@@ -195,8 +195,8 @@ code-injective n k T U t u hn hk e =
     many : size T ≡ size U
     many = omega (arith, no-more-nodes n k T U wt wu hosts, no-more-nodes n k U T wu wt (λ q l. sym (hosts q l)))
 
-    nodes : marks 0 T ≡ marks 0 U
-    nodes = ext-getD 0 (marks 0 T) (marks 0 U) (length-marks 0 T ∙ many ∙ sym (length-marks 0 U)) (λ i l.
-        same-mark (getD (marks 0 T) i 0) (getD (marks 0 U) i 0) (every-at MarkFits (marks 0 T) i 0 (all-marks n k T wt hn hk) l)
-        (every-at MarkFits (marks 0 U) i 0 (all-marks n k U wu hn hk) (omega (arith, length-marks 0 T, length-marks 0 U, many)))
-        (digit i (omega (arith, length-marks 0 T, few n k T wt hn hk))))
+    nodes : tags 0 T ≡ tags 0 U
+    nodes = ext-getD 0 (tags 0 T) (tags 0 U) (length-tags 0 T ∙ many ∙ sym (length-tags 0 U)) (λ i l.
+        same-tag (getD (tags 0 T) i 0) (getD (tags 0 U) i 0) (every-at TagFits (tags 0 T) i 0 (all-tags n k T wt hn hk) l)
+        (every-at TagFits (tags 0 U) i 0 (all-tags n k U wu hn hk) (omega (arith, length-tags 0 T, length-tags 0 U, many)))
+        (digit i (omega (arith, length-tags 0 T, few n k T wt hn hk))))

@@ -7,32 +7,32 @@ use mathlib.Core.List.{List, []}
 use Prim.Native.Nat.{ℕ, _≤_}
 use Rattle.rule.specs.Rule.{Rule}
 use Rattle.rule.specs.WellFormed.{WellFormed}
-use Rattle.word.specs.Keeps.{Keeps, KeepsByLoop}
-use Rattle.word.specs.Loop.{Loop}
+use Rattle.word.specs.Keeps.{Keeps, KeepsByLasso}
+use Rattle.word.specs.Lasso.{Lasso}
 use Rattle.word.proofs.Positions.{filled}
-use Rattle.word.proofs.LoopTheorem.{loop-theorem}
+use Rattle.word.proofs.LassoTheorem.{lasso-theorem}
 use Rattle.history.specs.Rounds.{roundTree, FirstRepeat}
 use Rattle.history.specs.Verdict.{Witness}
-use Rattle.history.proofs.WitnessToLoop as To
-use Rattle.history.proofs.LoopToWitness as From
+use Rattle.history.proofs.WitnessToLasso as To
+use Rattle.history.proofs.LassoToWitness as From
 
 module _ (R : Rule) (well : WellFormed R) (sets : 1 ≤ R .sets) (u v : List ℕ) (nonempty : v ≡ [] → ⊥)
     (entry period : ℕ) (F : FirstRepeat (roundTree R u v) entry period) where
   -- a witness shows a loop
-  pub witness-loop : (w : List ℕ) → Witness R u v entry period w → Loop R u v
-  witness-loop = To.witness-loop R well sets u v (filled v nonempty) entry period F
+  pub witness-lasso : (w : List ℕ) → Witness R u v entry period w → Lasso R u v
+  witness-lasso = To.witness-lasso R well sets u v (filled v nonempty) entry period F
 
   -- a loop has a witness
-  pub loop-witness : Loop R u v → (w : List ℕ) × Witness R u v entry period w
-  loop-witness = From.loop-witness R well sets u v (filled v nonempty) entry period F
+  pub lasso-witness : Lasso R u v → (w : List ℕ) × Witness R u v entry period w
+  lasso-witness = From.lasso-witness R well sets u v (filled v nonempty) entry period F
 
   -- so the verdict is yes just if the walk keeps the rule by a loop,
-  pub tree-loop : ((w : List ℕ) × Witness R u v entry period w) ↔ KeepsByLoop R u v
-  unfolding KeepsByLoop
-  tree-loop = (λ x. witness-loop (x .0) (x .1), loop-witness)
+  pub tree-lasso : ((w : List ℕ) × Witness R u v entry period w) ↔ KeepsByLasso R u v
+  unfolding KeepsByLasso
+  tree-lasso = (λ x. witness-lasso (x .0) (x .1), lasso-witness)
 
   -- and so just if it keeps the rule
   pub tree-theorem : ((w : List ℕ) × Witness R u v entry period w) ↔ Keeps R u v
   tree-theorem =
-      let (to-loop, from-loop) = loop-theorem R u v well nonempty in
-      (λ x. from-loop (tree-loop .0 x), λ keeps. tree-loop .1 (to-loop keeps))
+      let (to-loop, from-loop) = lasso-theorem R u v well nonempty in
+      (λ x. from-loop (tree-lasso .0 x), λ keeps. tree-lasso .1 (to-loop keeps))

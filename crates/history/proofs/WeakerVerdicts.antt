@@ -12,14 +12,14 @@ use Rattle.base.proofs.Logic.{clash, or-r}
 use Rattle.rule.specs.Rule.{Rule, cellAt, edge, edgeIn}
 use Rattle.rule.specs.WellFormed.{WellFormed, startFits, bytesFit}
 use Rattle.word.specs.Run.{AcceptingRun}
-use Rattle.word.specs.Loop.{Loop}
-use Rattle.word.proofs.Variants.{cycle, nonempty, small, no-loop, away, away-fits, once-no-loop}
+use Rattle.word.specs.Lasso.{Lasso}
+use Rattle.word.proofs.Variants.{zeroTail, nonempty, small, no-lasso, away, away-fits, once-no-lasso}
 use Rattle.history.specs.Forest.{size}
 use Rattle.history.specs.Tree.{labels}
 use Rattle.history.specs.Letter.{accepting, stable}
 use Rattle.history.specs.Rounds.{roundTree, treeInRound, FirstRepeat}
 use Rattle.history.specs.Verdict.{LetterPlace, Witness}
-use Rattle.history.proofs.TreeTheorem.{witness-loop}
+use Rattle.history.proofs.TreeTheorem.{witness-lasso}
 use Rattle.history.proofs.VerdictTest.{verdictTest}
 
 -- VERDICTS THAT ASK LESS
@@ -75,7 +75,7 @@ leaving-last zero (suc (suc zero)) (suc (suc zero)) e h = clash refl e
 leaving-last zero (suc (suc zero)) (suc (suc (suc r))) e h = clash refl e
 leaving-last zero (suc (suc (suc q))) r e h = clash refl e
 
-leaving-no-run : AcceptingRun leaving [] cycle → ⊥
+leaving-no-run : AcceptingRun leaving [] zeroTail → ⊥
 leaving-no-run A =
     let (p, _, t) = A .often 1 (omega arith) (omega arith) 0 in
     let first = leaving-set _ _ _ t in
@@ -83,38 +83,38 @@ leaving-no-run A =
     let (third, _) = leaving-last _ _ _ (A .run .moves (suc (suc p))) (omega arith) in
     omega arith
 
-leaving-no-loop : Loop leaving [] cycle → ⊥
-leaving-no-loop = no-loop leaving leaving-fits leaving-no-run
+leaving-no-lasso : Lasso leaving [] zeroTail → ⊥
+leaving-no-lasso = no-lasso leaving leaving-fits leaving-no-run
 
 -- its trees t(0), t(1) and t(2) have one, two and three nodes, and t(3) is t(2); at the letter from t(2) the second
 -- child of the root accepts, and becomes the first child
 record Leaving : Type 0 where
-  one : size (roundTree leaving [] cycle 0) ≡ 1
-  two : size (roundTree leaving [] cycle 1) ≡ 2
-  three : size (roundTree leaving [] cycle 2) ≡ 3
-  back : roundTree leaving [] cycle 2 ≡ roundTree leaving [] cycle 3
-  accepts : accepting leaving 0 (treeInRound leaving [] cycle 2 0) (1 ∷ []) ≡ true
-  renamed : stable leaving 0 (treeInRound leaving [] cycle 2 0) (1 ∷ []) ≡ false
+  one : size (roundTree leaving [] zeroTail 0) ≡ 1
+  two : size (roundTree leaving [] zeroTail 1) ≡ 2
+  three : size (roundTree leaving [] zeroTail 2) ≡ 3
+  back : roundTree leaving [] zeroTail 2 ≡ roundTree leaving [] zeroTail 3
+  accepts : accepting leaving 0 (treeInRound leaving [] zeroTail 2 0) (1 ∷ []) ≡ true
+  renamed : stable leaving 0 (treeInRound leaving [] zeroTail 2 0) (1 ∷ []) ≡ false
 
 leaving-computed : Leaving
 unfolding verdictTest size labels
 leaving-computed = record { one = refl; two = refl; three = refl; back = refl; accepts = refl; renamed = refl }
 
-leaving-repeat : FirstRepeat (roundTree leaving [] cycle) 2 1
+leaving-repeat : FirstRepeat (roundTree leaving [] zeroTail) 2 1
 leaving-repeat = record {
   positive = omega arith;
   back = leaving-computed .back;
   first = λ i j l h e. absurd (omega (arith, sizes i (omega arith), sizes j h, ap size e));
 }
   where
-    sizes : (i : ℕ) → i < 3 → size (roundTree leaving [] cycle i) ≡ suc i
+    sizes : (i : ℕ) → i < 3 → size (roundTree leaving [] zeroTail i) ≡ suc i
     sizes zero h = leaving-computed .one
     sizes (suc zero) h = leaving-computed .two
     sizes (suc (suc zero)) h = leaving-computed .three
     sizes (suc (suc (suc i))) h = absurd (omega arith)
 
 -- so both verdicts say yes, and the tree judge's says no
-leaving-accepts : AcceptingOnly leaving [] cycle 2 1 (1 ∷ [])
+leaving-accepts : AcceptingOnly leaving [] zeroTail 2 1 (1 ∷ [])
 leaving-accepts = record {
   round = 2;
   place = 0;
@@ -122,49 +122,49 @@ leaving-accepts = record {
   accepts = leaving-computed .accepts;
 }
 
-leaving-renamed : RenamedToo leaving [] cycle 2 1 (1 ∷ [])
+leaving-renamed : RenamedToo leaving [] zeroTail 2 1 (1 ∷ [])
 leaving-renamed = record { stays = stays; accepts = leaving-accepts }
   where
-    stays : (r i : ℕ) → LetterPlace cycle 2 1 r i
-        → (stable leaving (getD cycle i 0) (treeInRound leaving [] cycle r i) (1 ∷ [])
-        || accepting leaving (getD cycle i 0) (treeInRound leaving [] cycle r i) (1 ∷ [])) ≡ true
+    stays : (r i : ℕ) → LetterPlace zeroTail 2 1 r i
+        → (stable leaving (getD zeroTail i 0) (treeInRound leaving [] zeroTail r i) (1 ∷ [])
+        || accepting leaving (getD zeroTail i 0) (treeInRound leaving [] zeroTail r i) (1 ∷ [])) ≡ true
     stays r i l =
         let e : r ≡ 2 = omega (arith, l .from, l .upto) in
         let f : i ≡ 0 = omega (arith, l .within) in
-        rw (e, f) (or-r (stable leaving 0 (treeInRound leaving [] cycle 2 0) (1 ∷ [])) _ (leaving-computed .accepts))
+        rw (e, f) (or-r (stable leaving 0 (treeInRound leaving [] zeroTail 2 0) (1 ∷ [])) _ (leaving-computed .accepts))
 
-leaving-no-witness : (w : List ℕ) → Witness leaving [] cycle 2 1 w → ⊥
-leaving-no-witness w W = leaving-no-loop (witness-loop leaving leaving-fits (omega arith) [] cycle nonempty 2 1 leaving-repeat w W)
+leaving-no-witness : (w : List ℕ) → Witness leaving [] zeroTail 2 1 w → ⊥
+leaving-no-witness w W = leaving-no-lasso (witness-lasso leaving leaving-fits (omega arith) [] zeroTail nonempty 2 1 leaving-repeat w W)
 
 -- THE FIRST ROUND ONLY
 
 -- the rule `away`: state 0 goes to state 1 by set 1; state 1 only to itself, by no set.
 -- t(0) and t(1) have different labels, and t(2) is t(1); in the first round the root is stable and accepting
 record Away : Type 0 where
-  first : labels (roundTree away [] cycle 0) ≡ 1
-  second : labels (roundTree away [] cycle 1) ≡ 2
-  back : roundTree away [] cycle 1 ≡ roundTree away [] cycle 2
-  stays : stable away 0 (treeInRound away [] cycle 0 0) [] ≡ true
-  accepts : accepting away 0 (treeInRound away [] cycle 0 0) [] ≡ true
+  first : labels (roundTree away [] zeroTail 0) ≡ 1
+  second : labels (roundTree away [] zeroTail 1) ≡ 2
+  back : roundTree away [] zeroTail 1 ≡ roundTree away [] zeroTail 2
+  stays : stable away 0 (treeInRound away [] zeroTail 0 0) [] ≡ true
+  accepts : accepting away 0 (treeInRound away [] zeroTail 0 0) [] ≡ true
 
 away-computed : Away
 unfolding verdictTest size labels
 away-computed = record { first = refl; second = refl; back = refl; stays = refl; accepts = refl }
 
-away-repeat : FirstRepeat (roundTree away [] cycle) 1 1
+away-repeat : FirstRepeat (roundTree away [] zeroTail) 1 1
 away-repeat = record {
   positive = omega arith;
   back = away-computed .back;
   first = λ i j l h e. absurd (omega (arith, held i (omega arith), held j h, ap labels e));
 }
   where
-    held : (i : ℕ) → i < 2 → labels (roundTree away [] cycle i) ≡ suc i
+    held : (i : ℕ) → i < 2 → labels (roundTree away [] zeroTail i) ≡ suc i
     held zero h = away-computed .first
     held (suc zero) h = away-computed .second
     held (suc (suc i)) h = absurd (omega arith)
 
 -- so the verdict over the first round says yes, and the tree judge's says no
-away-first-round : FirstRound away [] cycle []
+away-first-round : FirstRound away [] zeroTail []
 away-first-round = record {
   stays = stays;
   round = 0;
@@ -173,11 +173,11 @@ away-first-round = record {
   accepts = away-computed .accepts;
 }
   where
-    stays : (r i : ℕ) → LetterPlace cycle 0 1 r i → stable away (getD cycle i 0) (treeInRound away [] cycle r i) [] ≡ true
+    stays : (r i : ℕ) → LetterPlace zeroTail 0 1 r i → stable away (getD zeroTail i 0) (treeInRound away [] zeroTail r i) [] ≡ true
     stays r i l =
         let e : r ≡ 0 = omega (arith, l .upto) in
         let f : i ≡ 0 = omega (arith, l .within) in
         rw (e, f) (away-computed .stays)
 
-away-no-witness : (w : List ℕ) → Witness away [] cycle 1 1 w → ⊥
-away-no-witness w W = once-no-loop (witness-loop away away-fits (omega arith) [] cycle nonempty 1 1 away-repeat w W)
+away-no-witness : (w : List ℕ) → Witness away [] zeroTail 1 1 w → ⊥
+away-no-witness w W = once-no-lasso (witness-lasso away away-fits (omega arith) [] zeroTail nonempty 1 1 away-repeat w W)

@@ -30,16 +30,16 @@ unfoldable pub members : ℕ → ℕ → List ℕ
 members n s = membersFrom 0 n s
 
 -- "for each node in number order 16 times its depth plus its active set", of siblings at depth d
-unfoldable pub marks : ℕ → Tree → List ℕ
-marks d nil = []
-marks d (node x below younger) = (16 * d + x .active) ∷ (marks (suc d) below ++ marks d younger)
+unfoldable pub tags : ℕ → Tree → List ℕ
+tags d nil = []
+tags d (node x below younger) = (16 * d + x .active) ∷ (tags (suc d) below ++ tags d younger)
 
 -- "The record of a tree: the map of the root's states; for each standing bit, lowest first, the number of its host; then
 -- for each node in number order 16 times its depth plus its active set." "The dead tree's record is the byte 0."
 unfoldable pub recordOf : ℕ → Tree → List ℕ
 recordOf n nil = 0 ∷ []
 recordOf n (node x below younger) =
-    x .label ∷ (map (host (node x below younger)) (members n (x .label)) ++ marks 0 (node x below younger))
+    x .label ∷ (map (host (node x below younger)) (members n (x .label)) ++ tags 0 (node x below younger))
 
 -- THE TREE OF A RECORD
 
@@ -54,7 +54,7 @@ unfoldable pub hostedIn : ℕ → ℕ → List ℕ → ℕ → ℕ → ℕ
 hostedIn n s hosts lo hi =
     collect n (λ q. member s q && (leb lo (getD hosts (rank s q) 0) && ltb (getD hosts (rank s q) 0) hi))
 
--- siblings at depth d, numbered from i on, from the front of some marks, and the marks left; each node's label is that of
+-- siblings at depth d, numbered from i on, from the front of some tags, and the tags left; each node's label is that of
 -- its numbers. The first argument bounds the depth of the recursion.
 unfoldable pub planted : ℕ → (ℕ → ℕ → ℕ) → ℕ → ℕ → List ℕ → Tree × List ℕ
 planted zero label d i left = (nil, left)
@@ -65,7 +65,7 @@ planted (suc fuel) label d i (m ∷ left) =
     let younger = planted fuel label d end (below .1) in
     cond (eqb (m / 16) d) (node (record { label = label i end; active = m % 16 }) (below .0) (younger .0), younger .1) (nil, m ∷ left)
 
--- the tree that a record would be of: its map, its hosts and its marks
+-- the tree that a record would be of: its map, its hosts and its tags
 unfoldable pub decoded : ℕ → List ℕ → Tree
 decoded n bytes =
     let s = getD bytes 0 0 in

@@ -10,7 +10,7 @@ use Rattle.base.specs.Outcome.{Outcome, refused, accepted, ask, _then_}
 use Rattle.base.specs.Reading.{readPart, ended}
 use Rattle.rule.specs.Rule.{Rule}
 use Rattle.word.specs.Judging.{walkQuestions}
-use Rattle.word.specs.Keeps.{KeepsByLoop}
+use Rattle.word.specs.Keeps.{KeepsByLasso}
 use Rattle.word.specs.Verdict.{Decides}
 use Rattle.history.specs.Finding.{Finding, yes-node, no-node, WalkJudged}
 use Rattle.job.specs.Ascii.{ascii}
@@ -109,7 +109,7 @@ textOf bytes = record { bytes = bytes ++ replicate (textRoom - length bytes) 0; 
 pub record JobJudged (R : Rule) (u v : List ℕ) (text : Text) : Type 0 where
   pub walk : WalkJudged R u v
   pub plain : ℕ
-  pub decides : Decides plain (KeepsByLoop R u v)
+  pub decides : Decides plain (KeepsByLasso R u v)
   pub says : text ≡ textOf (fiveLines (walk .entry) (walk .period) (walk .finding) plain)
 
 -- the answer to a job's parts: on a refusal its one line

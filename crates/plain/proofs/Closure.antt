@@ -8,7 +8,7 @@ use native.Mathlib.Decide.{ℕ-discrete}
 use native.Mathlib.Omega.{arith}
 use Rattle.base.proofs.Logic.{and-both, and-in, or-l, or-r, or-in}
 use Rattle.plain.specs.inner.Ways.{Ways, joined}
-use Rattle.plain.specs.inner.Rounds.{passing, widened}
+use Rattle.plain.specs.inner.Rounds.{through, closure}
 
 -- relation i has s and t
 abbrev Has : Ways → ℕ → ℕ → ℕ → Type 0
@@ -57,18 +57,18 @@ module _ (W : Ways) (m : ℕ) where
   own-in t i (inr two) = or-r (W m t i) _ (joined-in (W m m) (W m t) i (inr two))
 
   -- which ways are there then
-  passing-out : (s t i : ℕ) → Has (passing m W) s t i → Passes s t i
-  unfolding passing own
-  passing-out s t i h = ⊎-elim inl (λ k. inr (go (joined-out (W s m) (own t) i k))) (or-in (W s t i) _ h)
+  through-out : (s t i : ℕ) → Has (through m W) s t i → Passes s t i
+  unfolding through own
+  through-out s t i h = ⊎-elim inl (λ k. inr (go (joined-out (W s m) (own t) i k))) (or-in (W s t i) _ h)
     where
       go : (Has W s m 0 × (own t i ≡ true)) ⊎ (Has W s m i × (own t 0 ≡ true)) → Via s t i
       go (inl (x, y)) = ⊎-elim (λ k. inl (inl (x, k))) (λ (k, l). inr (x, k, l)) (own-out t i y)
       go (inr (x, y)) = inl (inr (x, ⊎-elim (λ k. k) (λ k. k .1) (own-out t 0 y)))
 
-  passing-in : (s t i : ℕ) → Passes s t i → Has (passing m W) s t i
-  unfolding passing own
-  passing-in s t i (inl h) = or-l (W s t i) _ h
-  passing-in s t i (inr v) = or-r (W s t i) _ (joined-in (W s m) (own t) i (go v))
+  through-in : (s t i : ℕ) → Passes s t i → Has (through m W) s t i
+  unfolding through own
+  through-in s t i (inl h) = or-l (W s t i) _ h
+  through-in s t i (inr v) = or-r (W s t i) _ (joined-in (W s m) (own t) i (go v))
     where
       go : Via s t i → (Has W s m 0 × (own t i ≡ true)) ⊎ (Has W s m i × (own t 0 ≡ true))
       go (inl (inl (x, y))) = inl (x, own-in t i (inl y))
@@ -123,43 +123,43 @@ module _ (W : Ways) (m : ℕ) where
         go (inr (inl (inr (x, _)))) y z = inr (inl (inr (x, z)))
         go (inr (inr (x, h, _))) y z = inr (inr (x, h, z))
 
-    passing-closed : Closed (passing m W) (suc m)
-    passing-closed s p t i p-lt two = passing-in s t i (go (ℕ-discrete p m) two)
+    through-closed : Closed (through m W) (suc m)
+    through-closed s p t i p-lt two = through-in s t i (go (ℕ-discrete p m) two)
       where
-        go : Dec (p ≡ m) → Two (passing m W) s p t i → Passes s t i
-        go (no other) (inl (h, k)) = back s p t i (omega arith) (passing-out s p 0 h) (passing-out p t i k)
-        go (no other) (inr (h, k)) = front s p t i (omega arith) (passing-out s p i h) (passing-out p t 0 k)
+        go : Dec (p ≡ m) → Two (through m W) s p t i → Passes s t i
+        go (no other) (inl (h, k)) = back s p t i (omega arith) (through-out s p 0 h) (through-out p t i k)
+        go (no other) (inr (h, k)) = front s p t i (omega arith) (through-out s p i h) (through-out p t 0 k)
         go (yes e) (inl (h, k)) =
-            let first : Has W s m 0 = ⊎-elim (λ x. x) (λ x. x .0) (to-m s 0 (passing-out s m 0 (rw e at h))) in
-            inr (⊎-elim (λ x. inl (inl (first, x))) (λ (x, y). inr (first, x, y)) (from-m t i (passing-out m t i (rw e at k))))
+            let first : Has W s m 0 = ⊎-elim (λ x. x) (λ x. x .0) (to-m s 0 (through-out s m 0 (rw e at h))) in
+            inr (⊎-elim (λ x. inl (inl (first, x))) (λ (x, y). inr (first, x, y)) (from-m t i (through-out m t i (rw e at k))))
         go (yes e) (inr (h, k)) =
-            let second : Has W m t 0 = ⊎-elim (λ x. x) (λ x. x .1) (from-m t 0 (passing-out m t 0 (rw e at k))) in
-            inr (⊎-elim (λ x. inl (inr (x, second))) (λ (x, y). inr (x, y, second)) (to-m s i (passing-out s m i (rw e at h))))
+            let second : Has W m t 0 = ⊎-elim (λ x. x) (λ x. x .1) (from-m t 0 (through-out m t 0 (rw e at k))) in
+            inr (⊎-elim (λ x. inl (inr (x, second))) (λ (x, y). inr (x, y, second)) (to-m s i (through-out s m i (rw e at h))))
 
 -- ALL STATES BELOW m
 
 module _ (W : Ways) where
-  pub widened-closed : (m : ℕ) → Closed (widened m W) m
-  unfolding widened
-  widened-closed zero s p t i p-lt two = absurd (omega arith)
-  widened-closed (suc m) s p t i p-lt two = passing-closed (widened m W) m (widened-closed m) s p t i p-lt two
+  pub closure-closed : (m : ℕ) → Closed (closure m W) m
+  unfolding closure
+  closure-closed zero s p t i p-lt two = absurd (omega arith)
+  closure-closed (suc m) s p t i p-lt two = through-closed (closure m W) m (closure-closed m) s p t i p-lt two
 
   -- the ways W are among them
-  pub widened-has : (m s t i : ℕ) → Has W s t i → Has (widened m W) s t i
-  unfolding widened
-  widened-has zero s t i h = h
-  widened-has (suc m) s t i h = passing-in (widened m W) m s t i (inl (widened-has m s t i h))
+  pub closure-has : (m s t i : ℕ) → Has W s t i → Has (closure m W) s t i
+  unfolding closure
+  closure-has zero s t i h = h
+  closure-has (suc m) s t i h = through-in (closure m W) m s t i (inl (closure-has m s t i h))
 
   -- and what holds of the ways W from a state below n by a relation up to k, and of two ways one behind the other, holds of them
   module _ (n k : ℕ) (P : ℕ → ℕ → ℕ → Type 0) (once : (s t i : ℕ) → s < n → i ≤ k → Has W s t i → P s t i)
       (back : (s p t i : ℕ) → P s p 0 → P p t i → P s t i) (front : (s p t i : ℕ) → P s p i → P p t 0 → P s t i) where
-    pub widened-sound : (m s t i : ℕ) → m ≤ n → s < n → i ≤ k → Has (widened m W) s t i → P s t i
-    unfolding widened
-    widened-sound zero s t i within s-lt h has = once s t i s-lt h has
-    widened-sound (suc m) s t i within s-lt h has =
-        go (passing-out (widened m W) m s t i has) (λ s t i l h. widened-sound m s t i (omega arith) l h)
+    pub closure-sound : (m s t i : ℕ) → m ≤ n → s < n → i ≤ k → Has (closure m W) s t i → P s t i
+    unfolding closure
+    closure-sound zero s t i within s-lt h has = once s t i s-lt h has
+    closure-sound (suc m) s t i within s-lt h has =
+        go (through-out (closure m W) m s t i has) (λ s t i l h. closure-sound m s t i (omega arith) l h)
       where
-        go : Passes (widened m W) m s t i → ((s t i : ℕ) → s < n → i ≤ k → Has (widened m W) s t i → P s t i) → P s t i
+        go : Passes (closure m W) m s t i → ((s t i : ℕ) → s < n → i ≤ k → Has (closure m W) s t i → P s t i) → P s t i
         go (inl x) below = below s t i s-lt h x
         go (inr (inl (inl (x, y)))) below = back s m t i (below s m 0 s-lt (omega arith) x) (below m t i (omega arith) h y)
         go (inr (inl (inr (x, y)))) below = front s m t i (below s m i s-lt h x) (below m t 0 (omega arith) (omega arith) y)

@@ -15,49 +15,49 @@ use Rattle.base.proofs.BitSet.{member-none, union-assoc}
 use Rattle.base.proofs.Logic.{clash}
 use Rattle.rule.specs.Limits.{maxSets}
 use Rattle.rule.specs.inner.Lanes.{laneWidth, mapOf, wordOf, eachLane, lanesWith, inLane, inLanes}
-use Rattle.rule.specs.inner.Lookup.{LetterTable, imagesBy, lookUp}
+use Rattle.rule.specs.inner.Lookup.{Lookup, imagesBy, lookUp}
 use Rattle.rule.proofs.LaneLaws.{map-lt, map-union, lane-zero, wordOf-ext, wordOf-one, wordOf-at, wordOf-more, stands, stands-none, lanes-with, in-lanes, in-lanes-none, in-lanes-at}
-use Rattle.word.specs.inner.WalkTables.{Tables}
+use Rattle.word.specs.inner.WalkLookups.{Lookups}
 use Rattle.plain.specs.inner.Letters.{over, onward, extended}
 
 -- LETTER BY LETTER
 
-module _ (f : LetterTable → ℕ → ℕ) (tables : Tables) (w : List ℕ) (at x : ℕ) where
+module _ (f : Lookup → ℕ → ℕ) (lookups : Lookups) (w : List ℕ) (at x : ℕ) where
   -- at the end of the letters
-  pub over-done : length w ≤ at → at ≤ length w → over f tables (drop at w) x ≡ x
+  pub over-done : length w ≤ at → at ≤ length w → over f lookups (drop at w) x ≡ x
   unfolding over
   over-done all within = let e : at ≡ length w = omega arith in rw (e, drop-length w)
 
   -- one letter more
-  pub over-more : (next : ℕ) → at < length w → next ≡ f (getD tables (getD w at 0) []) x
-      → over f tables (drop (at + 1) w) next ≡ over f tables (drop at w) x
+  pub over-more : (next : ℕ) → at < length w → next ≡ f (getD lookups (getD w at 0) []) x
+      → over f lookups (drop (at + 1) w) next ≡ over f lookups (drop at w) x
   unfolding over
   over-more next small e = rw (add-one, drop-cons w at 0 small, e)
 
 -- A LETTER BEHIND A ROW
 
 -- from no state nowhere, and from others where a look-up says
-pub onward-none : (table : LetterTable) → onward table 0 ≡ 0
+pub onward-none : (table : Lookup) → onward table 0 ≡ 0
 unfolding onward
 onward-none table = refl
 
-pub onward-some : (table : LetterTable) (s : ℕ) → (s ≡ 0 → ⊥) → onward table s ≡ lookUp table 0 s
+pub onward-some : (table : Lookup) (s : ℕ) → (s ≡ 0 → ⊥) → onward table s ≡ lookUp table 0 s
 unfolding onward
 onward-some table s some = simp (ne-eqb s 0 some)
 
 -- its members are those of the look-up
-pub onward-out : (table : LetterTable) (s r : ℕ) → member (onward table s) r ≡ true → member (lookUp table 0 s) r ≡ true
+pub onward-out : (table : Lookup) (s r : ℕ) → member (onward table s) r ≡ true → member (lookUp table 0 s) r ≡ true
 onward-out table s r m = go (ℕ-discrete s 0)
   where
     go : Dec (s ≡ 0) → member (lookUp table 0 s) r ≡ true
     go (yes none) = clash (member-none r) (rw (none, onward-none table) at m)
     go (no some) = rw (onward-some table s some) at m
 
-pub onward-in : (table : LetterTable) (s q r : ℕ) → member s q ≡ true → member (lookUp table 0 s) r ≡ true → member (onward table s) r ≡ true
+pub onward-in : (table : Lookup) (s q r : ℕ) → member s q ≡ true → member (lookUp table 0 s) r ≡ true → member (onward table s) r ≡ true
 onward-in table s q r inside m = rw (onward-some table s (λ none. clash (member-none q) (rw none at inside))) m
 
 -- it is a map of states
-pub onward-lt : (table : LetterTable) (s : ℕ) → onward table s < 2 ^ laneWidth
+pub onward-lt : (table : Lookup) (s : ℕ) → onward table s < 2 ^ laneWidth
 unfolding lookUp
 onward-lt table s = go (ℕ-discrete s 0)
   where
@@ -65,7 +65,7 @@ onward-lt table s = go (ℕ-discrete s 0)
     go (yes none) = rw (none, onward-none table) (omega arith)
     go (no some) = rw (onward-some table s some) (map-lt _ 0)
 
-module _ (table : LetterTable) (row : ℕ) where
+module _ (table : Lookup) (row : ℕ) where
   -- the images of its states, by all relations at once
   abbrev own : ℕ
   own = imagesBy table (mapOf row 0)

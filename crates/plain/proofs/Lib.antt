@@ -5,7 +5,7 @@ pub mod WayLaws
 pub mod WaysLead
 pub mod Closure
 pub mod RoundsLead
-pub mod LoopSearch
+pub mod LassoSearch
 pub mod Searching
 pub mod ScratchBytes
 pub mod Judging

@@ -11,7 +11,7 @@ use Rattle.word.specs.Judging.{walkQuestions}
 use Rattle.word.specs.Keeps.{Keeps}
 use Rattle.word.specs.Verdict.{Decides}
 use Rattle.word.proofs.JudgeQuestions.{with-room}
-use Rattle.word.proofs.LoopTheorem.{loop-theorem}
+use Rattle.word.proofs.LassoTheorem.{lasso-theorem}
 use Rattle.word.proofs.RefusalNumbers.{judge-tells}
 use Rattle.word.proofs.Verdicts.{decides-one, decides-same}
 use Rattle.plain.specs.PlainCall.{scratchLength, plainOutcome, PlainAnswers, PlainNumber, SameAsBefore}
@@ -21,7 +21,7 @@ use Rattle.plain.specs.declared.judge.PlainAnswer.{PlainAnswer}
 pub plain-decides : (R : Rule) (u v : List ℕ) (answer : PlainAnswer) → PlainAnswers (accepted R) u v answer → WellFormed R → (v ≡ [] → ⊥)
     → Decides (answer .verdict) (Keeps R u v)
 plain-decides R u v answer (_, d) well nonempty =
-    let (to-loop, from-loop) = loop-theorem R u v well nonempty in
+    let (to-loop, from-loop) = lasso-theorem R u v well nonempty in
     decides-same from-loop to-loop d
 
 -- the number of an answer that the contract allows

@@ -13,7 +13,7 @@ use Rattle.rule.specs.inner.Lanes.{laneWidth, mapOf, chosenLanes, eachLane, lan
 use Rattle.rule.specs.Limits.{maxSets}
 use Rattle.rule.proofs.LaneLaws.{map-lt, map-none, map-union, kept-in, chosen-kept, lanes-with-state, in-lanes-member}
 use Rattle.plain.specs.inner.Ways.{Ways, joined, ways, AreWays, Changed}
-use Rattle.plain.specs.inner.Rounds.{passing, widened, continued}
+use Rattle.plain.specs.inner.Rounds.{through, closure, continued}
 
 -- ONE ROW
 
@@ -47,8 +47,8 @@ continued-at row m behind i t m-lt h = ap (λ (x : ℕ). member x t) (map-union 
 
 -- one state more that may be passed
 pub through-ways : (m n behind : ℕ) (before after : List ℕ) → m < laneWidth → behind ≡ continued (getD before m 0) m (getD before m 0)
-    → Changed (λ row. continued row m behind) n before after → AreWays n (passing m (ways before)) after
-unfolding passing ways joined
+    → Changed (λ row. continued row m behind) n before after → AreWays n (through m (ways before)) after
+unfolding through ways joined
 through-ways m n behind before after m-lt own changed s t i s-lt h =
     ap (λ (row : ℕ). member (mapOf row i) t) (changed .first s s-lt) ∙ continued-at (getD before s 0) m behind i t m-lt h
     ∙ rw (back i h, back 0 (omega arith))
@@ -58,10 +58,10 @@ through-ways m n behind before after m-lt own changed s t i s-lt h =
     back i h = ap (λ (row : ℕ). member (mapOf row i) t) own ∙ continued-at (getD before m 0) m (getD before m 0) i t m-lt h
 
 -- and one state after the other
-pub widened-more : (W : Ways) (n m : ℕ) (rows more : List ℕ) → m < n → AreWays n (widened m W) rows
-    → AreWays n (passing m (ways rows)) more → AreWays n (widened (m + 1) W) more
-unfolding widened passing joined
-widened-more W n m rows more m-lt are new s t i s-lt h = new s t i s-lt h ∙ rw (
+pub closure-more : (W : Ways) (n m : ℕ) (rows more : List ℕ) → m < n → AreWays n (closure m W) rows
+    → AreWays n (through m (ways rows)) more → AreWays n (closure (m + 1) W) more
+unfolding closure through joined
+closure-more W n m rows more m-lt are new s t i s-lt h = new s t i s-lt h ∙ rw (
   add-one,
   are s t i s-lt h,
   are s m 0 s-lt (omega arith),

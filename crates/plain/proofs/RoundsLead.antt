@@ -11,12 +11,12 @@ use Rattle.rule.specs.Limits.{maxSets}
 use Rattle.rule.specs.Rule.{Rule}
 use Rattle.rule.specs.WellFormed.{WellFormed}
 use Rattle.word.specs.Walk.{rounds}
-use Rattle.word.specs.Loop.{Leads}
+use Rattle.word.specs.Lasso.{Leads}
 use Rattle.word.proofs.Paths.{rounds-one, leads-rounds, leads-rounds-split, leads-inside}
 use Rattle.plain.specs.inner.Ways.{Ways}
-use Rattle.plain.specs.inner.Rounds.{widened}
+use Rattle.plain.specs.inner.Rounds.{closure}
 use Rattle.plain.proofs.WayLaws.{Takes, takes-union, takes-apart}
-use Rattle.plain.proofs.Closure.{widened-closed, widened-has, widened-sound}
+use Rattle.plain.proofs.Closure.{closure-closed, closure-has, closure-sound}
 
 -- the ways W are those of one tail
 pub record TailWays (R : Rule) (v : List ℕ) (W : Ways) : Type 0 where
@@ -49,21 +49,21 @@ module _ (R : Rule) (well : WellFormed R) (v : List ℕ) (W : Ways) (tail : Tail
       (j + j′, omega arith, bitOr c d, leads-rounds R j j′ v s c p d t x y, takes-union c d i (inl takes))
 
   found-one : (s c t i : ℕ) → s < R .states → i ≤ maxSets → Leads R (rounds 1 v) s c t → Takes c i
-      → widened (R .states) W s t i ≡ true
-  found-one s c t i s-lt h p takes = widened-has W (R .states) s t i (tail .complete s c t i s-lt h (rw (rounds-one v) at p) takes)
+      → closure (R .states) W s t i ≡ true
+  found-one s c t i s-lt h p takes = closure-has W (R .states) s t i (tail .complete s c t i s-lt h (rw (rounds-one v) at p) takes)
 
   found : (s c t j i : ℕ) → s < R .states → i ≤ maxSets → Leads R (rounds (suc j) v) s c t → Takes c i
-      → widened (R .states) W s t i ≡ true
+      → closure (R .states) W s t i ≡ true
   found s c t zero i s-lt h p takes = found-one s c t i s-lt h p takes
   found s e t (suc j) i s-lt h p takes =
       let (r, c, d, q, q′, z) = leads-rounds-split R (suc j) 1 v s e t (rw (← add-one (suc j)) at p) in
       let r-lt = leads-inside R well (rounds (suc j) v) s c r q s-lt in
-      widened-closed W (R .states) s r t i r-lt
+      closure-closed W (R .states) s r t i r-lt
       (⊎-elim (λ k. inr (found s c r j i s-lt h q k, found-one r d t 0 r-lt (omega arith) q′ tt))
       (λ k. inl (found s c r j 0 s-lt (omega arith) q tt, found-one r d t i r-lt h q′ k)) (takes-apart c d i (subst (λ e. Takes e i) z takes)))
 
-  pub rounds-ways : RoundsWays R v (widened (R .states) W)
+  pub rounds-ways : RoundsWays R v (closure (R .states) W)
   rounds-ways = record {
-    sound = λ s t i s-lt h has. widened-sound W (R .states) maxSets (Tails R v) once back front (R .states) s t i (omega arith) s-lt h has;
+    sound = λ s t i s-lt h has. closure-sound W (R .states) maxSets (Tails R v) once back front (R .states) s t i (omega arith) s-lt h has;
     complete = found;
   }

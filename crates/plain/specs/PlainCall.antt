@@ -8,7 +8,7 @@ use Rattle.base.specs.Outcome.{Outcome, refused, accepted, Tells}
 use Rattle.base.specs.LentBuffer.{stored}
 use Rattle.rule.specs.Rule.{Rule}
 use Rattle.word.specs.Judging.{judgeQuestions}
-use Rattle.word.specs.Keeps.{KeepsByLoop}
+use Rattle.word.specs.Keeps.{KeepsByLasso}
 use Rattle.word.specs.Verdict.{Decides}
 use Rattle.plain.specs.declared.judge.PlainAnswer.{PlainAnswer}
 
@@ -23,7 +23,7 @@ plainOutcome table u v scratch = judgeQuestions scratchLength table u v scratch
 -- the answer: yes exactly when the walk keeps the rule, by a loop; on a refusal its number and zero
 abbrev pub PlainAnswers : Outcome Rule → List ℕ → List ℕ → PlainAnswer → Type 0
 PlainAnswers (refused number) u v answer = answer ≡ record { number = number; verdict = 0 }
-PlainAnswers (accepted R) u v answer = (answer .number ≡ 0) × Decides (answer .verdict) (KeepsByLoop R u v)
+PlainAnswers (accepted R) u v answer = (answer .number ≡ 0) × Decides (answer .verdict) (KeepsByLasso R u v)
 
 -- the scratch bytes afterwards: "the bytes it wants are still left zero, those past them unchanged"; on a refusal all unchanged
 unfoldable pub scratchAfter : Outcome Rule → List ℕ → List ℕ

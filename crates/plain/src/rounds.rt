@@ -1,5 +1,5 @@
 // "j further tails", one or more: the ways that they open between any two states.
-use crate::tail::Rows;
+use crate::tail::Matrix;
 use rule::lanes::in_lanes;
 use rule::lanes::lanes_to;
 use rule::lanes::lanes_with;
@@ -10,7 +10,7 @@ ghost use Prim.Native.Nat.{_<_, _≤_};
 ghost use lib.ListN.{length};
 ghost use Rattle.rule.specs.inner.Lanes.{laneWidth};
 ghost use Rattle.plain.specs.inner.Ways.{AreWays, ways};
-ghost use Rattle.plain.specs.inner.Rounds.{continued, passing, widened};
+ghost use Rattle.plain.specs.inner.Rounds.{continued, through, closure};
 
 // A row with more ways: each way to `middle`, and behind it a way of the row `behind`. The sets are those of both. No branch: a
 // product with 1 or 0 keeps a row or drops it, and one product puts a map into the lanes of all relations with a way.
@@ -23,10 +23,10 @@ fn continued(row: u64, middle: usize, behind: u64) -> u64
 }
 
 // One more state that a way may pass between two tails, once or over and over.
-fn through_state(rows: &mut Rows, middle: usize, n: usize)
+fn closure_through(rows: &mut Matrix, middle: usize, n: usize)
     requires { ⌜ (n ≤ laneWidth) × ((middle < n) × (length (now rows) ≡ laneWidth)) ⌝ }
     ensures { λ _. ⌜ (length (now (rows .exit)) ≡ laneWidth)
-        × AreWays n (passing middle (ways (now (rows .entry)))) (now (rows .exit)) ⌝ }
+        × AreWays n (through middle (ways (now (rows .entry)))) (now (rows .exit)) ⌝ }
 {
     let own = rows[middle];
     let behind = continued(own, middle, own);
@@ -38,13 +38,13 @@ fn through_state(rows: &mut Rows, middle: usize, n: usize)
 }
 
 // From the rows of one tail to those of one or more tails: between two tails a way may pass any state.
-pub fn widen_rows(rows: &mut Rows, n: usize)
+pub fn transitive_closure(rows: &mut Matrix, n: usize)
     requires { ⌜ (n ≤ laneWidth) × (length (now rows) ≡ laneWidth) ⌝ }
-    ensures { λ _. ⌜ AreWays n (widened n (ways (now (rows .entry)))) (now (rows .exit)) ⌝ }
+    ensures { λ _. ⌜ AreWays n (closure n (ways (now (rows .entry)))) (now (rows .exit)) ⌝ }
 {
     let mut middle = 0usize;
     while middle < n {
-        through_state(rows, middle, n);
+        closure_through(rows, middle, n);
         middle += 1;
     }
 }

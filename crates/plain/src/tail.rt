@@ -6,9 +6,9 @@ use rule::lanes::lanes_to;
 use rule::lanes::lanes_with;
 use rule::lanes::map_of;
 use rule::limits::SETS;
-use rule::lookup::LetterTable;
+use rule::lookup::Lookup;
 use rule::lookup::look_up;
-use word::tables::AllTables;
+use word::lookups::Lookups;
 ghost use mathlib.Core.Path.{_≡_};
 ghost use Prim.Native.Nat.{ℕ, _<_, _≤_};
 ghost use lib.ListN.{getD, length};
@@ -19,10 +19,10 @@ ghost use Rattle.plain.specs.inner.Ways.{Changed};
 ghost use Rattle.plain.specs.inner.Letters.{extended, onward, ownRow, rowAfter};
 
 // A row for each state that the ways come from; specs/Ways.antt says what stands in a row.
-pub type Rows = [u64; LANE_WIDTH];
+pub type Matrix = [u64; LANE_WIDTH];
 
 // Where any transition of a letter leads to from some states; from none nowhere.
-fn onward(table: &LetterTable, states: u16) -> u16
+fn onward(table: &Lookup, states: u16) -> u16
     ensures { λ r. ⌜ r ≡ onward (now (table .entry)) states ⌝ }
 {
     if states == 0 {
@@ -33,7 +33,7 @@ fn onward(table: &LetterTable, states: u16) -> u16
 
 // A row with one letter more behind its ways. The transition of set i is taken at this letter: one look-up has all these ways. Or it is
 // taken before, and any transition leads on; where each map has all of the row's states or none, the same look-up tells.
-fn extended(table: &LetterTable, row: u64) -> u64
+fn extended(table: &Lookup, row: u64) -> u64
     ensures { λ r. ⌜ r ≡ extended (now (table .entry)) row ⌝ }
 {
     let states = map_of(row, 0);
@@ -54,7 +54,7 @@ fn extended(table: &LetterTable, row: u64) -> u64
 }
 
 // One letter more, for the first n rows.
-fn letter_rows(table: &LetterTable, rows: &mut Rows, n: usize)
+fn append_letter(table: &Lookup, rows: &mut Matrix, n: usize)
     requires { ⌜ (n ≤ laneWidth) × (length (now rows) ≡ laneWidth) ⌝ }
     ensures { λ _. ⌜ Changed (extended (now (table .entry))) n (now (rows .entry)) (now (rows .exit)) ⌝ }
 {
@@ -66,7 +66,7 @@ fn letter_rows(table: &LetterTable, rows: &mut Rows, n: usize)
 }
 
 // The rows of no letter: each state leads to itself, and no transition is taken.
-fn own_rows() -> Rows
+fn identity_matrix() -> Matrix
     ensures { λ r. ⌜ r ≡ tabulate laneWidth ownRow ⌝ }
 {
     let mut rows = [0u64; LANE_WIDTH];
@@ -79,14 +79,14 @@ fn own_rows() -> Rows
 }
 
 // The rows of the tail v, from its first letter to its last, for the states below n.
-pub fn tail_rows(tables: &AllTables, v: &[u8], n: usize) -> Rows
+pub fn tail_matrix(lookups: &Lookups, v: &[u8], n: usize) -> Matrix
     requires { ⌜ (n ≤ laneWidth) × Every (λ a. a < maxLetters) (now v) ⌝ }
-    ensures { λ r. ⌜ ((s : ℕ) → s < n → getD r s 0 ≡ rowAfter (now (tables .entry)) (now (v .entry)) (ownRow s)) ⌝ }
+    ensures { λ r. ⌜ ((s : ℕ) → s < n → getD r s 0 ≡ rowAfter (now (lookups .entry)) (now (v .entry)) (ownRow s)) ⌝ }
 {
-    let mut rows = own_rows();
+    let mut rows = identity_matrix();
     let mut at = 0usize;
     while at < v.len() {
-        letter_rows(&tables[v[at] as usize], &mut rows, n);
+        append_letter(&lookups[v[at] as usize], &mut rows, n);
         at += 1;
     }
     rows

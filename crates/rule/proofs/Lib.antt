@@ -7,4 +7,4 @@ pub mod LaneLaws
 pub mod ByRelation
 pub mod RowWords
 pub mod LookupSteps
-pub mod LookupTable
+pub mod LookupLaws

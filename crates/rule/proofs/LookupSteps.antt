@@ -22,10 +22,10 @@ use Rattle.base.proofs.Tabulate.{length-tabulate, getD-tabulate, tabulate-ext}
 use Rattle.rule.specs.Limits.{noTransition}
 use Rattle.rule.specs.inner.Lanes.{laneWidth, setLanes}
 use Rattle.rule.specs.Rule.{Grid, cellAt, edge, edgeIn}
-use Rattle.rule.specs.inner.Lookup.{relationsOf, relation, rowWord, squareWords, gridWords, images, LetterTable, letterTable, joinedWord, joinedTable}
+use Rattle.rule.specs.inner.Lookup.{relationsOf, relation, rowWord, squareWords, gridWords, images, Lookup, letterLookup, joinedWord, joinedLookup}
 use Rattle.rule.specs.inner.LookupSteps.{StateAdded}
 use Rattle.rule.proofs.ByRelation.{relations-ext, relations-none}
-use Rattle.rule.proofs.LookupTable.{images-union}
+use Rattle.rule.proofs.LookupLaws.{images-union}
 use Rattle.rule.proofs.RowWords.{word-at, words-at}
 
 -- a byte's map of relations says which relations its transition stands in
@@ -117,21 +117,21 @@ joined-images square (suc q) h s small = go (decLt s (2 ^ q)) (joined-images squ
         ∙ images-more square q j (omega arith) few)
 
 -- so they give the letter's table
-pub joined-table : (square : List (List ℕ)) → joinedTable (squareWords square) ≡ letterTable square
-unfolding joinedTable letterTable
-joined-table square = ap₂ (λ (l r : LetterTable). l ++ r)
+pub joined-lookup : (square : List (List ℕ)) → joinedLookup (squareWords square) ≡ letterLookup square
+unfolding joinedLookup letterLookup
+joined-lookup square = ap₂ (λ (l r : Lookup). l ++ r)
     (tabulate-ext 16 _ _ (λ j h. joined-images square laneWidth (omega arith) j (omega arith)))
     (tabulate-ext 16 _ _ (λ j h. joined-images square laneWidth (omega arith) (16 * j) (omega arith)))
 
 -- of the letter a of the arrays, from the words that stand beside them
-pub table-made : (cells : Grid) {words : List (List ℕ)} → words ≡ gridWords cells → (a : ℕ) {table : LetterTable}
-    → table ≡ joinedTable (getD words a []) → table ≡ letterTable (getD cells a [])
-table-made cells are a made = made ∙ ap joinedTable (rw are (words-at cells a)) ∙ joined-table (getD cells a [])
+pub lookup-made : (cells : Grid) {words : List (List ℕ)} → words ≡ gridWords cells → (a : ℕ) {table : Lookup}
+    → table ≡ joinedLookup (getD words a []) → table ≡ letterLookup (getD cells a [])
+lookup-made cells are a made = made ∙ ap joinedLookup (rw are (words-at cells a)) ∙ joined-lookup (getD cells a [])
 
 -- ONE MORE STATE
 
 -- before the first set
-pub added-none : (words : List ℕ) (q : ℕ) (table : LetterTable) → length table ≡ 32 → StateAdded words q 0 table table
+pub added-none : (words : List ℕ) (q : ℕ) (table : Lookup) → length table ≡ 32 → StateAdded words q 0 table table
 added-none words q table size = record {
   entries = size;
   low = λ j h. absurd (omega arith);
@@ -140,7 +140,7 @@ added-none words q table size = record {
 }
 
 -- one more set: the entries of both halves
-pub added-more : (words : List ℕ) (q made j : ℕ) (before table : LetterTable) → StateAdded words q j before table → made ≡ 2 ^ q → q < 4 → j < made
+pub added-more : (words : List ℕ) (q made j : ℕ) (before table : Lookup) → StateAdded words q j before table → made ≡ 2 ^ q → q < 4 → j < made
     → let first = set table (made + j) (bitOr (getD table j 0) (getD words q 0)) in
     StateAdded words q (j + 1) before (set first (16 + (made + j)) (bitOr (getD first (16 + j) 0) (getD words (4 + q) 0)))
 added-more words q made j before table v em hq hj = rw em
@@ -155,13 +155,13 @@ added-more words q made j before table v em hq hj = rw em
     x : ℕ
     x = bitOr (getD table j 0) (getD words q 0)
 
-    first : LetterTable
+    first : Lookup
     first = set table c x
 
     y : ℕ
     y = bitOr (getD first (16 + j) 0) (getD words (4 + q) 0)
 
-    last : LetterTable
+    last : Lookup
     last = set first (16 + c) y
 
     more-low : (i : ℕ) → i < j + 1 → getD last (2 ^ q + i) 0 ≡ bitOr (getD before i 0) (getD words q 0)
@@ -190,13 +190,13 @@ added-more words q made j before table v em hq hj = rw em
 -- ALL STATES
 
 -- the first c entries of each half of a letter's table are made
-pub record Filled (words : List ℕ) (c : ℕ) (table : LetterTable) : Type 0 where
+pub record Filled (words : List ℕ) (c : ℕ) (table : Lookup) : Type 0 where
   pub entries : length table ≡ 32
   pub low : (j : ℕ) → j < c → getD table j 0 ≡ joinedWord words j
   pub high : (j : ℕ) → j < c → getD table (16 + j) 0 ≡ joinedWord words (16 * j)
 
 -- before the first state: the empty set, in both halves
-pub filled-none : (words : List ℕ) (table : LetterTable) → length table ≡ 32 → Filled words (2 ^ 0) (set (set table 0 0) 16 0)
+pub filled-none : (words : List ℕ) (table : Lookup) → length table ≡ 32 → Filled words (2 ^ 0) (set (set table 0 0) 16 0)
 filled-none words table size = record { entries = simp length-set size; low = none-low; high = none-high }
   where
     none-low : (j : ℕ) → j < 1 → getD (set (set table 0 0) 16 0) j 0 ≡ joinedWord words j
@@ -209,7 +209,7 @@ filled-none words table size = record { entries = simp length-set size; low = no
         rw e (getD-set-same (set table 0 0) 16 0 0 (omega (arith, length-set table 0 0)) ∙ sym (joined-none words))
 
 -- with one more state there are twice as many
-pub filled-more : (words : List ℕ) (q : ℕ) (before after : LetterTable) → Filled words (2 ^ q) before → q < 4
+pub filled-more : (words : List ℕ) (q : ℕ) (before after : Lookup) → Filled words (2 ^ q) before → q < 4
     → StateAdded words q (2 ^ q) before after → Filled words (2 ^ suc q) after
 filled-more words q before after v hq add = record {
   entries = add .entries;
@@ -240,8 +240,8 @@ filled-more words q before after v hq add = record {
         ∙ sym (joined-more words (4 + q) (16 * j) (omega arith)))
 
 -- all sixteen entries of each half
-pub filled-all : (words : List ℕ) (table : LetterTable) → Filled words 16 table → table ≡ joinedTable words
-unfolding joinedTable
+pub filled-all : (words : List ℕ) (table : Lookup) → Filled words 16 table → table ≡ joinedLookup words
+unfolding joinedLookup
 filled-all words table v = ext-getD 0 table (lows ++ highs)
     (v .entries ∙ sym (length-append lows highs ∙ ap₂ _+_ (length-tabulate 16 low) (length-tabulate 16 high))) (λ i h. go i h (decLt i 16))
   where
@@ -251,10 +251,10 @@ filled-all words table v = ext-getD 0 table (lows ++ highs)
     high : ℕ → ℕ
     high j = joinedWord words (16 * j)
 
-    lows : LetterTable
+    lows : Lookup
     lows = tabulate 16 low
 
-    highs : LetterTable
+    highs : Lookup
     highs = tabulate 16 high
 
     go : (i : ℕ) → i < length table → Dec (i < 16) → getD table i 0 ≡ getD (lows ++ highs) i 0

@@ -12,7 +12,7 @@ use Rattle.base.proofs.BitSet.{set-ext, image-in, image-out}
 use Rattle.rule.specs.Limits.{maxStates, maxLetters, noTransition}
 use Rattle.rule.specs.Rule.{Grid, Rule, cellAt, edge, edgeIn, successors, successorsIn}
 use Rattle.rule.specs.WellFormed.{WellFormed}
-use Rattle.rule.specs.inner.Padded.{blankRow, blankSquare, heldRow, heldSquare, held}
+use Rattle.rule.specs.inner.Padded.{blankRow, blankSquare, paddedRow, paddedSquare, padded}
 use Rattle.rule.proofs.Edges.{edge-inside, edgeIn-edge}
 
 -- a view of elements to which the padding z looks like the default d
@@ -44,32 +44,32 @@ pub blank-row : (r : ℕ) → getD blankRow r noTransition ≡ noTransition
 blank-row r = view-behind (λ x. x) noTransition noTransition refl [] maxStates r
 
 -- the byte that the arrays hold at a place is the grid's
-held-row : (row : List ℕ) (r : ℕ) → getD (heldRow row) r noTransition ≡ getD row r noTransition
-unfolding heldRow
-held-row row r = view-pad (λ x. x) noTransition noTransition refl maxStates row r
+padded-row : (row : List ℕ) (r : ℕ) → getD (paddedRow row) r noTransition ≡ getD row r noTransition
+unfolding paddedRow
+padded-row row r = view-pad (λ x. x) noTransition noTransition refl maxStates row r
 
-held-square : (square : List (List ℕ)) (q r : ℕ)
-    → getD (getD (heldSquare square) q []) r noTransition ≡ getD (getD square q []) r noTransition
-unfolding heldSquare
-held-square square q r =
-    view-pad-map (λ row. getD row r noTransition) blankRow [] (blank-row r) heldRow (λ row. held-row row r) maxStates square q
+padded-square : (square : List (List ℕ)) (q r : ℕ)
+    → getD (getD (paddedSquare square) q []) r noTransition ≡ getD (getD square q []) r noTransition
+unfolding paddedSquare
+padded-square square q r =
+    view-pad-map (λ row. getD row r noTransition) blankRow [] (blank-row r) paddedRow (λ row. padded-row row r) maxStates square q
 
-held-cell : (grid : Grid) (a q r : ℕ) → cellAt (held grid) a q r ≡ cellAt grid a q r
-unfolding cellAt held
-held-cell grid a q r =
+padded-cell : (grid : Grid) (a q r : ℕ) → cellAt (padded grid) a q r ≡ cellAt grid a q r
+unfolding cellAt padded
+padded-cell grid a q r =
     view-pad-map (λ square. getD (getD square q []) r noTransition) blankSquare []
     (view-behind (λ row. getD row r noTransition) blankRow [] (blank-row r) [] maxStates q)
-    heldSquare (λ square. held-square square q r) maxLetters grid a
+    paddedSquare (λ square. padded-square square q r) maxLetters grid a
 
 -- so they have the grid's transitions
-pub held-edge : (grid : Grid) (a q r : ℕ) → edge (held grid) a q r ≡ edge grid a q r
+pub padded-edge : (grid : Grid) (a q r : ℕ) → edge (padded grid) a q r ≡ edge grid a q r
 unfolding edge
-held-edge grid a q r = rw (held-cell grid a q r)
+padded-edge grid a q r = rw (padded-cell grid a q r)
 
-pub held-edgeIn : (grid : Grid) (i a q r : ℕ) → edgeIn (held grid) i a q r ≡ edgeIn grid i a q r
+pub padded-edgeIn : (grid : Grid) (i a q r : ℕ) → edgeIn (padded grid) i a q r ≡ edgeIn grid i a q r
 unfolding edgeIn
-held-edgeIn grid zero a q r = refl
-held-edgeIn grid (suc i) a q r = rw (held-edge grid a q r, held-cell grid a q r)
+padded-edgeIn grid zero a q r = refl
+padded-edgeIn grid (suc i) a q r = rw (padded-edge grid a q r, padded-cell grid a q r)
 
 -- a relation on the numbers below n has the same images at any greater width
 image-wider : (n w : ℕ) (E F : ℕ → ℕ → Bool) → n ≤ w → ((q r : ℕ) → F q r ≡ E q r)
@@ -87,14 +87,14 @@ image-wider n w E F le same within s = set-ext _ _ λ r. bool-ext _ _ (narrow r)
 -- at any width w from the number of states up
 module _ (R : Rule) (well : WellFormed R) (w : ℕ) (small : R .states ≤ w) where
   -- the successors of a set, from the arrays
-  pub image-held : (a s : ℕ) → image w (edge (held (R .grid)) a) s ≡ successors R a s
+  pub image-padded : (a s : ℕ) → image w (edge (padded (R .grid)) a) s ≡ successors R a s
   unfolding successors
-  image-held a = image-wider (R .states) w (edge (R .grid) a) _ small (held-edge (R .grid) a)
+  image-padded a = image-wider (R .states) w (edge (R .grid) a) _ small (padded-edge (R .grid) a)
       (λ q r h. let inside = edge-inside R well a q r h in (inside .1, inside .2))
 
   -- and those by transitions of one set, by any relation that has these in the arrays
-  pub image-held-in : (i a s : ℕ) (F : ℕ → ℕ → Bool) → ((q r : ℕ) → F q r ≡ edgeIn (held (R .grid)) i a q r)
+  pub image-padded-in : (i a s : ℕ) (F : ℕ → ℕ → Bool) → ((q r : ℕ) → F q r ≡ edgeIn (padded (R .grid)) i a q r)
       → image w F s ≡ successorsIn R i a s
   unfolding successorsIn
-  image-held-in i a s F same = image-wider (R .states) w (edgeIn (R .grid) i a) F small (λ q r. same q r ∙ held-edgeIn (R .grid) i a q r)
+  image-padded-in i a s F same = image-wider (R .states) w (edgeIn (R .grid) i a) F small (λ q r. same q r ∙ padded-edgeIn (R .grid) i a q r)
       (λ q r h. let inside = edge-inside R well a q r (edgeIn-edge (R .grid) i a q r h) in (inside .1, inside .2)) s

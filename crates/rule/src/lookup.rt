@@ -4,18 +4,18 @@ use crate::limits::SquareWords;
 ghost use mathlib.Core.Path.{_≡_};
 ghost use Prim.Native.Nat.{_^_, _<_};
 ghost use lib.ListN.{length};
-ghost use Rattle.rule.specs.inner.Lookup.{imagesBy, joinedTable};
+ghost use Rattle.rule.specs.inner.Lookup.{imagesBy, joinedLookup};
 ghost use Rattle.rule.specs.inner.LookupSteps.{StateAdded};
 
 // The table of a letter: the images of the sets within the lowest four states, then of those within the next four. The images
 // of a set are one word of lanes: lane i has the image under relation i (0: all transitions, i: those of set i).
-pub type LetterTable = [u64; ENTRIES];
+pub type Lookup = [u64; ENTRIES];
 
 // Sixteen sets in each half.
 pub const ENTRIES: usize = 32;
 
 // The images of a map of states, all in one word: the next states in lane 0, and in lane i those reached by a transition of set i.
-pub fn look_up(table: &LetterTable, states: u16) -> u64
+pub fn look_up(table: &Lookup, states: u16) -> u64
     ensures { λ r. ⌜ r ≡ imagesBy (now (table .entry)) states ⌝ }
 {
     let s = states as usize;
@@ -23,7 +23,7 @@ pub fn look_up(table: &LetterTable, states: u16) -> u64
 }
 
 // The entries of the sets with highest state q in each half: q's images joined to the entry of the set without q.
-fn add_state(table: &mut LetterTable, words: &SquareWords, q: usize)
+fn add_state(table: &mut Lookup, words: &SquareWords, q: usize)
     requires { ⌜ (q < 4) × (length (now table) ≡ 32) ⌝ }
     ensures { λ _. ⌜ StateAdded (now (words .entry)) q (2 ^ q) (now (table .entry)) (now (table .exit)) ⌝ }
 {
@@ -40,8 +40,8 @@ fn add_state(table: &mut LetterTable, words: &SquareWords, q: usize)
 }
 
 // The table of a letter from its states' words, made in place: each state doubles the entries of both halves.
-pub fn fill_table(words: &SquareWords, table: &mut LetterTable)
-    ensures { λ _. ⌜ now (table .exit) ≡ joinedTable (now (words .entry)) ⌝ }
+pub fn fill_lookup(words: &SquareWords, table: &mut Lookup)
+    ensures { λ _. ⌜ now (table .exit) ≡ joinedLookup (now (words .entry)) ⌝ }
 {
     let entries: &mut [u64] = table;
     entries[0] = 0;

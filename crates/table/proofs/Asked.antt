@@ -8,7 +8,7 @@ use lib.ListN.{replicate}
 use Rattle.base.specs.Outcome.{Outcome, refused, accepted}
 use Rattle.rule.specs.Limits.{maxStates, maxLetters}
 use Rattle.rule.specs.Rule.{Grid, Rule}
-use Rattle.rule.specs.inner.Padded.{blankCells, held}
+use Rattle.rule.specs.inner.Padded.{blankCells, padded}
 use Rattle.rule.specs.inner.Lookup.{gridWords}
 use Rattle.rule.proofs.RowWords.{words-blank}
 use Rattle.table.specs.Table.{readRule}
@@ -51,7 +51,7 @@ pub record RuleRead (table : List ℕ) (header : Header) (cells : Grid) (words :
   pub rule : Rule
   pub reads : readRule table ≡ accepted rule
   pub holds : HoldsRule rule header words
-  pub arrays : cells ≡ held (rule .grid)
+  pub arrays : cells ≡ padded (rule .grid)
 
 module _ {o : Outcome Rule} {r : Reading} {cells : Grid} {words : List (List ℕ)} (p : ReadInto o r cells words) where
   -- a question is answered no

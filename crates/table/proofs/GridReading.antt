@@ -11,7 +11,7 @@ use Rattle.base.specs.Lists.{Every, pad}
 use Rattle.base.specs.LentBuffer.{stored}
 use Rattle.rule.specs.Limits.{maxStates, maxLetters}
 use Rattle.rule.specs.Rule.{Grid}
-use Rattle.rule.specs.inner.Padded.{heldRow, heldSquare, held}
+use Rattle.rule.specs.inner.Padded.{paddedRow, paddedSquare, padded}
 use Rattle.table.specs.Table.{gridBytes, readRule}
 use Rattle.table.specs.inner.GridBytes.{narrow}
 use Rattle.table.specs.ReadCall.{readOutcome, readAnswer, gridAfter, ReadCall}
@@ -28,23 +28,23 @@ undone : {A B : Type 0} (f : A → B) (g : B → A) (P : A → Type 0) → ((x :
 undone f g P back [] h = refl
 undone f g P back (x ∷ l) h = ap₂ _∷_ (back x (h .0)) (undone f g P back l (h .1))
 
-narrow-row : (n : ℕ) (row : List ℕ) → length row ≡ n → take n (heldRow row) ≡ row
-unfolding heldRow pad
+narrow-row : (n : ℕ) (row : List ℕ) → length row ≡ n → take n (paddedRow row) ≡ row
+unfolding paddedRow pad
 narrow-row n row e = take-at row _ n e
 
 narrow-square : (n : ℕ) (square : List (List ℕ)) → length square ≡ n → Every (λ row. length row ≡ n) square
-    → map (take n) (take n (heldSquare square)) ≡ square
-unfolding heldSquare pad
+    → map (take n) (take n (paddedSquare square)) ≡ square
+unfolding paddedSquare pad
 narrow-square n square e rows =
-    ap (map (take n)) (take-at (map heldRow square) _ n (length-map square heldRow ∙ e))
-    ∙ undone heldRow (take n) (λ row. length row ≡ n) (narrow-row n) square rows
+    ap (map (take n)) (take-at (map paddedRow square) _ n (length-map square paddedRow ∙ e))
+    ∙ undone paddedRow (take n) (λ row. length row ≡ n) (narrow-row n) square rows
 
 -- the grid comes back out of the arrays
-pub narrow-held : (n m : ℕ) (grid : Grid) → length grid ≡ m → Squares n grid → narrow n m (held grid) ≡ grid
-unfolding narrow held pad
-narrow-held n m grid e squares =
-    ap (map (λ (square : List (List ℕ)). map (take n) (take n square))) (take-at (map heldSquare grid) _ m (length-map grid heldSquare ∙ e))
-    ∙ undone heldSquare (λ square. map (take n) (take n square)) _ (λ square h. narrow-square n square (h .0) (h .1)) grid squares
+pub narrow-padded : (n m : ℕ) (grid : Grid) → length grid ≡ m → Squares n grid → narrow n m (padded grid) ≡ grid
+unfolding narrow padded pad
+narrow-padded n m grid e squares =
+    ap (map (λ (square : List (List ℕ)). map (take n) (take n square))) (take-at (map paddedSquare grid) _ m (length-map grid paddedSquare ∙ e))
+    ∙ undone paddedSquare (λ square. map (take n) (take n square)) _ (λ square h. narrow-square n square (h .0) (h .1)) grid squares
 
 -- THE CALL `read`
 
@@ -82,5 +82,5 @@ module _ {table : List ℕ} {header : Header} {cells : Grid} {words : List (List
         let R = v .rule in
         let well = v .holds .limits .well in
         let h′ = rw (v .holds .numbers) at h in
-        let same = narrow-held (R .states) (R .letters) (R .grid) (well .squares) (fits-squares (R .states) (R .sets) (R .grid) (well .fits)) in
+        let same = narrow-padded (R .states) (R .letters) (R .grid) (well .squares) (fits-squares (R .states) (R .sets) (R .grid) (well .fits)) in
         rw (v .reads, le-leb _ _ h′, e, v .holds .numbers, v .arrays, same) (refl, refl)

@@ -10,9 +10,9 @@ use Rattle.base.specs.Outcome.{refused, accepted}
 use Rattle.base.proofs.Accepted.{itself, of-accepted, asked, followed}
 use Rattle.rule.specs.Limits.{maxLetters}
 use Rattle.rule.specs.Rule.{Grid, Rule}
-use Rattle.rule.specs.inner.Padded.{held}
-use Rattle.rule.specs.inner.Lookup.{LetterTable, joinedTable}
-use Rattle.rule.proofs.LookupSteps.{table-made}
+use Rattle.rule.specs.inner.Padded.{padded}
+use Rattle.rule.specs.inner.Lookup.{Lookup, joinedLookup}
+use Rattle.rule.proofs.LookupSteps.{lookup-made}
 use Rattle.table.specs.Table.{readRule}
 use Rattle.table.specs.LetterQuestions.{letterQuestions}
 use Rattle.table.specs.inner.Preparing.{PreparedLetter}
@@ -44,11 +44,11 @@ module _ {table : List ℕ} {header : Header} {cells : Grid} {words : List (List
     letter-inside = omega (arith, below, v .holds .limits .letters)
 
     -- and the table that its states' words give is its table
-    pub letter-prepared : {lookup : LetterTable} → lookup ≡ joinedTable (getD words a []) → PreparedLetter (v .rule) header a lookup
+    pub letter-prepared : {lookup : Lookup} → lookup ≡ joinedLookup (getD words a []) → PreparedLetter (v .rule) header a lookup
     letter-prepared made = record {
       numbers = v .holds .numbers;
       limits = v .holds .limits;
-      tabled = record { below = below; entries = table-made (held (v .rule .grid)) (v .holds .images) a made };
+      tabled = record { below = below; entries = lookup-made (padded (v .rule .grid)) (v .holds .images) a made };
     }
 
 -- an accepted letter: the table is read as the rule, and the letter is one of its letters

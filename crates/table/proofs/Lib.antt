@@ -11,7 +11,7 @@ pub mod Ranges
 pub mod CellByte
 pub mod RowReading
 pub mod ManyReading
-pub mod HeldReading
+pub mod PaddedReading
 pub mod RuleReading
 pub mod Asked
 pub mod GridReading

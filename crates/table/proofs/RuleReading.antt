@@ -12,14 +12,14 @@ use Rattle.base.specs.Reading.{Read, ended}
 use Rattle.rule.specs.Limits.{maxStates}
 use Rattle.rule.specs.Rule.{Grid, Rule}
 use Rattle.rule.specs.WellFormed.{startFits}
-use Rattle.rule.specs.inner.Padded.{blankCells, held}
+use Rattle.rule.specs.inner.Padded.{blankCells, padded}
 use Rattle.table.specs.Table.{inRange, askHeader, readGrid, readBody, readRule}
 use Rattle.table.specs.inner.Header.{headerNumber}
-use Rattle.table.specs.inner.Cursor.{readHeld}
+use Rattle.table.specs.inner.Cursor.{readPadded}
 use Rattle.table.specs.inner.ReadRule.{readingOf, cellsAfter}
 use Rattle.table.specs.declared.reader.Reading.{Reading}
 use Rattle.table.specs.declared.reader.Reading.the-variants.{Refused, Rule as Reading·Rule}
-use Rattle.table.proofs.HeldReading.{grid-held}
+use Rattle.table.proofs.PaddedReading.{grid-padded}
 
 -- what a call says and leaves in the arrays
 abbrev Says : Outcome Rule → Reading → Grid → Type 0
@@ -36,31 +36,31 @@ all-ended s at h = rw (drop-of-length-le s h)
 
 module _ (n m k start : ℕ) (bytes : List ℕ) (le : n ≤ maxStates) where
   -- question 4 or 5 failed
-  pub body-refused : (number : ℕ) → refused number ≡ readHeld n m k bytes → Says (readBody n m k start bytes) (Refused number) blankCells
+  pub body-refused : (number : ℕ) → refused number ≡ readPadded n m k bytes → Says (readBody n m k start bytes) (Refused number) blankCells
   unfolding readBody readingOf cellsAfter
   body-refused number e = go (readGrid n m k bytes) refl
     where
       go : (o : Read Grid) → readGrid n m k bytes ≡ o → Says (readBody n m k start bytes) (Refused number) blankCells
       go (refused other) is =
-          let same : _≡_ {A = Read Grid} (refused number) (refused other) = e ∙ grid-held n m k bytes le ∙ rw is in
+          let same : _≡_ {A = Read Grid} (refused number) (refused other) = e ∙ grid-padded n m k bytes le ∙ rw is in
           let z : number ≡ other = cc in
           rw (is, z) (refl, refl)
       go (accepted x) is =
-          let same : _≡_ {A = Read Grid} (refused number) (accepted (held (x .0), x .1)) = e ∙ grid-held n m k bytes le ∙ rw is in
+          let same : _≡_ {A = Read Grid} (refused number) (accepted (padded (x .0), x .1)) = e ∙ grid-padded n m k bytes le ∙ rw is in
           let z : _≡_ {A = ℕ} 0 1 = cc in absurd (omega arith)
 
-  module _ (s : List ℕ) (at : ℕ) (cells : Grid) (e : accepted (cells, drop at s) ≡ readHeld n m k bytes) where
+  module _ (s : List ℕ) (at : ℕ) (cells : Grid) (e : accepted (cells, drop at s) ≡ readPadded n m k bytes) where
     -- the grid that was read, as the arrays hold it
-    grid-read : (grid : Grid) × (readGrid n m k bytes ≡ accepted (grid, drop at s)) × (held grid ≡ cells)
+    grid-read : (grid : Grid) × (readGrid n m k bytes ≡ accepted (grid, drop at s)) × (padded grid ≡ cells)
     grid-read = go (readGrid n m k bytes) refl
       where
-        go : (o : Read Grid) → readGrid n m k bytes ≡ o → (grid : Grid) × (readGrid n m k bytes ≡ accepted (grid, drop at s)) × (held grid ≡ cells)
+        go : (o : Read Grid) → readGrid n m k bytes ≡ o → (grid : Grid) × (readGrid n m k bytes ≡ accepted (grid, drop at s)) × (padded grid ≡ cells)
         go (refused number) is =
-            let same : _≡_ {A = Read Grid} (accepted (cells, drop at s)) (refused number) = e ∙ grid-held n m k bytes le ∙ rw is in
+            let same : _≡_ {A = Read Grid} (accepted (cells, drop at s)) (refused number) = e ∙ grid-padded n m k bytes le ∙ rw is in
             let z : _≡_ {A = ℕ} 0 1 = cc in absurd (omega arith)
         go (accepted x) is =
-            let same : _≡_ {A = Read Grid} (accepted (cells, drop at s)) (accepted (held (x .0), x .1)) = e ∙ grid-held n m k bytes le ∙ rw is in
-            let pair : _≡_ {A = Grid × List ℕ} (cells, drop at s) (held (x .0), x .1) = cc in
+            let same : _≡_ {A = Read Grid} (accepted (cells, drop at s)) (accepted (padded (x .0), x .1)) = e ∙ grid-padded n m k bytes le ∙ rw is in
+            let pair : _≡_ {A = Grid × List ℕ} (cells, drop at s) (padded (x .0), x .1) = cc in
             (x .0, is ∙ ap (λ (r : List ℕ). accepted (x .0, r)) (sym (ap (λ (p : Grid × List ℕ). p .1) pair)), sym (ap (λ (p : Grid × List ℕ). p .0) pair))
 
     -- question 6 failed

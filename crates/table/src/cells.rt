@@ -1,7 +1,7 @@
 // Reading the cells of a table (questions 4 and 5) into arrays of arrays, and each state's images into a word.
+use crate::byte_reader::byte_at;
 use crate::cursor::Cursor;
 use crate::cursor::Next;
-use crate::source::byte_at;
 use rule::lanes::in_lane;
 use rule::lanes::spread;
 use rule::lanes::with_state;
@@ -19,7 +19,7 @@ ghost use Rattle.rule.specs.Limits.{maxLetters, maxSets, maxStates};
 ghost use Rattle.rule.specs.inner.Padded.{blankCells, blankRow, blankSquare};
 ghost use Rattle.rule.specs.inner.Lookup.{gridWords, rowWord, squareWords};
 ghost use Rattle.table.specs.Table.{readByte, readCell, readRow};
-ghost use Rattle.table.specs.inner.Cursor.{byteRead, progress, readHeld, readSquare};
+ghost use Rattle.table.specs.inner.Cursor.{byteRead, progress, readPadded, readSquare};
 
 // A cell byte with the cursor behind it, or the number of the question that it fails.
 pub enum CellByte {
@@ -141,7 +141,7 @@ pub fn read_cells(
     words: &mut Words,
 ) -> Progress
     requires { ⌜ ((n ≤ maxStates) × (m ≤ maxLetters)) × ((k ≤ maxSets) × ((now cells ≡ blankCells) × (now words ≡ gridWords (now cells)))) ⌝ }
-    ensures { λ r. ⌜ (progress (now (s .entry)) r (now (cells .exit)) ≡ readHeld n m k (drop (from .at) (now (s .entry))))
+    ensures { λ r. ⌜ (progress (now (s .entry)) r (now (cells .exit)) ≡ readPadded n m k (drop (from .at) (now (s .entry))))
         × (now (words .exit) ≡ gridWords (now (cells .exit))) ⌝ }
 {
     let mut at = from;

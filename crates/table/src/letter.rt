@@ -4,13 +4,13 @@ use crate::reader::read_rule;
 use rule::limits::LETTERS;
 use rule::limits::NO_TRANSITION;
 use rule::limits::STATES;
-use rule::lookup::LetterTable;
-use rule::lookup::fill_table;
+use rule::lookup::Lookup;
+use rule::lookup::fill_lookup;
 ghost use Rattle.table.specs.LetterQuestions.{letterQuestions};
 ghost use Rattle.table.specs.inner.Preparing.{PreparedLetter, Prepares};
 
 // Questions 1 to 6 to a table, and 8 to a letter. On yes the letter's look-up table is made in place.
-pub fn letter_questions(table: &[u8], letter: u8, lookup: &mut LetterTable) -> Reading
+pub fn letter_questions(table: &[u8], letter: u8, lookup: &mut Lookup) -> Reading
     ensures { λ r. ⌜ Prepares (letterQuestions (now (table .entry)) letter)
         (λ R header. PreparedLetter R header letter (now (lookup .exit))) r ⌝ }
 {
@@ -23,7 +23,7 @@ pub fn letter_questions(table: &[u8], letter: u8, lookup: &mut LetterTable) -> R
             if header.letters <= a {
                 return Reading::Refused(8);
             }
-            fill_table(&words[a], lookup);
+            fill_lookup(&words[a], lookup);
             Reading::Rule(header)
         }
     }

@@ -10,7 +10,7 @@ use lib.Count.{ones}
 use lib.Dec.{eqb, leb, ltb}
 use lib.ListN.{length, getD, drop, drop-of-length-le}
 use lib.Seq.{drop-cons}
-use Rattle.history.specs.inner.RecordChecks.{isHost, allHost, activeFits, marksFollow, marksFit, bodyFits, recordChecks}
+use Rattle.history.specs.inner.RecordChecks.{isHost, allHost, activeFits, tagsFollow, tagsFit, bodyFits, recordChecks}
 
 -- HOSTS
 
@@ -21,57 +21,57 @@ all-from left hosts h = let e : left ≡ suc (left - 1) = omega arith in ap (λ 
 
 -- MARKS
 
--- the marks from a place on, behind one of depth `before`
-pub record MarksAhead (k : ℕ) (marks : List ℕ) (before at : ℕ) : Type 0 where
-  pub upto : at ≤ length marks
+-- the tags from a place on, behind one of depth `before`
+pub record TagsAhead (k : ℕ) (tags : List ℕ) (before at : ℕ) : Type 0 where
+  pub upto : at ≤ length tags
   pub shallow : before < 16
-  pub ahead : marksFollow k before (drop at marks) ≡ marksFollow k 0 marks
+  pub ahead : tagsFollow k before (drop at tags) ≡ tagsFollow k 0 tags
 
-pub marks-start : (k : ℕ) (marks : List ℕ) → MarksAhead k marks 0 0
-marks-start k marks = record { upto = omega arith; shallow = omega arith; ahead = refl }
+pub tags-start : (k : ℕ) (tags : List ℕ) → TagsAhead k tags 0 0
+tags-start k tags = record { upto = omega arith; shallow = omega arith; ahead = refl }
 
-module _ {k : ℕ} {marks : List ℕ} {before at : ℕ} (v : MarksAhead k marks before at) where
-  module _ (h : at < length marks) where
+module _ {k : ℕ} {tags : List ℕ} {before at : ℕ} (v : TagsAhead k tags before at) where
+  module _ (h : at < length tags) where
     abbrev depth : ℕ
-    depth = getD marks at 0 / 16
+    depth = getD tags at 0 / 16
 
-    next-mark : marksFollow k 0 marks ≡ ((leb 1 depth && leb depth (suc before))
-        && (activeFits k (getD marks at 0) && marksFollow k depth (drop (suc at) marks)))
-    unfolding marksFollow
-    next-mark = rw (drop-cons marks at 0 h) at (sym (v .ahead))
+    next-tag : tagsFollow k 0 tags ≡ ((leb 1 depth && leb depth (suc before))
+        && (activeFits k (getD tags at 0) && tagsFollow k depth (drop (suc at) tags)))
+    unfolding tagsFollow
+    next-tag = rw (drop-cons tags at 0 h) at (sym (v .ahead))
 
     -- the depth is 0, or too great, or the active set does not fit
-    pub marks-no-depth : depth < 1 → false ≡ marksFollow k 0 marks
-    marks-no-depth e = sym (rw (lt-leb 1 depth e) at next-mark)
+    pub tags-no-depth : depth < 1 → false ≡ tagsFollow k 0 tags
+    tags-no-depth e = sym (rw (lt-leb 1 depth e) at next-tag)
 
-    pub marks-too-deep : 1 ≤ depth → before + 1 < depth → false ≡ marksFollow k 0 marks
-    marks-too-deep e f = sym (rw (le-leb 1 depth e, lt-leb depth (suc before) (omega arith)) at next-mark)
+    pub tags-too-deep : 1 ≤ depth → before + 1 < depth → false ≡ tagsFollow k 0 tags
+    tags-too-deep e f = sym (rw (le-leb 1 depth e, lt-leb depth (suc before) (omega arith)) at next-tag)
 
     module _ (e : 1 ≤ depth) (f : depth ≤ before + 1) where
-      pub marks-no-set : activeFits k (getD marks at 0) ≡ false → false ≡ marksFollow k 0 marks
-      marks-no-set g = sym (rw (le-leb 1 depth e, le-leb depth (suc before) (omega arith), g) at next-mark)
+      pub tags-no-set : activeFits k (getD tags at 0) ≡ false → false ≡ tagsFollow k 0 tags
+      tags-no-set g = sym (rw (le-leb 1 depth e, le-leb depth (suc before) (omega arith), g) at next-tag)
 
-      -- the next mark follows
-      pub marks-next : getD marks at 0 < 256 → activeFits k (getD marks at 0) ≡ true → MarksAhead k marks depth (at + 1)
-      marks-next small g = rw (add-one at) (record {
+      -- the next tag follows
+      pub tags-next : getD tags at 0 < 256 → activeFits k (getD tags at 0) ≡ true → TagsAhead k tags depth (at + 1)
+      tags-next small g = rw (add-one at) (record {
         upto = h;
         shallow = omega arith;
-        ahead = sym (rw (le-leb 1 depth e, le-leb depth (suc before) (omega arith), g) at next-mark);
+        ahead = sym (rw (le-leb 1 depth e, le-leb depth (suc before) (omega arith), g) at next-tag);
       })
 
-  pub marks-done : length marks ≤ at → true ≡ marksFollow k 0 marks
-  unfolding marksFollow
-  marks-done h = rw (drop-of-length-le marks h) at (v .ahead)
+  pub tags-done : length tags ≤ at → true ≡ tagsFollow k 0 tags
+  unfolding tagsFollow
+  tags-done h = rw (drop-of-length-le tags h) at (v .ahead)
 
--- the root's mark, then those behind it
-pub fit-none : (k : ℕ) (marks : List ℕ) → length marks < 1 → false ≡ marksFit k marks
-unfolding marksFit
+-- the root's tag, then those behind it
+pub fit-none : (k : ℕ) (tags : List ℕ) → length tags < 1 → false ≡ tagsFit k tags
+unfolding tagsFit
 fit-none k [] h = refl
 fit-none k (m ∷ left) h = absurd (omega arith)
 
-pub fit-parts : (k : ℕ) (marks : List ℕ) → 1 ≤ length marks
-    → marksFit k marks ≡ (eqb (getD marks 0 0 / 16) 0 && (activeFits k (getD marks 0 0) && marksFollow k 0 (drop 1 marks)))
-unfolding marksFit
+pub fit-parts : (k : ℕ) (tags : List ℕ) → 1 ≤ length tags
+    → tagsFit k tags ≡ (eqb (getD tags 0 0 / 16) 0 && (activeFits k (getD tags 0 0) && tagsFollow k 0 (drop 1 tags)))
+unfolding tagsFit
 fit-parts k [] h = absurd (omega arith)
 fit-parts k (m ∷ left) h = refl
 

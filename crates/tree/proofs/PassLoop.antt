@@ -13,7 +13,7 @@ use lib.Dec.{eqb, ltb}
 use lib.ListN.{length, getD, set, take, drop, length-set, length-take, drop-of-length-le}
 use lib.Seq.{drop-cons, getD-take, getD-set-same, getD-set-other, take-suc-set, drop-drop, drop-set-lt, length-take-le}
 use Rattle.rule.specs.Limits.{maxStates, maxSets}
-use Rattle.rule.specs.inner.Lookup.{LetterTable, lookUp}
+use Rattle.rule.specs.inner.Lookup.{Lookup, lookUp}
 use Rattle.tree.specs.inner.Pass.{blankRow, SetsFit, metBy, sproutRow, settledRow, written, joinedIf, Level, outermost, deepest, Pass, metRow, passOver, atStart, steppedRows, levelsOf, ByDepth, Entered}
 use Rattle.tree.specs.inner.PackedRows.{unpacked, rowsIn}
 use Rattle.tree.specs.inner.RecordRows.{places}
@@ -69,7 +69,7 @@ abbrev pub passAt : List Row → List ℕ → List ℕ → List Bool → ℕ →
 passAt out taken sprout named accepting stable top j =
     record { levels = levelsOf (suc top) taken sprout named; rows = take j out; accepting = accepting; stable = stable }
 
-module _ (table : LetterTable) (k count : ℕ) (rows : List Row) where
+module _ (table : Lookup) (k count : ℕ) (rows : List Row) where
   -- the pass over all rows
   abbrev whole : Pass
   whole = passOver (lookUp table) k 0 atStart (take count rows)
@@ -236,7 +236,7 @@ two-sides words other long-words long-other = record { two = refl; long = both }
     both (suc zero) h = long-other
     both (suc (suc side)) h = absurd (omega arith)
 
-module _ (table : LetterTable) (k count from : ℕ) (before : List (List ℕ)) where
+module _ (table : Lookup) (k count from : ℕ) (before : List (List ℕ)) where
   -- the loop reads the rows of one side and writes those of the other; words not written are as they were
   pub record OnSides (sides : List (List ℕ)) (taken sprout : List ℕ) (named : List Bool) (accepting stable top i j : ℕ) : Type 0 where
     pub side : from < 2

@@ -1,4 +1,4 @@
--- The loops that make rows from a record: how many marks are deeper, the states hosted in a range, and a row for each mark.
+-- The loops that make rows from a record: how many tags are deeper, the states hosted in a range, and a row for each tag.
 use mathlib.Core.Path.{_≡_, refl, sym, _∙_, ap, ap₂}
 use mathlib.Core.Bool.{Bool, true, false, _&&_, cond}
 use mathlib.Core.List.{List, [], _∷_, _++_, append-nil}
@@ -17,36 +17,36 @@ use Rattle.base.proofs.BitSet.{collect-more}
 use Rattle.history.specs.Record.{rank, hostedIn}
 use Rattle.history.proofs.Members.{rank-all, rank-lt}
 use Rattle.tree.specs.inner.Pass.{blankRow}
-use Rattle.tree.specs.inner.RecordRows.{places, blankBehind, deeper, rowsOfMarks}
+use Rattle.tree.specs.inner.RecordRows.{places, blankBehind, deeper, rowsOfTags}
 use Rattle.tree.specs.declared.rows.Row.{Row}
 
 -- DEEPER MARKS
 
--- `count` marks are deeper, and the answer is that many more than for the marks from there on
-pub record DeeperSoFar (d : ℕ) (marks : List ℕ) (count : ℕ) : Type 0 where
-  pub upto : count ≤ length marks
-  pub ahead : deeper d marks ≡ count + deeper d (drop count marks)
+-- `count` tags are deeper, and the answer is that many more than for the tags from there on
+pub record DeeperSoFar (d : ℕ) (tags : List ℕ) (count : ℕ) : Type 0 where
+  pub upto : count ≤ length tags
+  pub ahead : deeper d tags ≡ count + deeper d (drop count tags)
 
-pub deeper-start : (d : ℕ) (marks : List ℕ) → DeeperSoFar d marks 0
-deeper-start d marks = record { upto = omega arith; ahead = omega arith }
+pub deeper-start : (d : ℕ) (tags : List ℕ) → DeeperSoFar d tags 0
+deeper-start d tags = record { upto = omega arith; ahead = omega arith }
 
-module _ {d : ℕ} {marks : List ℕ} {count : ℕ} (v : DeeperSoFar d marks count) where
-  module _ (h : count < length marks) where
-    pub deeper-stop : getD marks count 0 / 16 ≤ d → count ≡ deeper d marks
+module _ {d : ℕ} {tags : List ℕ} {count : ℕ} (v : DeeperSoFar d tags count) where
+  module _ (h : count < length tags) where
+    pub deeper-stop : getD tags count 0 / 16 ≤ d → count ≡ deeper d tags
     unfolding deeper
-    deeper-stop e = let now = rw (drop-cons marks count 0 h, le-ltb d (getD marks count 0 / 16) e) at (v .ahead) in omega arith
+    deeper-stop e = let now = rw (drop-cons tags count 0 h, le-ltb d (getD tags count 0 / 16) e) at (v .ahead) in omega arith
 
-    pub deeper-next : d < getD marks count 0 / 16 → DeeperSoFar d marks (count + 1)
+    pub deeper-next : d < getD tags count 0 / 16 → DeeperSoFar d tags (count + 1)
     unfolding deeper
-    deeper-next e = let now = rw (drop-cons marks count 0 h, lt-ltb d (getD marks count 0 / 16) e) at (v .ahead) in
+    deeper-next e = let now = rw (drop-cons tags count 0 h, lt-ltb d (getD tags count 0 / 16) e) at (v .ahead) in
         rw (add-one count) (record { upto = h; ahead = omega arith })
 
-  pub deeper-done : length marks ≤ count → count ≡ deeper d marks
+  pub deeper-done : length tags ≤ count → count ≡ deeper d tags
   unfolding deeper
-  deeper-done h = let now = rw (drop-of-length-le marks h) at (v .ahead) in omega arith
+  deeper-done h = let now = rw (drop-of-length-le tags h) at (v .ahead) in omega arith
 
--- there are no more of them than marks
-deeper-le : (d : ℕ) (marks : List ℕ) → deeper d marks ≤ length marks
+-- there are no more of them than tags
+deeper-le : (d : ℕ) (tags : List ℕ) → deeper d tags ≤ length tags
 unfolding deeper
 deeper-le d [] = omega arith
 deeper-le d (m ∷ left) = go (ltb d (m / 16)) (deeper-le d left)
@@ -55,10 +55,10 @@ deeper-le d (m ∷ left) = go (ltb d (m / 16)) (deeper-le d left)
     go true h = omega arith
     go false h = omega arith
 
--- nor of marks from a place on
-pub deeper-few : (d : ℕ) {count : ℕ} {part : List ℕ} (from : ℕ) (marks : List ℕ) → part ≡ drop from marks → count ≡ deeper d part
-    → count ≤ length marks
-deeper-few d from marks e is = omega (arith, is, ap (deeper d) e, deeper-le d (drop from marks), length-drop from marks)
+-- nor of tags from a place on
+pub deeper-few : (d : ℕ) {count : ℕ} {part : List ℕ} (from : ℕ) (tags : List ℕ) → part ≡ drop from tags → count ≡ deeper d part
+    → count ≤ length tags
+deeper-few d from tags e is = omega (arith, is, ap (deeper d) e, deeper-le d (drop from tags), length-drop from tags)
 
 -- HOSTED STATES
 
@@ -117,32 +117,32 @@ module _ {n s : ℕ} {hosts : List ℕ} {lo hi states at state : ℕ} (v : Hoste
 
 -- ROWS
 
--- the rows of the marks in front of `node` are made
-pub record RowsSoFar (label : ℕ → ℕ → ℕ) (marks : List ℕ) (rows : List Row) (node : ℕ) : Type 0 where
-  pub upto : node ≤ length marks
+-- the rows of the tags in front of `node` are made
+pub record RowsSoFar (label : ℕ → ℕ → ℕ) (tags : List ℕ) (rows : List Row) (node : ℕ) : Type 0 where
+  pub upto : node ≤ length tags
   pub held : length rows ≡ places
-  pub few : length marks ≤ places
-  pub whole : take node rows ++ rowsOfMarks label node (drop node marks) ≡ rowsOfMarks label 0 marks
+  pub few : length tags ≤ places
+  pub whole : take node rows ++ rowsOfTags label node (drop node tags) ≡ rowsOfTags label 0 tags
   pub blank : drop node rows ≡ replicate (places - node) blankRow
 
-pub rows-start : (label : ℕ → ℕ → ℕ) (marks : List ℕ) (rows : List Row) → rows ≡ replicate places blankRow → length marks ≤ places
-    → RowsSoFar label marks rows 0
-rows-start label marks rows is few =
+pub rows-start : (label : ℕ → ℕ → ℕ) (tags : List ℕ) (rows : List Row) → rows ≡ replicate places blankRow → length tags ≤ places
+    → RowsSoFar label tags rows 0
+rows-start label tags rows is few =
     record { upto = omega arith; held = ap length is ∙ length-replicate {A = Row} places blankRow; few = few; whole = refl; blank = is }
 
-module _ {label : ℕ → ℕ → ℕ} {marks : List ℕ} {rows : List Row} {node : ℕ} (v : RowsSoFar label marks rows node) where
-  pub rows-next : node < length marks → (own kids count : ℕ) (behind : List ℕ) → behind ≡ drop (node + 1) marks
-      → count ≡ deeper (getD marks node 0 / 16) behind → own ≡ label node (node + 1 + count) → kids ≡ label (node + 1) (node + 1 + count)
+module _ {label : ℕ → ℕ → ℕ} {tags : List ℕ} {rows : List Row} {node : ℕ} (v : RowsSoFar label tags rows node) where
+  pub rows-next : node < length tags → (own kids count : ℕ) (behind : List ℕ) → behind ≡ drop (node + 1) tags
+      → count ≡ deeper (getD tags node 0 / 16) behind → own ≡ label node (node + 1 + count) → kids ≡ label (node + 1) (node + 1 + count)
       → (after : List Row) → after ≡ set rows node
-      (record { depth = getD marks node 0 / 16; label = own; kids = kids; active = getD marks node 0 % 16; old = 0 })
-      → RowsSoFar label marks after (node + 1)
-  unfolding rowsOfMarks
+      (record { depth = getD tags node 0 / 16; label = own; kids = kids; active = getD tags node 0 % 16; old = 0 })
+      → RowsSoFar label tags after (node + 1)
+  unfolding rowsOfTags
   rows-next h own kids count behind b e f g after made = rw (made, add-one node) (record {
     upto = h;
     held = rw length-set (v .held);
     few = v .few;
     whole = rw (take-suc-set rows node _ (omega (arith, v .held, v .few)), append-snoc (take node rows), f, g, e, b, add-one node)
-        (rw (drop-cons marks node 0 h) at (v .whole));
+        (rw (drop-cons tags node 0 h) at (v .whole));
     blank = drop-set-lt (suc node) rows node _ (omega arith) ∙ blank-tail;
   })
     where
@@ -152,11 +152,11 @@ module _ {label : ℕ → ℕ → ℕ} {marks : List ℕ} {rows : List Row} {nod
           let more : places - node ≡ suc (places - suc node) = omega (arith, v .few) in
           cc (drop-cons rows node blankRow inside, v .blank, ap (λ (c : ℕ). replicate c blankRow) more)
 
-  pub rows-done : length marks ≤ node → rows ≡ blankBehind (rowsOfMarks label 0 marks)
-  unfolding rowsOfMarks blankBehind pad
+  pub rows-done : length tags ≤ node → rows ≡ blankBehind (rowsOfTags label 0 tags)
+  unfolding rowsOfTags blankBehind pad
   rows-done h =
-      let e : node ≡ length marks = omega (arith, v .upto) in
-      let made : take node rows ≡ rowsOfMarks label 0 marks = sym (append-nil (take node rows)) ∙ rw (drop-of-length-le marks h) at (v .whole) in
-      let many : length (rowsOfMarks label 0 marks) ≡ node =
+      let e : node ≡ length tags = omega (arith, v .upto) in
+      let made : take node rows ≡ rowsOfTags label 0 tags = sym (append-nil (take node rows)) ∙ rw (drop-of-length-le tags h) at (v .whole) in
+      let many : length (rowsOfTags label 0 tags) ≡ node =
       ap length (sym made) ∙ length-take-le node rows (omega (arith, v .held, v .few, v .upto)) in
       sym (take-append-drop node rows) ∙ rw (many, made, v .blank)

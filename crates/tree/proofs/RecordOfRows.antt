@@ -16,7 +16,7 @@ use Rattle.rule.specs.Rule.{Rule}
 use Rattle.table.specs.inner.ReadRule.{WithinLimits}
 use Rattle.history.specs.Forest.{nil, node, size}
 use Rattle.history.specs.Tree.{Node, Tree, labels}
-use Rattle.history.specs.Record.{hostFrom, host, marks, recordOf}
+use Rattle.history.specs.Record.{hostFrom, host, tags, recordOf}
 use Rattle.history.proofs.Conditions.{Nested, Active, NestedTree}
 use Rattle.history.proofs.Hosts.{held-here, held-younger, held-in, host-below, host-here, host-younger}
 use Rattle.history.proofs.Members.{map-members}
@@ -25,7 +25,7 @@ use Rattle.history.proofs.TreesOf.{of-few, of-nested}
 use Rattle.tree.specs.inner.PackedRows.{rowsIn, countedRows}
 use Rattle.tree.specs.inner.Rows.{rowsFrom, rowsOf, withoutOld, AreRows, HoldsTree}
 use Rattle.tree.specs.inner.Pass.{blankRow}
-use Rattle.tree.specs.inner.RecordRows.{hostRow, markOf, hostBytes, markBytes, rowsRecord, Recordable}
+use Rattle.tree.specs.inner.RecordRows.{hostRow, tagOf, hostBytes, tagBytes, rowsRecord, Recordable}
 use Rattle.tree.specs.declared.rows.Row.{Row}
 use Rattle.tree.specs.declared.rows.Tree.{Tree as CodeTree}
 use Rattle.tree.proofs.TreeRows.{tree-small}
@@ -93,22 +93,22 @@ module _ (q : ℕ) where
 
 -- MARKS
 
--- the marks of a tree's rows are the tree's
-marks-of-rows : (d : ℕ) (F : Tree) → map markOf (rowsFrom d F) ≡ marks d F
-unfolding rowsFrom marks markOf
-marks-of-rows d nil = refl
-marks-of-rows d (node x below younger) =
-    rw (map-append markOf (rowsFrom (suc d) below) (rowsFrom d younger), marks-of-rows (suc d) below, marks-of-rows d younger)
+-- the tags of a tree's rows are the tree's
+tags-of-rows : (d : ℕ) (F : Tree) → map tagOf (rowsFrom d F) ≡ tags d F
+unfolding rowsFrom tags tagOf
+tags-of-rows d nil = refl
+tags-of-rows d (node x below younger) =
+    rw (map-append tagOf (rowsFrom (suc d) below) (rowsFrom d younger), tags-of-rows (suc d) below, tags-of-rows d younger)
 
--- marks are bytes
-marks-small : (k d : ℕ) (F : Tree) (left : List ℕ) → Active k F → k < 16 → d + size F ≤ 16 → Every (λ m. m < 256) left
-    → Every (λ m. m < 256) (marks d F ++ left)
-unfolding marks size
-marks-small k d nil left w h few rest = rest
-marks-small k d (node x below younger) left (low, high, down, on) h few rest =
-    rw (append-assoc (marks (suc d) below) (marks d younger) left) (
+-- tags are bytes
+tags-small : (k d : ℕ) (F : Tree) (left : List ℕ) → Active k F → k < 16 → d + size F ≤ 16 → Every (λ m. m < 256) left
+    → Every (λ m. m < 256) (tags d F ++ left)
+unfolding tags size
+tags-small k d nil left w h few rest = rest
+tags-small k d (node x below younger) left (low, high, down, on) h few rest =
+    rw (append-assoc (tags (suc d) below) (tags d younger) left) (
       omega arith,
-      marks-small k (suc d) below (marks d younger ++ left) down h (omega arith) (marks-small k d younger left on h (omega arith) rest),
+      tags-small k (suc d) below (tags d younger ++ left) down h (omega arith) (tags-small k d younger left on h (omega arith) rest),
     )
 
 byte-at : (l : List ℕ) → Every (λ m. m < 256) l → (i : ℕ) → getD l i 0 < 256
@@ -125,19 +125,19 @@ host-without-old i (x ∷ l) q =
     ap (λ (c : ℕ). cond (member (x .label) q && not (member (x .kids) q)) i c) (host-without-old (suc i) l q)
 
 record-without-old : (n : ℕ) (l : List Row) → rowsRecord n (map withoutOld l) ≡ rowsRecord n l
-unfolding rowsRecord hostBytes markBytes markOf
+unfolding rowsRecord hostBytes tagBytes tagOf
 record-without-old n [] = refl
 record-without-old n (x ∷ l) = ap₂ (λ (u v : List ℕ). x .label ∷ (u ++ v))
     (map-members _ _ n (x .label) (λ q _ m. host-without-old 0 (x ∷ l) q))
-    (map-map markOf withoutOld (x ∷ l))
+    (map-map tagOf withoutOld (x ∷ l))
 
 -- THE RECORD OF A TREE
 
 tree-record : (n k : ℕ) (T : Tree) → NestedTree n k T → rowsRecord n (rowsOf T) ≡ recordOf n T
-unfolding rowsRecord rowsOf rowsFrom recordOf hostBytes markBytes host
+unfolding rowsRecord rowsOf rowsFrom recordOf hostBytes tagBytes host
 tree-record n k nil w = refl
 tree-record n k (node x below nil) w = ap₂ (λ (u v : List ℕ). x .label ∷ (u ++ v))
-    (map-members (hostRow 0 (rowsFrom 0 T)) (hostFrom 0 T) n (x .label) (λ q _ m. hosts q m)) (marks-of-rows 0 T)
+    (map-members (hostRow 0 (rowsFrom 0 T)) (hostFrom 0 T) n (x .label) (λ q _ m. hosts q m)) (tags-of-rows 0 T)
   where
     T : Tree
     T = node x below nil
@@ -165,10 +165,10 @@ module _ {R : Rule} {T : Tree} {x : CodeTree} (held : HoldsTree R T x) where
   abbrev rows : List Row
   rows = rowsIn (x .rows)
 
-  mark-at : (i : ℕ) → i < x .count → markOf (getD rows i blankRow) ≡ getD (marks 0 T) i 0
-  unfolding markOf rowsOf
-  mark-at i h = ap markOf (sym (getD-take (x .count) rows i blankRow h)) ∙ sym (List·getD-map markOf (countedRows x) i blankRow)
-      ∙ ap (λ (l : List ℕ). getD l i 0) (sym (map-map markOf withoutOld (countedRows x)) ∙ ap (map markOf) (held .are) ∙ marks-of-rows 0 T)
+  tag-at : (i : ℕ) → i < x .count → tagOf (getD rows i blankRow) ≡ getD (tags 0 T) i 0
+  unfolding tagOf rowsOf
+  tag-at i h = ap tagOf (sym (getD-take (x .count) rows i blankRow h)) ∙ sym (List·getD-map tagOf (countedRows x) i blankRow)
+      ∙ ap (λ (l : List ℕ). getD l i 0) (sym (map-map tagOf withoutOld (countedRows x)) ∙ ap (map tagOf) (held .are) ∙ tags-of-rows 0 T)
 
   root-at : 0 < x .count → getD rows 0 blankRow .label ≡ getD (rowsOf T) 0 blankRow .label
   root-at h = ap (λ (r : Row). r .label) (sym (getD-take (x .count) rows 0 blankRow h))
@@ -181,12 +181,12 @@ module _ {R : Rule} {T : Tree} {x : CodeTree} (held : HoldsTree R T x) where
     states = limits .states;
     few = tree-small (limits .states) held;
     root = λ l. omega (arith, root-at l, root-small (R .states) (R .sets) T tree, pow-mono {i = R .states} {j = 8} (limits .states));
-    marks = λ i l. rw (mark-at i l) (byte-at (marks 0 T) bytes i);
+    tags = λ i l. rw (tag-at i l) (byte-at (tags 0 T) bytes i);
   }
     where
       tree : NestedTree (R .states) (R .sets) T
       tree = of-nested R T (held .fits)
 
-      bytes : Every (λ m. m < 256) (marks 0 T)
-      bytes = rw (append-nil (marks 0 T)) at (marks-small (R .sets) 0 T [] (tree .active) (omega (arith, limits .sets))
+      bytes : Every (λ m. m < 256) (tags 0 T)
+      bytes = rw (append-nil (tags 0 T)) at (tags-small (R .sets) 0 T [] (tree .active) (omega (arith, limits .sets))
           (omega (arith, of-few R T (held .fits), limits .states)) tt)

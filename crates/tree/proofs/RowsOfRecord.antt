@@ -17,10 +17,10 @@ use Rattle.base.proofs.Logic.{and-in}
 use Rattle.rule.specs.Limits.{maxStates, maxSets}
 use Rattle.history.specs.Forest.{nil, node, size}
 use Rattle.history.specs.Tree.{Node, Tree, isTree}
-use Rattle.history.specs.Record.{host, members, marks, recordOf, hostedIn, decoded, readTree}
+use Rattle.history.specs.Record.{host, members, tags, recordOf, hostedIn, decoded, readTree}
 use Rattle.history.specs.inner.RecordChecks.{recordChecks}
 use Rattle.history.proofs.HostLabels.{relabelled, ByNumber, labels-relabelled, labels-from-hosts}
-use Rattle.history.proofs.RecordOfTree.{Shallower, length-marks, hosted-law, root-states}
+use Rattle.history.proofs.RecordOfTree.{Shallower, length-tags, hosted-law, root-states}
 use Rattle.history.proofs.Members.{length-members, map-at-rank}
 use Rattle.history.proofs.Conditions.{Active, NestedTree, tree-nested, tree-out}
 use Rattle.history.proofs.QuestionNine.{is-record-out}
@@ -28,7 +28,7 @@ use Rattle.history.proofs.RecordChecks.{checks-exact, read-by-checks}
 use Rattle.history.proofs.TreesKept.{few-nodes}
 use Rattle.tree.specs.inner.Rows.{rowsFrom, rowsOf}
 use Rattle.tree.specs.inner.PackedRows.{rowsIn}
-use Rattle.tree.specs.inner.RecordRows.{blankBehind, deeper, rowsOfMarks}
+use Rattle.tree.specs.inner.RecordRows.{blankBehind, deeper, rowsOfTags}
 use Rattle.tree.specs.inner.RecordCode.{checkedTree, treeBeside, Checks}
 use Rattle.tree.specs.declared.record.Count.the-variants.{Nodes}
 use Rattle.tree.proofs.TreeRows.{rows-size}
@@ -36,24 +36,24 @@ use Rattle.tree.proofs.TreeRows.{rows-size}
 module _ (k : ℕ) (small : k < 16) where
   -- THE NODES BELOW A NODE
 
-  -- the marks of a forest are all deeper than what is above it
-  deeper-over : (d e : ℕ) (F : Tree) (left : List ℕ) → Active k F → d < e → deeper d (marks e F ++ left) ≡ size F + deeper d left
-  unfolding deeper marks size
+  -- the tags of a forest are all deeper than what is above it
+  deeper-over : (d e : ℕ) (F : Tree) (left : List ℕ) → Active k F → d < e → deeper d (tags e F ++ left) ≡ size F + deeper d left
+  unfolding deeper tags size
   deeper-over d e nil left w h = omega arith
   deeper-over d e (node x below younger) left w h =
       let depth : (16 * e + x .active) / 16 ≡ e = omega (arith, w .1) in
-      let ib = deeper-over d (suc e) below (marks e younger ++ left) (w .2) (omega arith) in
+      let ib = deeper-over d (suc e) below (tags e younger ++ left) (w .2) (omega arith) in
       let iy = deeper-over d e younger left (w .3) h in
-      rw (depth, lt-ltb d e h, append-assoc (marks (suc e) below) (marks e younger) left) (omega arith)
+      rw (depth, lt-ltb d e h, append-assoc (tags (suc e) below) (tags e younger) left) (omega arith)
 
-  -- the marks of its siblings and what follows them are not
+  -- the tags of its siblings and what follows them are not
   deeper-none : (d : ℕ) (left : List ℕ) → Shallower (suc d) left → deeper d left ≡ 0
   unfolding deeper
   deeper-none d [] s = refl
   deeper-none d (m ∷ left) s = rw (le-ltb d (m / 16) (omega arith))
 
-  shallower-over : (d : ℕ) (F : Tree) (left : List ℕ) → Active k F → Shallower (suc d) left → Shallower (suc d) (marks d F ++ left)
-  unfolding marks
+  shallower-over : (d : ℕ) (F : Tree) (left : List ℕ) → Active k F → Shallower (suc d) left → Shallower (suc d) (tags d F ++ left)
+  unfolding tags
   shallower-over d nil left w s = s
   shallower-over d (node x below younger) left w s = omega (arith, w .1)
 
@@ -61,20 +61,20 @@ module _ (k : ℕ) (small : k < 16) where
   shallower-more d [] s = tt
   shallower-more d (m ∷ left) s = omega arith
 
-  -- so as many follow a node's mark as there are nodes below it
+  -- so as many follow a node's tag as there are nodes below it
   deeper-below : (d : ℕ) (below younger : Tree) (left : List ℕ) → Active k below → Active k younger → Shallower (suc d) left
-      → deeper d (marks (suc d) below ++ (marks d younger ++ left)) ≡ size below
+      → deeper d (tags (suc d) below ++ (tags d younger ++ left)) ≡ size below
   deeper-below d below younger left w v s =
-      let over = deeper-over d (suc d) below (marks d younger ++ left) w (omega arith) in
-      let none = deeper-none d (marks d younger ++ left) (shallower-over d younger left v s) in
+      let over = deeper-over d (suc d) below (tags d younger ++ left) w (omega arith) in
+      let none = deeper-none d (tags d younger ++ left) (shallower-over d younger left v s) in
       omega arith
 
   -- THE ROWS OF A FOREST'S MARKS
 
   module _ (s : ℕ) (number : ℕ → ℕ) (label : ℕ → ℕ → ℕ) (law : ByNumber s number label) where
     rows-front : (i d : ℕ) (F : Tree) (left : List ℕ) → Active k F → Shallower (suc d) left
-        → rowsOfMarks label i (marks d F ++ left) ≡ rowsFrom d (relabelled label i F) ++ rowsOfMarks label (i + size F) left
-    unfolding rowsOfMarks marks rowsFrom relabelled size
+        → rowsOfTags label i (tags d F ++ left) ≡ rowsFrom d (relabelled label i F) ++ rowsOfTags label (i + size F) left
+    unfolding rowsOfTags tags rowsFrom relabelled size
     rows-front i d nil left w h = let e : i + 0 ≡ i = omega arith in rw e
     rows-front i d (node x below younger) left w h =
         let depth : (16 * d + x .active) / 16 ≡ d = omega (arith, w .1) in
@@ -83,38 +83,38 @@ module _ (k : ℕ) (small : k < 16) where
         let last : i + suc (size below + size younger) ≡ suc (i + size below) + size younger = omega arith in
         let next = shallower-over d younger left (w .3) h in
         rw (
-          append-assoc (marks (suc d) below) (marks d younger) left,
+          append-assoc (tags (suc d) below) (tags d younger) left,
           depth,
           active,
           deeper-below d below younger left (w .2) (w .3) h,
-          rows-front (suc i) (suc d) below (marks d younger ++ left) (w .2) (shallower-more (suc d) (marks d younger ++ left) next),
+          rows-front (suc i) (suc d) below (tags d younger ++ left) (w .2) (shallower-more (suc d) (tags d younger ++ left) next),
           labels-relabelled s number label law (suc i) below,
           end,
           rows-front (suc (i + size below)) d younger left (w .3) h,
           last,
           append-assoc (rowsFrom (suc d) (relabelled label (suc i) below)) (rowsFrom d (relabelled label (suc (i + size below)) younger))
-              (rowsOfMarks label (suc (i + size below) + size younger) left),
+              (rowsOfTags label (suc (i + size below) + size younger) left),
         )
 
-    rows-all : (i d : ℕ) (F : Tree) → Active k F → rowsOfMarks label i (marks d F) ≡ rowsFrom d (relabelled label i F)
-    unfolding rowsOfMarks
-    rows-all i d F w = ap (rowsOfMarks label i) (sym (append-nil (marks d F))) ∙ rows-front i d F [] w tt
+    rows-all : (i d : ℕ) (F : Tree) → Active k F → rowsOfTags label i (tags d F) ≡ rowsFrom d (relabelled label i F)
+    unfolding rowsOfTags
+    rows-all i d F w = ap (rowsOfTags label i) (sym (append-nil (tags d F))) ∙ rows-front i d F [] w tt
         ∙ append-nil (rowsFrom d (relabelled label i F))
 
 -- THE ROWS OF A RECORD
 
--- a map, hosts, one for each of its states, and marks, from which the rows of a tree are made
+-- a map, hosts, one for each of its states, and tags, from which the rows of a tree are made
 record Parts (n : ℕ) (T : Tree) (s : ℕ) (hosts left : List ℕ) : Type 0 where
   small : s < 2 ^ n
   many : length hosts ≡ ones s
   nodes : length left ≡ size T
-  rows : rowsOfMarks (hostedIn n s hosts) 0 left ≡ rowsOf T
+  rows : rowsOfTags (hostedIn n s hosts) 0 left ≡ rowsOf T
 
--- the map, the hosts and the marks of a tree's record
+-- the map, the hosts and the tags of a tree's record
 live-parts : (n k : ℕ) (x : Node) (below : Tree) → NestedTree n k (node x below nil) → k < 16
-    → Parts n (node x below nil) (x .label) (map (host (node x below nil)) (members n (x .label))) (marks 0 (node x below nil))
+    → Parts n (node x below nil) (x .label) (map (host (node x below nil)) (members n (x .label))) (tags 0 (node x below nil))
 unfolding host rowsOf
-live-parts n k x below t h = record { small = small; many = many; nodes = length-marks 0 T; rows = rows }
+live-parts n k x below t h = record { small = small; many = many; nodes = length-tags 0 T; rows = rows }
   where
     T : Tree
     T = node x below nil
@@ -131,7 +131,7 @@ live-parts n k x below t h = record { small = small; many = many; nodes = length
     law : ByNumber (x .label) (host T) (hostedIn n (x .label) hosts)
     law = hosted-law n (x .label) hosts (host T) small (λ q m. map-at-rank (host T) n (x .label) q (member-lt n (x .label) q small m) m)
 
-    rows : rowsOfMarks (hostedIn n (x .label) hosts) 0 (marks 0 T) ≡ rowsFrom 0 T
+    rows : rowsOfTags (hostedIn n (x .label) hosts) 0 (tags 0 T) ≡ rowsFrom 0 T
     rows = rows-all k h (x .label) (host T) (hostedIn n (x .label) hosts) law 0 0 T (t .active)
         ∙ ap (rowsFrom 0) (labels-from-hosts 0 T (hostedIn n (x .label) hosts) (t .nested)
         (subst (λ (a : ℕ). ByNumber a (host T) (hostedIn n (x .label) hosts)) (sym (root-states x below)) law))
@@ -141,10 +141,10 @@ no-states : ones 0 ≡ 0
 no-states = omega (arith, ones-le 0 0 (omega arith))
 
 dead-parts : (n : ℕ) → Parts n nil 0 [] []
-unfolding size rowsOf rowsFrom rowsOfMarks
+unfolding size rowsOf rowsFrom rowsOfTags
 dead-parts n = record { small = pow-pos n; many = sym no-states; nodes = refl; rows = refl }
 
--- so for the bytes of a record: the map in front, then the hosts, then the marks
+-- so for the bytes of a record: the map in front, then the hosts, then the tags
 record-parts : (n k : ℕ) (T : Tree) → NestedTree n k T → k < 16 → let bytes = recordOf n T in let s = getD bytes 0 0 in
     (1 + ones s ≤ length bytes) × Parts n T s (take (ones s) (drop 1 bytes)) (drop (1 + ones s) bytes)
 unfolding recordOf
@@ -153,9 +153,9 @@ record-parts n k (node x below nil) t h =
     let T : Tree = node x below nil in
     let hosts : List ℕ = map (host T) (members n (x .label)) in
     let P = live-parts n k x below t h in
-    let front : take (ones (x .label)) (hosts ++ marks 0 T) ≡ hosts = take-at hosts (marks 0 T) (ones (x .label)) (P .many) in
-    let behind : drop (ones (x .label)) (hosts ++ marks 0 T) ≡ marks 0 T = drop-at hosts (marks 0 T) (ones (x .label)) (P .many) in
-    rw (one-add (ones (x .label)), front, behind) (omega (arith, length-append hosts (marks 0 T), P .many), P)
+    let front : take (ones (x .label)) (hosts ++ tags 0 T) ≡ hosts = take-at hosts (tags 0 T) (ones (x .label)) (P .many) in
+    let behind : drop (ones (x .label)) (hosts ++ tags 0 T) ≡ tags 0 T = drop-at hosts (tags 0 T) (ones (x .label)) (P .many) in
+    rw (one-add (ones (x .label)), front, behind) (omega (arith, length-append hosts (tags 0 T), P .many), P)
 record-parts n k (node x below (node y other younger)) t h = absurd (t .one-root)
 
 -- THE CHECK'S ANSWER
@@ -184,7 +184,7 @@ module _ (n k : ℕ) (bytes : List ℕ) (h : k < 16) where
   -- what is answered for them, and for bytes that do not pass
   pub checked-yes : recordChecks n k bytes ≡ true → (hosts left words : List ℕ)
       → hosts ≡ take (ones states) (drop 1 bytes) → left ≡ drop (1 + ones states) bytes
-      → rowsIn words ≡ blankBehind (rowsOfMarks (hostedIn n states hosts) 0 left)
+      → rowsIn words ≡ blankBehind (rowsOfTags (hostedIn n states hosts) 0 left)
       → let nodes = length bytes - (1 + ones states) in
       Checks (readTree n k bytes) (record { count = Nodes nodes; tree = record { rows = words; count = nodes } })
   unfolding treeBeside
@@ -192,8 +192,8 @@ module _ (n k : ℕ) (bytes : List ℕ) (h : k < 16) where
       let P = parts passed .1 in
       let T : Tree = decoded n bytes in
       let nodes : length bytes - (1 + ones states) ≡ size T = sym (length-drop (1 + ones states) bytes) ∙ P .nodes in
-      let built : rowsOfMarks (hostedIn n states hosts) 0 left ≡ rowsOf T =
-      ap₂ (λ (u v : List ℕ). rowsOfMarks (hostedIn n states u) 0 v) is is′ ∙ P .rows in
+      let built : rowsOfTags (hostedIn n states hosts) 0 left ≡ rowsOf T =
+      ap₂ (λ (u v : List ℕ). rowsOfTags (hostedIn n states u) 0 v) is is′ ∙ P .rows in
       rw (read-by-checks n k bytes h, passed) (record {
         count = ap (λ (c : ℕ). accepted c) nodes;
         tree = record { rows = made ∙ ap blankBehind built; count = nodes ∙ sym (rows-size T) };

@@ -11,7 +11,7 @@ use Rattle.base.specs.Outcome.{Outcome, refused, accepted, _then_}
 use Rattle.base.specs.LentBuffer.{stored}
 use Rattle.base.proofs.Logic.{and-both}
 use Rattle.rule.specs.Limits.{maxStates, maxSets}
-use Rattle.rule.specs.inner.Lookup.{LetterTable}
+use Rattle.rule.specs.inner.Lookup.{Lookup}
 use Rattle.rule.specs.Rule.{Rule}
 use Rattle.table.specs.inner.Preparing.{PreparedLetter}
 use Rattle.table.specs.declared.header.Header.{Header}
@@ -45,7 +45,7 @@ pub record TreeRead (R : Rule) (bytes : List ℕ) (count : ℕ) (x : CodeTree) :
   pub holds : HoldsTree R tree x
   pub counts : count ≡ x .count
 
-module _ {R : Rule} {header : Header} {a : ℕ} {lookup : LetterTable} (p : PreparedLetter R header a lookup) where
+module _ {R : Rule} {header : Header} {a : ℕ} {lookup : Lookup} (p : PreparedLetter R header a lookup) where
   -- the rule's numbers are within the limits
   pub numbers-fit : (header .states ≤ maxStates) × ((1 ≤ header .sets) × (header .sets ≤ maxSets))
   numbers-fit = rw (p .numbers) (p .limits .states, (p .limits .some-set, p .limits .sets))
@@ -115,7 +115,7 @@ module _ {R : Rule} {header : Header} {a : ℕ} {lookup : LetterTable} (p : Prep
           sets = ap (λ (x : Header). x .sets) (sym (p .numbers))
 
           steps : StepsTo R a (w .tree) (treeOn after (record { side = 1; count = r .count })) r
-          steps = place-steps (p .limits) sides first here lookup (header .sets) a sets (p .tabled .entries) r after step
+          steps = place-steps (p .limits) sides first here lookup (header .sets) a sets (p .has-lookups .entries) r after step
 
           -- so that it can be taken up
           pub step-next : SomeTreeOn after (record { side = 1; count = r .count })

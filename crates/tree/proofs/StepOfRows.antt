@@ -13,9 +13,9 @@ use lib.ListN.{List·getD-eq-default, length, getD}
 use lib.Pow.{pow-pos}
 use Rattle.rule.specs.Limits.{maxSets}
 use Rattle.rule.specs.Rule.{Rule}
-use Rattle.rule.specs.inner.Lookup.{LetterTable, letterTable, lookUp}
-use Rattle.rule.specs.inner.Padded.{held}
-use Rattle.rule.proofs.LookupTable.{look-up-successors, look-up-successors-in}
+use Rattle.rule.specs.inner.Lookup.{Lookup, letterLookup, lookUp}
+use Rattle.rule.specs.inner.Padded.{padded}
+use Rattle.rule.proofs.LookupLaws.{look-up-successors, look-up-successors-in}
 use Rattle.table.specs.inner.ReadRule.{WithinLimits}
 use Rattle.history.specs.Forest.{nil, node, size}
 use Rattle.history.specs.Tree.{Tree, isTreeOf}
@@ -113,7 +113,7 @@ sets-fit R rows T h tree are i = go (decLt i (length rows))
 
 module _ {R : Rule} (limits : WithinLimits R) (a : ℕ) (T : Tree) (tree : isTreeOf R T ≡ true) where
   abbrev E : ℕ → ℕ → ℕ
-  E = lookUp (letterTable (getD (held (R .grid)) a []))
+  E = lookUp (letterLookup (getD (padded (R .grid)) a []))
 
   abbrev whole : Pass
   whole = passOver E (R .sets) 0 atStart (rowsOf T)
@@ -178,10 +178,10 @@ module _ {R : Rule} (limits : WithinLimits R) {T : Tree} (sides : List (List ℕ
     fits = sets-fit R rows T (limits .sets) (here .fits) (here .are);
   }
 
-  module _ (table : LetterTable) (k a : ℕ) (sets : R .sets ≡ k) (by : table ≡ letterTable (getD (held (R .grid)) a []))
+  module _ (table : Lookup) (k a : ℕ) (sets : R .sets ≡ k) (by : table ≡ letterLookup (getD (padded (R .grid)) a []))
       (r : Stepped) (after : List (List ℕ)) (step : Stepping (steppedRows table k rows) (x .side) sides r after) where
     -- the pass over its rows
-    over-tree : steppedRows table k rows ≡ passOver (lookUp (letterTable (getD (held (R .grid)) a []))) (R .sets) 0 atStart (rowsOf T)
+    over-tree : steppedRows table k rows ≡ passOver (lookUp (letterLookup (getD (padded (R .grid)) a []))) (R .sets) 0 atStart (rowsOf T)
     unfolding steppedRows
     over-tree = rw (← sets, by, ← here .are) (sym (pass-without-old _ (R .sets) 0 atStart rows))
 

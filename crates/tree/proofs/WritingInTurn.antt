@@ -1,4 +1,4 @@
--- The loops that write a record: the host of a state, the hosts of a map's states, and the marks.
+-- The loops that write a record: the host of a state, the hosts of a map's states, and the tags.
 use mathlib.Core.Path.{_≡_, refl, sym, _∙_, ap, ap₂}
 use mathlib.Core.Bool.{Bool, true, false, not, _&&_, cond}
 use mathlib.Core.List.{List, [], _∷_, _++_, map, map-append, append-nil}
@@ -16,7 +16,7 @@ use Rattle.history.specs.Record.{membersFrom, members}
 use Rattle.tree.specs.TreeCalls.{recordRoom}
 use Rattle.tree.specs.inner.PackedRows.{rowsIn, countedRows}
 use Rattle.tree.specs.inner.Pass.{blankRow}
-use Rattle.tree.specs.inner.RecordRows.{places, hostRow, markOf, hostBytes, markBytes, rowsRecord, Recordable}
+use Rattle.tree.specs.inner.RecordRows.{places, hostRow, tagOf, hostBytes, tagBytes, rowsRecord, Recordable}
 use Rattle.tree.specs.declared.rows.Row.{Row}
 use Rattle.tree.specs.declared.rows.Tree.{Tree as CodeTree}
 
@@ -137,60 +137,60 @@ module _ {rows : List Row} {n s : ℕ} {before : List ℕ} {from : ℕ} {out : L
 
 -- THE MARKS
 
--- the marks of the rows in front of `node` are stored
-pub record MarksStored (n : ℕ) (x : CodeTree) (before : List ℕ) (from : ℕ) (out : List ℕ) (at node : ℕ) : Type 0 where
+-- the tags of the rows in front of `node` are stored
+pub record TagsStored (n : ℕ) (x : CodeTree) (before : List ℕ) (from : ℕ) (out : List ℕ) (at node : ℕ) : Type 0 where
   pub fits : Recordable n x
   pub room : from + x .count ≤ length before
-  pub pieces : PiecesStored (λ c. markBytes (take c (rowsIn (x .rows)))) (x .count) before from out at node
+  pub pieces : PiecesStored (λ c. tagBytes (take c (rowsIn (x .rows)))) (x .count) before from out at node
 
-marks-le : (rows : List Row) (c : ℕ) → length (markBytes (take c rows)) ≤ c
-unfolding markBytes
-marks-le rows c = omega (arith, length-map (take c rows) markOf, length-take c rows)
+tags-le : (rows : List Row) (c : ℕ) → length (tagBytes (take c rows)) ≤ c
+unfolding tagBytes
+tags-le rows c = omega (arith, length-map (take c rows) tagOf, length-take c rows)
 
-pub marks-start : (n : ℕ) (x : CodeTree) (before : List ℕ) (from : ℕ) → Recordable n x → from + x .count ≤ length before
-    → MarksStored n x before from before from 0
-unfolding markBytes
-marks-start n x before from fits h = record { fits = fits; room = h; pieces = pieces-start refl (omega arith) }
+pub tags-start : (n : ℕ) (x : CodeTree) (before : List ℕ) (from : ℕ) → Recordable n x → from + x .count ≤ length before
+    → TagsStored n x before from before from 0
+unfolding tagBytes
+tags-start n x before from fits h = record { fits = fits; room = h; pieces = pieces-start refl (omega arith) }
 
 module _ {n : ℕ} {x : CodeTree} {before : List ℕ} {from : ℕ} {out : List ℕ} {at node : ℕ}
-    (v : MarksStored n x before from out at node) where
+    (v : TagsStored n x before from out at node) where
   abbrev rows : List Row
   rows = rowsIn (x .rows)
 
   module _ (h : node < x .count) where
-    -- the mark is a byte, and there is room for it
-    pub mark-small : (row : Row) → row ≡ getD rows node blankRow → 16 * row .depth + row .active < 256
-    unfolding markOf
-    mark-small row is = rw is (v .fits .marks node h)
+    -- the tag is a byte, and there is room for it
+    pub tag-small : (row : Row) → row ≡ getD rows node blankRow → 16 * row .depth + row .active < 256
+    unfolding tagOf
+    tag-small row is = rw is (v .fits .tags node h)
 
-    marks-room : at < length before
-    marks-room = omega (arith, v .room, v .pieces .stores .place, marks-le rows node)
+    tags-room : at < length before
+    tags-room = omega (arith, v .room, v .pieces .stores .place, tags-le rows node)
 
-    pub marks-fits : at < length out
-    marks-fits = omega (arith, marks-room, pieces-size (v .pieces))
+    pub tags-fits : at < length out
+    tags-fits = omega (arith, tags-room, pieces-size (v .pieces))
 
-    pub marks-put : (row : Row) → row ≡ getD rows node blankRow → length rows ≡ places
-        → MarksStored n x before from (set out at (16 * row .depth + row .active)) (at + 1) (node + 1)
-    unfolding markBytes markOf
-    marks-put row is held = rw is (record {
+    pub tags-put : (row : Row) → row ≡ getD rows node blankRow → length rows ≡ places
+        → TagsStored n x before from (set out at (16 * row .depth + row .active)) (at + 1) (node + 1)
+    unfolding tagBytes tagOf
+    tags-put row is held = rw is (record {
       fits = v .fits;
       room = v .room;
-      pieces = pieces-byte (v .pieces) h _ (ap (map markOf) (take-suc rows node blankRow inside)
-          ∙ map-append markOf (take node rows) (getD rows node blankRow ∷ [])) marks-room;
+      pieces = pieces-byte (v .pieces) h _ (ap (map tagOf) (take-suc rows node blankRow inside)
+          ∙ map-append tagOf (take node rows) (getD rows node blankRow ∷ [])) tags-room;
     })
       where
         inside : node < length rows
         inside = omega (arith, v .fits .few, v .fits .states)
 
-  pub marks-done : x .count ≤ node
-      → (at ≡ from + length (markBytes (countedRows x))) × (out ≡ stored from (markBytes (countedRows x)) before)
-  marks-done h = let (same, place) = pieces-done (v .pieces) h in (place, same)
+  pub tags-done : x .count ≤ node
+      → (at ≡ from + length (tagBytes (countedRows x))) × (out ≡ stored from (tagBytes (countedRows x)) before)
+  tags-done h = let (same, place) = pieces-done (v .pieces) h in (place, same)
 
 -- THE RECORD
 
--- a live tree's record: the root's map, the hosts and the marks
+-- a live tree's record: the root's map, the hosts and the tags
 live-record : (n count : ℕ) (rows : List Row) → (count ≡ 0 → ⊥) → 0 < length rows → rowsRecord n (take count rows)
-    ≡ getD rows 0 blankRow .label ∷ (hostBytes (take count rows) n (getD rows 0 blankRow .label) ++ markBytes (take count rows))
+    ≡ getD rows 0 blankRow .label ∷ (hostBytes (take count rows) n (getD rows 0 blankRow .label) ++ tagBytes (take count rows))
 unfolding rowsRecord
 live-record n zero rows some h = absurd (some refl)
 live-record n (suc count) [] some h = absurd (omega arith)
@@ -210,29 +210,29 @@ module _ (n : ℕ) (x : CodeTree) (before : List ℕ) (fits : Recordable n x) (r
     abbrev hosts : List ℕ
     hosts = hostBytes (countedRows x) n root
 
-    abbrev marks : List ℕ
-    marks = markBytes (countedRows x)
+    abbrev tags : List ℕ
+    tags = tagBytes (countedRows x)
 
     -- the root's map is a byte
     pub root-small : (x .count ≡ 0 → ⊥) → root < 256
     root-small some = rw is (fits .root (omega arith))
 
-    -- the map, the hosts behind it, and the marks behind them
+    -- the map, the hosts behind it, and the tags behind them
     record-room : 1 + length hosts + x .count ≤ recordRoom
     record-room = omega (arith, hosts-le (countedRows x) root n, fits .few, fits .states)
 
-    pub marks-room-left : (at : ℕ) (then : List ℕ) → at ≡ 1 + length hosts → length then ≡ length (set before 0 root)
+    pub tags-room-left : (at : ℕ) (then : List ℕ) → at ≡ 1 + length hosts → length then ≡ length (set before 0 root)
         → at + x .count ≤ length then
-    marks-room-left at then e f = omega (arith, record-room, length-set before 0 root)
+    tags-room-left at then e f = omega (arith, record-room, length-set before 0 root)
 
     pub record-live : (x .count ≡ 0 → ⊥) → length (rowsIn (x .rows)) ≡ places → (at r : ℕ) (then after : List ℕ)
-        → at ≡ 1 + length hosts → then ≡ stored 1 hosts (set before 0 root) → r ≡ at + length marks → after ≡ stored at marks then
+        → at ≡ 1 + length hosts → then ≡ stored 1 hosts (set before 0 root) → r ≡ at + length tags → after ≡ stored at tags then
         → (r ≡ length (rowsRecord n (countedRows x))) × (after ≡ stored 0 (rowsRecord n (countedRows x)) before)
     record-live some held at r then after e f g h =
         let first = stored-byte (stored-start before 0 (omega arith)) root (omega arith) in
         let second = stored-next first hosts (omega (arith, record-room)) in
-        let third = stored-next second marks (omega (arith, record-room, marks-le (rowsIn (x .rows)) (x .count))) in
+        let third = stored-next second tags (omega (arith, record-room, tags-le (rowsIn (x .rows)) (x .count))) in
         rw (live-record n (x .count) (rowsIn (x .rows)) some (omega arith), ← is) (
-          omega (arith, length-append hosts marks),
-          h ∙ ap₂ (λ (c : ℕ) (l : List ℕ). stored c marks l) e f ∙ third .same,
+          omega (arith, length-append hosts tags),
+          h ∙ ap₂ (λ (c : ℕ) (l : List ℕ). stored c tags l) e f ∙ third .same,
         )

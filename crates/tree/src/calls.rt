@@ -8,7 +8,7 @@ use rule::limits::LETTERS;
 use rule::limits::NO_TRANSITION;
 use rule::limits::STATES;
 use rule::lookup::ENTRIES;
-use rule::lookup::LetterTable;
+use rule::lookup::Lookup;
 use table::header::Header;
 use table::letter::letter_questions;
 use table::reader::Reading;
@@ -82,12 +82,7 @@ fn step_refusal(number: u8) -> StepAnswer
 }
 
 // Questions 9 and 10, then the letter, by its table and the numbers of a rule. It is right for every rule and letter that these are of.
-fn step_prepared(
-    lookup: &LetterTable,
-    header: Header,
-    bytes: &[u8],
-    buffer: &mut [u8],
-) -> StepAnswer
+fn step_prepared(lookup: &Lookup, header: Header, bytes: &[u8], buffer: &mut [u8]) -> StepAnswer
     requires { ⌜ ((R : Rule) × (a : ℕ) × PreparedLetter R header a (now lookup)) ⌝ }
     ensures { λ r. ⌜ ((R : Rule) (a : ℕ) → PreparedLetter R header a (now (lookup .entry))
         → StepDone (stepUnder R a (now (bytes .entry)) (now (buffer .entry))) (now (buffer .entry)) r (now (buffer .exit))) ⌝ }

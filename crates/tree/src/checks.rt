@@ -5,7 +5,7 @@ ghost use mathlib.Core.Path.{_≡_};
 ghost use Prim.Native.Nat.{_<_, _≤_};
 ghost use lib.Count.{ones};
 ghost use lib.ListN.{length};
-ghost use Rattle.history.specs.inner.RecordChecks.{allHost, activeFits, marksFollow, marksFit, bodyFits, recordChecks};
+ghost use Rattle.history.specs.inner.RecordChecks.{allHost, activeFits, tagsFollow, tagsFit, bodyFits, recordChecks};
 
 // "Each node hosts at least one state."
 fn all_host(nodes: usize, hosts: &[u8]) -> bool
@@ -22,32 +22,32 @@ fn all_host(nodes: usize, hosts: &[u8]) -> bool
 }
 
 // "an active set (1 to k)"
-fn active_fits(k: usize, mark: u8) -> bool
-    ensures { λ r. ⌜ r ≡ activeFits k mark ⌝ }
+fn active_fits(k: usize, tag: u8) -> bool
+    ensures { λ r. ⌜ r ≡ activeFits k tag ⌝ }
 {
-    let active = (mark % 16) as usize;
+    let active = (tag % 16) as usize;
     if active < 1 {
         return false;
     }
     active <= k
 }
 
-// "each later depth is from 1 to one more than the depth before it": the marks behind the root's.
-fn marks_follow(k: usize, marks: &[u8]) -> bool
-    ensures { λ r. ⌜ r ≡ marksFollow k 0 (now (marks .entry)) ⌝ }
+// "each later depth is from 1 to one more than the depth before it": the tags behind the root's.
+fn tags_follow(k: usize, tags: &[u8]) -> bool
+    ensures { λ r. ⌜ r ≡ tagsFollow k 0 (now (tags .entry)) ⌝ }
 {
     let mut before = 0u8;
     let mut at = 0usize;
-    while at < marks.len() {
-        let mark = marks[at];
-        let depth = mark / 16;
+    while at < tags.len() {
+        let tag = tags[at];
+        let depth = tag / 16;
         if depth < 1 {
             return false;
         }
         if depth > before + 1 {
             return false;
         }
-        if !active_fits(k, mark) {
+        if !active_fits(k, tag) {
             return false;
         }
         before = depth;
@@ -57,23 +57,23 @@ fn marks_follow(k: usize, marks: &[u8]) -> bool
 }
 
 // "The root's depth is 0".
-fn marks_fit(k: usize, marks: &[u8]) -> bool
-    ensures { λ r. ⌜ r ≡ marksFit k (now (marks .entry)) ⌝ }
+fn tags_fit(k: usize, tags: &[u8]) -> bool
+    ensures { λ r. ⌜ r ≡ tagsFit k (now (tags .entry)) ⌝ }
 {
-    if marks.len() < 1 {
+    if tags.len() < 1 {
         return false;
     }
-    let root = marks[0];
+    let root = tags[0];
     if root / 16 != 0 {
         return false;
     }
     if !active_fits(k, root) {
         return false;
     }
-    marks_follow(k, &marks[1..])
+    tags_follow(k, &tags[1..])
 }
 
-// What follows the map of a root's states: a host for each state, and a mark for each node.
+// What follows the map of a root's states: a host for each state, and a tag for each node.
 fn body_fits(k: usize, map: u16, left: &[u8]) -> bool
     requires { ⌜ ones map ≤ length (now left) ⌝ }
     ensures { λ r. ⌜ r ≡ bodyFits k map (now (left .entry)) ⌝ }
@@ -86,7 +86,7 @@ fn body_fits(k: usize, map: u16, left: &[u8]) -> bool
     if !all_host(nodes, &left[..states]) {
         return false;
     }
-    marks_fit(k, &left[states..])
+    tags_fit(k, &left[states..])
 }
 
 // Question 9. "The dead tree's record is the byte 0."

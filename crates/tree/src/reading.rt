@@ -1,4 +1,4 @@
-// The rows of a record's tree: its marks give each node's depth and active set, its hosts give the labels.
+// The rows of a record's tree: its tags give each node's depth and active set, its hosts give the labels.
 use crate::packed::pack;
 use crate::rows::Row;
 use crate::rows::Rows;
@@ -11,15 +11,15 @@ ghost use lib.Dec.{leb, ltb};
 ghost use lib.ListN.{length};
 ghost use Rattle.history.specs.Record.{hostedIn};
 ghost use Rattle.tree.specs.inner.PackedRows.{rowsIn};
-ghost use Rattle.tree.specs.inner.RecordRows.{blankBehind, places, deeper, rowsOfMarks};
+ghost use Rattle.tree.specs.inner.RecordRows.{blankBehind, places, deeper, rowsOfTags};
 
-// How many marks at the front are deeper than a node: the number of nodes below it, where they follow its own mark.
-fn deeper(depth: u8, marks: &[u8]) -> usize
-    ensures { λ r. ⌜ r ≡ deeper depth (now (marks .entry)) ⌝ }
+// How many tags at the front are deeper than a node: the number of nodes below it, where they follow its own tag.
+fn deeper(depth: u8, tags: &[u8]) -> usize
+    ensures { λ r. ⌜ r ≡ deeper depth (now (tags .entry)) ⌝ }
 {
     let mut count = 0usize;
-    while count < marks.len() {
-        if marks[count] / 16 <= depth {
+    while count < tags.len() {
+        if tags[count] / 16 <= depth {
             return count;
         }
         count += 1;
@@ -59,26 +59,26 @@ fn hosted(n: usize, map: u16, hosts: &[u8], low: usize, high: usize) -> u16
     states
 }
 
-// A row for each mark, in front of blank ones. A node's label are the states hosted at the node or below it, its children's are
+// A row for each tag, in front of blank ones. A node's label are the states hosted at the node or below it, its children's are
 // those below it.
-pub fn record_rows(n: usize, map: u16, hosts: &[u8], marks: &[u8]) -> Rows
-    requires { ⌜ ((n ≤ 16) × ((map < 2 ^ n) × (ones map ≤ length (now hosts)))) × (length (now marks) ≤ places) ⌝ }
-    ensures { λ r. ⌜ rowsIn r ≡ blankBehind (rowsOfMarks (hostedIn n map (now (hosts .entry))) 0 (now (marks .entry))) ⌝ }
+pub fn record_rows(n: usize, map: u16, hosts: &[u8], tags: &[u8]) -> Rows
+    requires { ⌜ ((n ≤ 16) × ((map < 2 ^ n) × (ones map ≤ length (now hosts)))) × (length (now tags) ≤ places) ⌝ }
+    ensures { λ r. ⌜ rowsIn r ≡ blankBehind (rowsOfTags (hostedIn n map (now (hosts .entry))) 0 (now (tags .entry))) ⌝ }
 {
     let mut rows = [0u64; Tree::PLACES];
     let mut node = 0usize;
-    while node < marks.len() {
-        let mark = marks[node];
-        let depth = (mark / 16) as u16;
+    while node < tags.len() {
+        let tag = tags[node];
+        let depth = (tag / 16) as u16;
         let next = node + 1;
-        let end = next + deeper(mark / 16, &marks[next..]);
+        let end = next + deeper(tag / 16, &tags[next..]);
         let label = hosted(n, map, hosts, node, end);
         let kids = hosted(n, map, hosts, next, end);
         let row = Row {
             depth: depth,
             label: label,
             kids: kids,
-            active: mark % 16,
+            active: tag % 16,
             old: 0,
         };
         rows[node] = pack(row);

@@ -80,9 +80,9 @@ impl Tree {
             return no_record();
         }
         let map = bytes[0] as u16;
-        let marks = 1 + u16::count_ones(map) as usize;
-        let nodes = bytes.len() - marks;
-        let rows = record_rows(n, map, &bytes[1..marks], &bytes[marks..]);
+        let tags = 1 + u16::count_ones(map) as usize;
+        let nodes = bytes.len() - tags;
+        let rows = record_rows(n, map, &bytes[1..tags], &bytes[tags..]);
         Checked {
             count: Count::Nodes(nodes),
             tree: Tree {

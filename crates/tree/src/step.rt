@@ -9,7 +9,7 @@ use crate::rows::Sides;
 use crate::rows::Stepped;
 use crate::rows::Tree;
 use rule::lanes::map_of;
-use rule::lookup::LetterTable;
+use rule::lookup::Lookup;
 use rule::lookup::look_up;
 ghost use mathlib.Core.Path.{_≡_};
 ghost use mathlib.Core.Bool.{cond};
@@ -40,7 +40,7 @@ fn minus(a: u16, b: u16) -> u16
 }
 
 // Steps 1 to 3 at a row, where older siblings of its node and of its ancestors have taken the states `taken`.
-fn meet(table: &LetterTable, x: Row, taken: u16) -> Met
+fn meet(table: &Lookup, x: Row, taken: u16) -> Met
     requires { ⌜ x .active ≤ maxSets ⌝ }
     ensures { λ r. ⌜ r ≡ metBy (lookUp (now (table .entry))) x taken ⌝ }
 {
@@ -158,13 +158,7 @@ fn stepped(count: usize, accepting: u16, stable: u16) -> Stepped
 
 // One letter over the first `count` rows of a side; there are k sets. By depth, as siblings are read from the oldest to the
 // youngest: the states taken from the younger ones, the states of the child that their parent sprouts, and whether names are kept.
-pub fn step_rows(
-    table: &LetterTable,
-    k: u8,
-    sides: &mut Sides,
-    from: usize,
-    count: usize,
-) -> Stepped
+pub fn step_rows(table: &Lookup, k: u8, sides: &mut Sides, from: usize, count: usize) -> Stepped
     requires { ⌜ Steppable (now sides) from count ⌝ }
     ensures { λ r. ⌜ Stepping (steppedRows (now (table .entry)) k (rowsOn (now (sides .entry)) from count))
         from (now (sides .entry)) r (now (sides .exit)) ⌝ }

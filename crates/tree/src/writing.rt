@@ -13,7 +13,7 @@ ghost use Rattle.base.specs.LentBuffer.{stored};
 ghost use Rattle.tree.specs.TreeCalls.{recordRoom};
 ghost use Rattle.tree.specs.inner.PackedRows.{countedRows};
 ghost use Rattle.tree.specs.inner.Sides.{treeOn, Stands};
-ghost use Rattle.tree.specs.inner.RecordRows.{places, hostRow, hostBytes, markBytes, rowsRecord, Recordable};
+ghost use Rattle.tree.specs.inner.RecordRows.{places, hostRow, hostBytes, tagBytes, rowsRecord, Recordable};
 
 // Does a node host a state: is the state in its label and in no child's?
 fn hosts_state(row: Row, state: usize) -> bool
@@ -66,10 +66,10 @@ fn put_hosts(sides: &Sides, on: OnSide, states: u16, n: usize, out: &mut [u8], f
 
 // "for each node in number order 16 times its depth plus its active set", stored from a place on. Answers the place
 // behind them.
-fn put_marks(sides: &Sides, on: OnSide, n: usize, out: &mut [u8], from: usize) -> usize
+fn put_tags(sides: &Sides, on: OnSide, n: usize, out: &mut [u8], from: usize) -> usize
     requires { ⌜ Recordable n (treeOn (now sides) on) × Stands (now sides) on × (from + on .count ≤ length (now out)) ⌝ }
-    ensures { λ r. ⌜ (r ≡ from + length (markBytes (countedRows (treeOn (now (sides .entry)) on))))
-        × (now (out .exit) ≡ stored from (markBytes (countedRows (treeOn (now (sides .entry)) on))) (now (out .entry))) ⌝ }
+    ensures { λ r. ⌜ (r ≡ from + length (tagBytes (countedRows (treeOn (now (sides .entry)) on))))
+        × (now (out .exit) ≡ stored from (tagBytes (countedRows (treeOn (now (sides .entry)) on))) (now (out .entry))) ⌝ }
 {
     let side = on.side;
     let count = on.count;
@@ -100,5 +100,5 @@ pub fn put_record(tree: Tree, n: usize, out: &mut [u8]) -> usize
     let root = unpack(sides[0][0]);
     out[0] = root.label as u8;
     let at = put_hosts(&sides, on, root.label, n, out, 1);
-    put_marks(&sides, on, n, out, at)
+    put_tags(&sides, on, n, out, at)
 }

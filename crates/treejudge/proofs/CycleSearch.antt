@@ -7,7 +7,7 @@ use native.Mathlib.Omega.{arith}
 use Rattle.rule.specs.Limits.{maxStates}
 use Rattle.rule.specs.Rule.{Rule}
 use Rattle.word.specs.Walk.{rounds}
-use Rattle.word.specs.inner.WalkTables.{Tables}
+use Rattle.word.specs.inner.WalkLookups.{Lookups}
 use Rattle.word.proofs.Paths.{rounds-add, rounds-one}
 use Rattle.history.specs.Rounds.{readLetters, roundTree, FirstRepeat}
 use Rattle.history.proofs.TreesOfWalk.{round-next}
@@ -27,10 +27,10 @@ rounds-more : (r : ℕ) (v : List ℕ) → rounds (r + 1) v ≡ rounds r v ++ v
 rounds-more r v = rounds-add r 1 v ∙ ap (rounds r v ++_) (rounds-one v)
 
 -- at the head of the loop: x is t(power − 1), y is t(half − 1), and lam rounds were followed from x on
-pub record Searching (R : Rule) (u v : List ℕ) (tables : Tables) (k : ℕ) (x y : CodeTree) (half power lam : ℕ)
+pub record Searching (R : Rule) (u v : List ℕ) (lookups : Lookups) (k : ℕ) (x y : CodeTree) (half power lam : ℕ)
     (now : CodeTree) (m : Maps) : Type 0 where
-  pub held : AtRound R u v tables k (power - 1) x
-  pub before : AtRound R u v tables k (half - 1) y
+  pub held : AtRound R u v lookups k (power - 1) x
+  pub before : AtRound R u v lookups k (half - 1) y
   pub below : half < power
   pub doubles : 1 < power → power ≡ half + half
   pub brent : BrentSoFar (roundTree R u v) power lam
@@ -38,8 +38,8 @@ pub record Searching (R : Rule) (u v : List ℕ) (tables : Tables) (k : ℕ) (x 
   pub follows : Follows R (roundTree R u v (power - 1)) (rounds lam v) now m
 
 -- t(0) is held first
-pub search-start : {R : Rule} {u v : List ℕ} {tables : Tables} {k : ℕ} {first : CodeTree}
-    → AtRound R u v tables k 0 first → Searching R u v tables k first first 0 1 0 first (allKept (first .count))
+pub search-start : {R : Rule} {u v : List ℕ} {lookups : Lookups} {k : ℕ} {first : CodeTree}
+    → AtRound R u v lookups k 0 first → Searching R u v lookups k first first 0 1 0 first (allKept (first .count))
 unfolding rounds
 search-start {R} {u} {v} A = record {
   held = A;
@@ -51,11 +51,11 @@ search-start {R} {u} {v} A = record {
   follows = begun-follows (A .tree);
 }
 
-module _ {R : Rule} {u v : List ℕ} {tables : Tables} {k : ℕ} {x y : CodeTree} {half power lam : ℕ} {now : CodeTree} {m : Maps}
-    (S : Searching R u v tables k x y half power lam now m) where
+module _ {R : Rule} {u v : List ℕ} {lookups : Lookups} {k : ℕ} {x y : CodeTree} {half power lam : ℕ} {now : CodeTree} {m : Maps}
+    (S : Searching R u v lookups k x y half power lam now m) where
   -- a round is followed from there
-  pub search-follows : FollowsOn R (roundTree R u v (power - 1)) (rounds lam v) tables k v now m
-  search-follows = record { holds = S .held .holds; tabled = S .held .tabled; follows = S .follows }
+  pub search-follows : FollowsOn R (roundTree R u v (power - 1)) (rounds lam v) lookups k v now m
+  search-follows = record { holds = S .held .holds; has-lookups = S .held .has-lookups; follows = S .follows }
 
   -- there are fewer than 2 ^ 63 trees
   repeat : (entry : ℕ) × (period : ℕ) × FirstRepeat (roundTree R u v) entry period × (entry + period < 2 ^ 63)
@@ -70,16 +70,16 @@ module _ {R : Rule} {u v : List ℕ} {tables : Tables} {k : ℕ} {x y : CodeTree
   search-measure =
       let (e, p, F, small) = repeat in brent-measure (roundTree R u v) (readLetters R v) (round-next R u v) e p F small power lam (S .brent)
 
-  module _ (next : CodeTree) (n : Maps) (on : FollowsTo tables k v now m next n) where
+  module _ (next : CodeTree) (n : Maps) (on : FollowsTo lookups k v now m next n) where
     -- it leads to the tree one round further
     followed : Follows R (roundTree R u v (power - 1)) (rounds (lam + 1) v) next n
     unfolding FollowsTo
     followed = rw rounds-more (on R _ _ search-follows)
 
-    pub search-next : AtRound R u v tables k (power - 1 + (lam + 1)) next
+    pub search-next : AtRound R u v lookups k (power - 1 + (lam + 1)) next
     search-next = record {
       holds = S .held .holds;
-      tabled = S .held .tabled;
+      has-lookups = S .held .has-lookups;
       tree = rw (← read-rounds R u v (lam + 1) (power - 1)) (followed .tree);
     }
 
@@ -111,7 +111,7 @@ module _ {R : Rule} {u v : List ℕ} {tables : Tables} {k : ℕ} {x y : CodeTree
       apart = rows-differ (S .held) search-next differ
 
       -- otherwise the search goes on
-      pub search-more : (lam + 1 ≡ power → ⊥) → Searching R u v tables k x y half power (lam + 1) next n
+      pub search-more : (lam + 1 ≡ power → ⊥) → Searching R u v lookups k x y half power (lam + 1) next n
       search-more more = record {
         held = S .held;
         before = S .before;
@@ -129,11 +129,11 @@ module _ {R : Rule} {u v : List ℕ} {tables : Tables} {k : ℕ} {x y : CodeTree
             let (e, p, F, small) = repeat in
             power-doubles (roundTree R u v) (readLetters R v) (round-next R u v) e p F small power lam (S .brent) apart full
 
-        pub search-reset : Searching R u v tables k next x power (power + power) 0 next (allKept (next .count))
+        pub search-reset : Searching R u v lookups k next x power (power + power) 0 next (allKept (next .count))
         unfolding rounds
         search-reset =
             let e : power - 1 + (lam + 1) ≡ power + power - 1 = omega (arith, S .below) in
-            let A : AtRound R u v tables k (power + power - 1) next = rw e at search-next in
+            let A : AtRound R u v lookups k (power + power - 1) next = rw e at search-next in
             record {
               held = A;
               before = S .held;

@@ -6,7 +6,7 @@ use Prim.Native.Nat.{ℕ, _+_, _-_, _≤_}
 use native.Mathlib.Omega.{arith}
 use native.Mathlib.Decide.{ℕ-discrete}
 use Rattle.rule.specs.Rule.{Rule}
-use Rattle.word.specs.inner.WalkTables.{Tables}
+use Rattle.word.specs.inner.WalkLookups.{Lookups}
 use Rattle.history.specs.Rounds.{readLetters, roundTree}
 use Rattle.history.proofs.TreesOfWalk.{round-next}
 use Rattle.history.proofs.FirstRepeats.{repeat-only}
@@ -17,8 +17,8 @@ use Rattle.treejudge.specs.inner.Cycles.{AtRound, Ahead, ReadTo, Bracket
 use Rattle.treejudge.specs.declared.cycle.Cycle.{Cycle}
 use Rattle.treejudge.proofs.RoundsRead.{round-read, rounds-read, rows-same, rows-differ}
 
-module _ {R : Rule} {u v : List ℕ} {tables : Tables} {k entry period place high : ℕ} {x y : CodeTree}
-    (N : Bracket R u v tables k entry period place high x y) where
+module _ {R : Rule} {u v : List ℕ} {lookups : Lookups} {k entry period place high : ℕ} {x y : CodeTree}
+    (N : Bracket R u v lookups k entry period place high x y) where
   -- where the two trees are the same, the place is the entry
   pub entry-here : sameTrees x y ≡ true → place ≡ entry
   entry-here same =
@@ -37,8 +37,8 @@ module _ {R : Rule} {u v : List ℕ} {tables : Tables} {k entry period place hig
         go (no e) = omega (arith, N .from)
 
     -- and both places go forward
-    pub bracket-more : {x′ y′ : CodeTree} → ReadsTo tables k v x x′ → ReadsTo tables k v y y′
-        → Bracket R u v tables k entry period (place + 1) high x′ y′
+    pub bracket-more : {x′ y′ : CodeTree} → ReadsTo lookups k v x x′ → ReadsTo lookups k v y y′
+        → Bracket R u v lookups k entry period (place + 1) high x′ y′
     bracket-more read read-ahead =
         let e : place + period + 1 ≡ place + 1 + period = omega arith in
         record {
@@ -51,19 +51,19 @@ module _ {R : Rule} {u v : List ℕ} {tables : Tables} {k entry period place hig
 
 -- WHERE THE SEARCH BEGINS
 
-module _ {R : Rule} {u v : List ℕ} {tables : Tables} {k entry period : ℕ} {first : CodeTree} {c : Cycle}
-    (S : Searched R u v tables k entry period first c) where
+module _ {R : Rule} {u v : List ℕ} {lookups : Lookups} {k entry period : ℕ} {first : CodeTree} {c : Cycle}
+    (S : Searched R u v lookups k entry period first c) where
   -- the tree that is held, and the one that was held before
-  pub held-place : AtRound R u v tables k (c .power - 1) (c .held)
-  held-place = record { holds = S .place .holds; tabled = S .place .tabled; tree = S .cycle .held }
+  pub held-place : AtRound R u v lookups k (c .power - 1) (c .held)
+  held-place = record { holds = S .place .holds; has-lookups = S .place .has-lookups; tree = S .cycle .held }
 
-  pub before-place : AtRound R u v tables k (c .half - 1) (c .before)
-  before-place = record { holds = S .place .holds; tabled = S .place .tabled; tree = S .cycle .before }
+  pub before-place : AtRound R u v lookups k (c .half - 1) (c .before)
+  before-place = record { holds = S .place .holds; has-lookups = S .place .has-lookups; tree = S .cycle .before }
 
   -- a place no later than the entry, and the one a period further
   bracket-from : {low : ℕ} → low ≤ entry → {x y : CodeTree}
-      → AtRound R u v tables k low x → AtRound R u v tables k (low + c .period) y
-      → Bracket R u v tables k entry (c .period) low (c .power - 1) x y
+      → AtRound R u v lookups k low x → AtRound R u v lookups k (low + c .period) y
+      → Bracket R u v lookups k entry (c .period) low (c .power - 1) x y
   bracket-from from here there = record {
     place = here;
     ahead = there;
@@ -73,8 +73,8 @@ module _ {R : Rule} {u v : List ℕ} {tables : Tables} {k entry period : ℕ} {f
   }
 
   -- from t(0) on
-  pub bracket-first : {y : CodeTree} → ReadTo tables k v (c .half - 1) (c .before) (c .power - 1) (c .held) (c .period) y
-      → Bracket R u v tables k entry (c .period) 0 (c .power - 1) first y
+  pub bracket-first : {y : CodeTree} → ReadTo lookups k v (c .half - 1) (c .before) (c .power - 1) (c .held) (c .period) y
+      → Bracket R u v lookups k entry (c .period) 0 (c .power - 1) first y
   unfolding ReadTo
   bracket-first on = let e : c .period ≡ 0 + c .period = omega arith in
       bracket-from (omega arith) (S .place) (rw e at (on R u before-place held-place))
@@ -84,12 +84,12 @@ module _ {R : Rule} {u v : List ℕ} {tables : Tables} {k entry period : ℕ} {f
     pub entry-from-half : c .half ≤ entry
     entry-from-half = S .cycle .skips (omega (arith, S .cycle .back))
 
-    module _ {x : CodeTree} (read : Ahead tables k v 1 (c .before) x) where
-      pub half-place : AtRound R u v tables k (c .half) x
+    module _ {x : CodeTree} (read : Ahead lookups k v 1 (c .before) x) where
+      pub half-place : AtRound R u v lookups k (c .half) x
       half-place = rounds-read before-place 1 read (omega (arith, S .repeat .positive, S .cycle .back))
 
       -- so the search may begin there
-      pub bracket-half : {y : CodeTree} → ReadTo tables k v (c .half) x (c .power - 1) (c .held) (c .half + c .period) y
-          → Bracket R u v tables k entry (c .period) (c .half) (c .power - 1) x y
+      pub bracket-half : {y : CodeTree} → ReadTo lookups k v (c .half) x (c .power - 1) (c .held) (c .half + c .period) y
+          → Bracket R u v lookups k entry (c .period) (c .half) (c .power - 1) x y
       unfolding ReadTo
       bracket-half on = bracket-from entry-from-half half-place (on R u half-place held-place)

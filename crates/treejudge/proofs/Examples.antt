@@ -21,7 +21,7 @@ use Rattle.word.proofs.WalkQuestions.{lengths-in}
 use Rattle.history.specs.Forest.{size}
 use Rattle.history.specs.Tree.{labels, disjoint, strictlyInside, nodesFit, isTree}
 use Rattle.history.specs.Letter.{byNumber, acceptingMap, stableMap}
-use Rattle.history.specs.Record.{hostFrom, host, membersFrom, members, marks, recordOf, rank, hostedIn, planted, decoded, isRecord, readTree}
+use Rattle.history.specs.Record.{hostFrom, host, membersFrom, members, tags, recordOf, rank, hostedIn, planted, decoded, isRecord, readTree}
 use Rattle.history.specs.Finding.{Finding}
 use Rattle.history.proofs.VerdictTest.{verdictTest, verdict-by-test, ruleTest, rule-by-test}
 use Rattle.tree.specs.TreeCalls.{recordRoom, startOutcome, stepUnder, stepOutcome}
@@ -90,7 +90,7 @@ computed-holds (refuses table u v number) h = h
 -- every row holds
 pub examples-hold : Every Holds examples
 unfolding rowTest ones onesIn size labels disjoint strictlyInside nodesFit isTree byNumber acceptingMap stableMap
-    hostFrom host membersFrom members marks recordOf rank hostedIn planted decoded isRecord readTree
+    hostFrom host membersFrom members tags recordOf rank hostedIn planted decoded isRecord readTree
     letterQuestions startOutcome stepUnder stepOutcome askWalk walkQuestions judgeQuestions treeOutcome tableA tableB tableC examples
 examples-hold = every-weaker Computes Holds examples computed-holds
     (refl, (refl, (refl, (refl, (refl, (refl, (refl, (refl, (refl, (refl, (refl, (refl, (refl, tt)))))))))))))

@@ -15,7 +15,7 @@ use Rattle.rule.specs.Rule.{Rule}
 use Rattle.table.specs.declared.header.Header.{Header}
 use Rattle.word.specs.inner.Prepared.{Prepared}
 use Rattle.word.specs.Walk.{rounds, lettersLeft}
-use Rattle.word.specs.inner.WalkTables.{Tables}
+use Rattle.word.specs.inner.WalkLookups.{Lookups}
 use Rattle.history.specs.Forest.{size, names}
 use Rattle.history.specs.Tree.{startTree}
 use Rattle.history.specs.Rounds.{roundTree}
@@ -38,7 +38,7 @@ lead-left : (u v w : List ℕ) → w ≡ lettersLeft false u v 0 → u ≡ w
 unfolding lettersLeft
 lead-left u v w e = sym e
 
-module _ {R : Rule} {header : Header} {tables : Tables} {u v : List ℕ} (p : Prepared R header tables u v) where
+module _ {R : Rule} {header : Header} {lookups : Lookups} {u v : List ℕ} (p : Prepared R header lookups u v) where
   -- the rule is within the limits
   has-sets : HasSets R (header .sets)
   has-sets = record {
@@ -52,19 +52,19 @@ module _ {R : Rule} {header : Header} {tables : Tables} {u v : List ℕ} (p : Pr
 
   module _ (start : CodeTree) (made : HasRows (startRows (header .start)) start) (w : List ℕ) (left : w ≡ lettersLeft false u v 0) where
     -- u is read from the starting tree
-    pub lead-reads : (x : CodeTree) → x ≡ start → Reads R (startTree R) tables (header .sets) w x
+    pub lead-reads : (x : CodeTree) → x ≡ start → Reads R (startTree R) lookups (header .sets) w x
     lead-reads x is = rw is (record {
       holds = has-sets;
-      tabled = rw (lead-left u v w left) at (p .lead);
+      has-lookups = rw (lead-left u v w left) at (p .lead);
       tree = start-holds (p .limits) start (rw (p .numbers) at made);
     })
 
     -- and leads to t(0)
-    pub first-round : (first : CodeTree) → ReadsTo tables (header .sets) w start first → AtRound R u v tables (header .sets) 0 first
+    pub first-round : (first : CodeTree) → ReadsTo lookups (header .sets) w start first → AtRound R u v lookups (header .sets) 0 first
     unfolding ReadsTo roundTree rounds
     first-round first to = record {
       holds = has-sets;
-      tabled = p .tail;
+      has-lookups = p .tail;
       tree = rw (append-nil u, lead-left u v w left) (to R (startTree R) (lead-reads start refl));
     }
 

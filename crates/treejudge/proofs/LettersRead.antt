@@ -9,7 +9,7 @@ use lib.Seq.{take-suc, take-all}
 use Rattle.base.proofs.Every.{every-at}
 use Rattle.rule.specs.Limits.{maxLetters}
 use Rattle.rule.specs.Rule.{Rule}
-use Rattle.word.specs.inner.WalkTables.{Tables, Tabled}
+use Rattle.word.specs.inner.WalkLookups.{Lookups, HasLookup}
 use Rattle.history.specs.Tree.{Tree}
 use Rattle.history.specs.Letter.{nextTree}
 use Rattle.history.specs.Rounds.{readLetters}
@@ -31,10 +31,10 @@ laid-first laid is = rw is ((laid .arrays, omega arith), rw (laid .are))
 -- LETTER BY LETTER
 
 -- the tree in place after the first `at` letters of w, read from the tree x
-pub record ReadUpTo (tables : Tables) (k : ℕ) (w : List ℕ) (x : CodeTree) (at : ℕ) (sides : List (List ℕ)) (on : OnSide) : Type 0 where
+pub record ReadUpTo (lookups : Lookups) (k : ℕ) (w : List ℕ) (x : CodeTree) (at : ℕ) (sides : List (List ℕ)) (on : OnSide) : Type 0 where
   pub upto : at ≤ length w
   pub stands : Stands sides on
-  pub tree : (R : Rule) (T : Tree) → Reads R T tables k w x → HoldsTree R (readLetters R (take at w) T) (treeOn sides on)
+  pub tree : (R : Rule) (T : Tree) → Reads R T lookups k w x → HoldsTree R (readLetters R (take at w) T) (treeOn sides on)
 
 -- the tree after one letter more
 read-more : (R : Rule) (w : List ℕ) (at : ℕ) (T : Tree) → at < length w
@@ -42,42 +42,42 @@ read-more : (R : Rule) (w : List ℕ) (at : ℕ) (T : Tree) → at < length w
 unfolding readLetters
 read-more R w at T h = rw (take-suc w at 0 h, read-append)
 
-module _ (tables : Tables) (k : ℕ) (w : List ℕ) where
+module _ (lookups : Lookups) (k : ℕ) (w : List ℕ) where
   -- at the start
-  pub upto-none : (sides : List (List ℕ)) (from : OnSide) → Stands sides from → ReadUpTo tables k w (treeOn sides from) 0 sides from
+  pub upto-none : (sides : List (List ℕ)) (from : OnSide) → Stands sides from → ReadUpTo lookups k w (treeOn sides from) 0 sides from
   unfolding readLetters
   upto-none sides from stands = record { upto = omega arith; stands = stands; tree = λ R T reads. reads .tree }
 
   module _ (x : CodeTree) where
     -- each letter has its place in the tables
-    pub letter-small : Readable tables k w x → (at : ℕ) → at < length w → getD w at 0 < maxLetters
+    pub letter-small : Readable lookups k w x → (at : ℕ) → at < length w → getD w at 0 < maxLetters
     unfolding Readable
     letter-small (R, T, reads) at h =
-        omega (arith, every-at (Tabled R tables) w at 0 (reads .tabled) h .below, reads .holds .limits .letters)
+        omega (arith, every-at (HasLookup R lookups) w at 0 (reads .has-lookups) h .below, reads .holds .limits .letters)
 
-    module _ (at : ℕ) (sides : List (List ℕ)) (on : OnSide) (v : ReadUpTo tables k w x at sides on) where
+    module _ (at : ℕ) (sides : List (List ℕ)) (on : OnSide) (v : ReadUpTo lookups k w x at sides on) where
       -- at the end
-      pub upto-all : length w ≤ at → Stands sides on × ReadsTo tables k w x (treeOn sides on)
+      pub upto-all : length w ≤ at → Stands sides on × ReadsTo lookups k w x (treeOn sides on)
       unfolding ReadsTo
       upto-all h = (v .stands, λ R T reads. rw (take-all at w h) at (v .tree R T reads))
 
       -- the next letter can be read
-      pub upto-ready : Readable tables k w x → Steppable sides (on .side) (on .count)
+      pub upto-ready : Readable lookups k w x → Steppable sides (on .side) (on .count)
       unfolding Readable
       upto-ready (R, T, reads) = place-ready (reads .holds .limits) sides on (v .tree R T reads) (v .stands)
 
       -- and leads on
       pub upto-more : at < length w → (next : Stepped) (after : List (List ℕ))
-          → Stepping (steppedRows (getD tables (getD w at 0) []) k (rowsOn sides (on .side) (on .count))) (on .side) sides next after
-          → ReadUpTo tables k w x (at + 1) after (record { side = 1 - on .side; count = next .count })
+          → Stepping (steppedRows (getD lookups (getD w at 0) []) k (rowsOn sides (on .side) (on .count))) (on .side) sides next after
+          → ReadUpTo lookups k w x (at + 1) after (record { side = 1 - on .side; count = next .count })
       upto-more h next after step = record {
         upto = omega arith;
         stands = (step .arrays, omega arith);
         tree = λ R T reads. rw (add-one, read-more R w at T h) (place-steps (reads .holds .limits) sides on (v .tree R T reads) _ k _
-            (reads .holds .number) (every-at (Tabled R tables) w at 0 (reads .tabled) h .entries) next after step .next);
+            (reads .holds .number) (every-at (HasLookup R lookups) w at 0 (reads .has-lookups) h .entries) next after step .next);
       }
 
 -- letters that are read from a tree, wherever it stands, to a tree that is taken up
-pub reads-taken : (tables : Tables) (k : ℕ) (w : List ℕ) {x y first cut : CodeTree} → x ≡ first → cut ≡ y
-    → ReadsTo tables k w x y → ReadsTo tables k w first cut
-reads-taken tables k w from to reads = rw (← from, to) reads
+pub reads-taken : (lookups : Lookups) (k : ℕ) (w : List ℕ) {x y first cut : CodeTree} → x ≡ first → cut ≡ y
+    → ReadsTo lookups k w x y → ReadsTo lookups k w first cut
+reads-taken lookups k w from to reads = rw (← from, to) reads

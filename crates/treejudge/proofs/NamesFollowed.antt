@@ -10,7 +10,7 @@ use lib.Seq.{take-suc, take-all}
 use Rattle.base.proofs.Every.{every-at}
 use Rattle.rule.specs.Limits.{maxStates}
 use Rattle.rule.specs.Rule.{Rule}
-use Rattle.word.specs.inner.WalkTables.{Tables, Tabled}
+use Rattle.word.specs.inner.WalkLookups.{Lookups, HasLookup}
 use Rattle.history.specs.Tree.{Tree}
 use Rattle.history.specs.Rounds.{readLetters}
 use Rattle.history.specs.inner.OldNumbers.{noNode}
@@ -51,44 +51,44 @@ begun-follows {R} {T} tree = let (kept, none) = follow-none R T in record {
 -- LETTER BY LETTER
 
 -- the tree in place and the followed nodes after the first `at` letters of w, read from x and m on
-pub record FollowedUpTo (tables : Tables) (k : ℕ) (w : List ℕ) (x : CodeTree) (m : Maps) (at : ℕ)
+pub record FollowedUpTo (lookups : Lookups) (k : ℕ) (w : List ℕ) (x : CodeTree) (m : Maps) (at : ℕ)
     (sides : List (List ℕ)) (on : OnSide) (n : Maps) : Type 0 where
   pub upto : at ≤ length w
   pub stands : Stands sides on
-  pub names : (R : Rule) (T : Tree) (before : List ℕ) → FollowsOn R T before tables k w x m
+  pub names : (R : Rule) (T : Tree) (before : List ℕ) → FollowsOn R T before lookups k w x m
       → Follows R T (before ++ take at w) (treeOn sides on) n
 
-module _ (tables : Tables) (k : ℕ) (w : List ℕ) where
+module _ (lookups : Lookups) (k : ℕ) (w : List ℕ) where
   -- at the start
   pub followed-none : (sides : List (List ℕ)) (from : OnSide) (m : Maps) → Stands sides from
-      → FollowedUpTo tables k w (treeOn sides from) m 0 sides from m
+      → FollowedUpTo lookups k w (treeOn sides from) m 0 sides from m
   followed-none sides from m stands =
       record { upto = omega arith; stands = stands; names = λ R T before v. rw append-nil (v .follows) }
 
   module _ (x : CodeTree) (m : Maps) where
     -- the letters can be read
-    pub followed-reads : Followable tables k w x m → Readable tables k w x
+    pub followed-reads : Followable lookups k w x m → Readable lookups k w x
     unfolding Followable Readable
     followed-reads (R, T, before, v) =
-        (R, readLetters R before T, record { holds = v .holds; tabled = v .tabled; tree = v .follows .tree })
+        (R, readLetters R before T, record { holds = v .holds; has-lookups = v .has-lookups; tree = v .follows .tree })
 
-    module _ (at : ℕ) (sides : List (List ℕ)) (on : OnSide) (n : Maps) (v : FollowedUpTo tables k w x m at sides on n) where
+    module _ (at : ℕ) (sides : List (List ℕ)) (on : OnSide) (n : Maps) (v : FollowedUpTo lookups k w x m at sides on n) where
       -- at the end
-      pub followed-all : length w ≤ at → Stands sides on × FollowsTo tables k w x m (treeOn sides on) n
+      pub followed-all : length w ≤ at → Stands sides on × FollowsTo lookups k w x m (treeOn sides on) n
       unfolding FollowsTo
       followed-all h = (v .stands, λ R T before F. rw (take-all at w h) at (v .names R T before F))
 
       -- the next letter can be read
-      pub followed-ready : Followable tables k w x m → Steppable sides (on .side) (on .count)
+      pub followed-ready : Followable lookups k w x m → Steppable sides (on .side) (on .count)
       unfolding Followable
       followed-ready (R, T, before, F) = place-ready (F .holds .limits) sides on (v .names R T before F .tree) (v .stands)
 
       module _ (h : at < length w) (next : Stepped) (after : List (List ℕ))
-          (step : Stepping (steppedRows (getD tables (getD w at 0) []) k (rowsOn sides (on .side) (on .count))) (on .side) sides next after) where
+          (step : Stepping (steppedRows (getD lookups (getD w at 0) []) k (rowsOn sides (on .side) (on .count))) (on .side) sides next after) where
         abbrev there : OnSide
         there = record { side = 1 - on .side; count = next .count }
 
-        module _ (R : Rule) (T : Tree) (before : List ℕ) (F : FollowsOn R T before tables k w x m) where
+        module _ (R : Rule) (T : Tree) (before : List ℕ) (F : FollowsOn R T before lookups k w x m) where
           abbrev a : ℕ
           a = getD w at 0
 
@@ -100,7 +100,7 @@ module _ (tables : Tables) (k : ℕ) (w : List ℕ) where
 
           steps : StepsTo R a (readLetters R read T) (treeOn after there) next
           steps = place-steps (F .holds .limits) sides on (now .tree) _ k a (F .holds .number)
-              (every-at (Tabled R tables) w at 0 (F .tabled) h .entries) next after step
+              (every-at (HasLookup R lookups) w at 0 (F .has-lookups) h .entries) next after step
 
           -- it carries both maps to the new numbers
           letter-follows : Follows R T (read ++ (a ∷ [])) (treeOn after there) (carriedMaps (treeOn after there) (staying next n))
@@ -117,13 +117,13 @@ module _ (tables : Tables) (k : ℕ) (w : List ℕ) where
               }
 
         -- both maps can be carried to the side that was written,
-        pub followed-few : Followable tables k w x m → (next .count ≤ maxStates) × Stands after there
+        pub followed-few : Followable lookups k w x m → (next .count ≤ maxStates) × Stands after there
         unfolding Followable
         followed-few (R, T, before, F) = (tree-small (F .holds .limits .states) (steps R T before F .next), (step .arrays, omega arith))
 
         -- and that leads on
         pub followed-more : (n′ : Maps) → n′ ≡ carriedMaps (treeOn after there) (staying next n)
-            → FollowedUpTo tables k w x m (at + 1) after there n′
+            → FollowedUpTo lookups k w x m (at + 1) after there n′
         followed-more n′ carries = record {
           upto = omega arith;
           stands = (step .arrays, omega arith);

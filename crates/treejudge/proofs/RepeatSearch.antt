@@ -12,7 +12,7 @@ use Rattle.base.proofs.Every.{append-every}
 use Rattle.base.proofs.Logic.{clash}
 use Rattle.rule.specs.Rule.{Rule}
 use Rattle.word.specs.Walk.{rounds, lettersLeft}
-use Rattle.word.specs.inner.WalkTables.{Tables, Tabled}
+use Rattle.word.specs.inner.WalkLookups.{Lookups, HasLookup}
 use Rattle.word.proofs.Paths.{rounds-one}
 use Rattle.history.specs.Forest.{size}
 use Rattle.history.specs.Tree.{Tree}
@@ -38,23 +38,23 @@ use Rattle.treejudge.proofs.SameTrees.{same-rows-same, same-trees-same}
 -- BY THE SEARCH
 
 -- it is done for the first repeat
-pub searched : (R : Rule) (u v : List ℕ) (tables : Tables) (k : ℕ) (first : CodeTree) → AtRound R u v tables k 0 first
-    → (cycle : Cycle) → CycleFound tables k v first cycle
-    → (entry : ℕ) × (period : ℕ) × Searched R u v tables k entry period first cycle
+pub searched : (R : Rule) (u v : List ℕ) (lookups : Lookups) (k : ℕ) (first : CodeTree) → AtRound R u v lookups k 0 first
+    → (cycle : Cycle) → CycleFound lookups k v first cycle
+    → (entry : ℕ) × (period : ℕ) × Searched R u v lookups k entry period first cycle
 unfolding CycleFound
-searched R u v tables k first at cycle found =
+searched R u v lookups k first at cycle found =
     let t = at .holds in
     let (e, p, F, _) = repeat-exists R (t .limits .well) (t .limits .some-set) (t .limits .states) (t .limits .sets) u v in
     (e, p, record { place = at; repeat = F; cycle = found R u e p at F })
 
-module _ (R : Rule) (u v : List ℕ) (tables : Tables) (k e p : ℕ) (first : CodeTree) (cycle : Cycle)
-    (S : Searched R u v tables k e p first cycle) where
+module _ (R : Rule) (u v : List ℕ) (lookups : Lookups) (k e p : ℕ) (first : CodeTree) (cycle : Cycle)
+    (S : Searched R u v lookups k e p first cycle) where
   -- a number in the map is that of a node
   node-of : (j : ℕ) → member (cycle .witnesses) j ≡ true → j < size (roundTree R u v (cycle .power - 1))
   node-of j m = member-node R u v e p (S .repeat) (cycle .power - 1) (S .cycle .late) j (rw (S .cycle .witnesses) at m)
 
   -- the tree that was held has the witnesses in the map
-  pub repeat-searched : (entry : ℕ) → EntryFound tables k v first cycle entry
+  pub repeat-searched : (entry : ℕ) → EntryFound lookups k v first cycle entry
       → RepeatOf R u v (record { tree = cycle .held; witnesses = cycle .witnesses; entry = entry; period = cycle .period })
   unfolding EntryFound
   repeat-searched entry entered =
@@ -80,8 +80,8 @@ unfolding lettersLeft
 two-parts cut u v rest left = let e : cut - 0 ≡ cut = omega arith in
     rw (e, left) (take-append-drop cut v)
 
-module _ (R : Rule) (u head rest : List ℕ) (tables : Tables) (k : ℕ) (first : CodeTree)
-    (A : AtRound R u (head ++ rest) tables k 0 first) where
+module _ (R : Rule) (u head rest : List ℕ) (lookups : Lookups) (k : ℕ) (first : CodeTree)
+    (A : AtRound R u (head ++ rest) lookups k 0 first) where
   abbrev t : ℕ → Tree
   t = roundTree R u (head ++ rest)
 
@@ -90,23 +90,23 @@ module _ (R : Rule) (u head rest : List ℕ) (tables : Tables) (k : ℕ) (first 
   s = roundTree R (u ++ head) (rest ++ head)
 
   -- the tables are those of the letters on both sides of the cut
-  parts : Every (Tabled R tables) head × Every (Tabled R tables) rest
-  parts = append-every (Tabled R tables) head rest (A .tabled)
+  parts : Every (HasLookup R lookups) head × Every (HasLookup R lookups) rest
+  parts = append-every (HasLookup R lookups) head rest (A .has-lookups)
 
   -- the letters up to the cut are read from t(0)
-  pub head-reads : (x : CodeTree) → x ≡ first → Reads R (t 0) tables k head x
-  head-reads x is = record { holds = A .holds; tabled = parts .0; tree = rw is (A .tree) }
+  pub head-reads : (x : CodeTree) → x ≡ first → Reads R (t 0) lookups k head x
+  head-reads x is = record { holds = A .holds; has-lookups = parts .0; tree = rw is (A .tree) }
 
-  module _ (cut : CodeTree) (to : ReadsTo tables k head first cut) where
+  module _ (cut : CodeTree) (to : ReadsTo lookups k head first cut) where
     pub cut-holds : HoldsTree R (s 0) cut
     unfolding ReadsTo
     cut-holds = rw (cut-round R u head rest 0) (to R (t 0) (head-reads first refl))
 
     -- the others are followed from there
-    pub rest-follows : FollowsOn R (s 0) [] tables k rest cut (allKept (cut .count))
-    rest-follows = record { holds = A .holds; tabled = parts .1; follows = begun-follows cut-holds }
+    pub rest-follows : FollowsOn R (s 0) [] lookups k rest cut (allKept (cut .count))
+    rest-follows = record { holds = A .holds; has-lookups = parts .1; follows = begun-follows cut-holds }
 
-    module _ (second : CodeTree) (m : Maps) (on : FollowsTo tables k rest cut (allKept (cut .count)) second m) where
+    module _ (second : CodeTree) (m : Maps) (on : FollowsTo lookups k rest cut (allKept (cut .count)) second m) where
       -- to t(1)
       at-second : Follows R (s 0) rest second m
       unfolding FollowsTo
@@ -116,10 +116,10 @@ module _ (R : Rule) (u head rest : List ℕ) (tables : Tables) (k : ℕ) (first 
       second-holds = rw (← cut-rest R u head rest 0) (at-second .tree)
 
       -- and on to the cut
-      pub head-follows : FollowsOn R (s 0) rest tables k head second m
-      head-follows = record { holds = A .holds; tabled = parts .0; follows = at-second }
+      pub head-follows : FollowsOn R (s 0) rest lookups k head second m
+      head-follows = record { holds = A .holds; has-lookups = parts .0; follows = at-second }
 
-      module _ (again : CodeTree) (n : Maps) (back : FollowsTo tables k head second m again n) where
+      module _ (again : CodeTree) (n : Maps) (back : FollowsTo lookups k head second m again n) where
         at-again : Follows R (s 0) (rest ++ head) again n
         unfolding FollowsTo
         at-again = back R (s 0) rest head-follows

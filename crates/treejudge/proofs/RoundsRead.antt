@@ -7,7 +7,7 @@ use native.Mathlib.Numerals.{add-one}
 use Rattle.base.proofs.Logic.{clash}
 use Rattle.rule.specs.Limits.{maxStates}
 use Rattle.rule.specs.Rule.{Rule}
-use Rattle.word.specs.inner.WalkTables.{Tables}
+use Rattle.word.specs.inner.WalkLookups.{Lookups}
 use Rattle.history.specs.Rounds.{roundTree}
 use Rattle.history.proofs.TreesOfWalk.{round-next}
 use Rattle.tree.specs.declared.rows.Tree.{Tree as CodeTree}
@@ -17,24 +17,24 @@ use Rattle.treejudge.specs.inner.SameRows.{sameTrees}
 use Rattle.treejudge.specs.inner.Cycles.{AtRound, Ahead}
 use Rattle.treejudge.proofs.SameTrees.{same-rows-same, same-trees-same}
 
-module _ {R : Rule} {u v : List ℕ} {tables : Tables} {k i : ℕ} {x : CodeTree} (X : AtRound R u v tables k i x) where
+module _ {R : Rule} {u v : List ℕ} {lookups : Lookups} {k i : ℕ} {x : CodeTree} (X : AtRound R u v lookups k i x) where
   -- the tail is read from a round's tree
-  pub round-reads : Reads R (roundTree R u v i) tables k v x
-  round-reads = record { holds = X .holds; tabled = X .tabled; tree = X .tree }
+  pub round-reads : Reads R (roundTree R u v i) lookups k v x
+  round-reads = record { holds = X .holds; has-lookups = X .has-lookups; tree = X .tree }
 
   -- to the next round's
-  pub round-read : {y : CodeTree} → ReadsTo tables k v x y → AtRound R u v tables k (i + 1) y
+  pub round-read : {y : CodeTree} → ReadsTo lookups k v x y → AtRound R u v lookups k (i + 1) y
   unfolding ReadsTo
   round-read read =
-      record { holds = X .holds; tabled = X .tabled; tree = rw (add-one, round-next) (read R (roundTree R u v i) round-reads) }
+      record { holds = X .holds; has-lookups = X .has-lookups; tree = rw (add-one, round-next) (read R (roundTree R u v i) round-reads) }
 
   -- or to a later one's
-  pub rounds-read : (count : ℕ) {y : CodeTree} → Ahead tables k v count x y → {place : ℕ} → i + count ≡ place
-      → AtRound R u v tables k place y
+  pub rounds-read : (count : ℕ) {y : CodeTree} → Ahead lookups k v count x y → {place : ℕ} → i + count ≡ place
+      → AtRound R u v lookups k place y
   unfolding Ahead
-  rounds-read count on to = record { holds = X .holds; tabled = X .tabled; tree = rw to at (on R u i X) }
+  rounds-read count on to = record { holds = X .holds; has-lookups = X .has-lookups; tree = rw to at (on R u i X) }
 
-  module _ {j : ℕ} {y : CodeTree} (Y : AtRound R u v tables k j y) where
+  module _ {j : ℕ} {y : CodeTree} (Y : AtRound R u v lookups k j y) where
     -- two trees can be compared
     pub both-small : (x .count ≤ maxStates) × (y .count ≤ maxStates)
     both-small = (tree-small (X .holds .limits .states) (X .tree), tree-small (X .holds .limits .states) (Y .tree))

@@ -5,7 +5,7 @@ use crate::follow::begin;
 use crate::follow::follow_letters;
 use crate::same::same_tree;
 use tree::rows::Tree;
-use word::tables::AllTables;
+use word::lookups::Lookups;
 ghost use Rattle.treejudge.specs.inner.Cycles.{FirstRound, CycleFound};
 
 // What the search has found: the tree t(power − 1), to which `period` rounds lead back; the map of its nodes that keep their names in
@@ -20,9 +20,9 @@ pub struct Cycle {
 }
 
 // From t(0) on.
-pub fn find_cycle(tables: &AllTables, k: u8, v: &[u8], first: Tree) -> Cycle
-    requires { ⌜ FirstRound (now tables) k (now v) first ⌝ }
-    ensures { λ r. ⌜ CycleFound (now (tables .entry)) k (now (v .entry)) first r ⌝ }
+pub fn find_cycle(lookups: &Lookups, k: u8, v: &[u8], first: Tree) -> Cycle
+    requires { ⌜ FirstRound (now lookups) k (now v) first ⌝ }
+    ensures { λ r. ⌜ CycleFound (now (lookups .entry)) k (now (v .entry)) first r ⌝ }
 {
     let mut held = first;
     let mut before = first;
@@ -32,7 +32,7 @@ pub fn find_cycle(tables: &AllTables, k: u8, v: &[u8], first: Tree) -> Cycle
     let mut sides = first.laid();
     let mut now = begin(first.on_first_side());
     loop {
-        let next = follow_letters(tables, k, v, &mut sides, now);
+        let next = follow_letters(lookups, k, v, &mut sides, now);
         lam += 1;
         if same_tree(held, &sides, next.tree) {
             return Cycle {

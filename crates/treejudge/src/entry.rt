@@ -4,20 +4,20 @@ use crate::cycle::Cycle;
 use crate::letters::read_letters;
 use crate::same::same_on;
 use tree::rows::Tree;
-use word::tables::AllTables;
+use word::lookups::Lookups;
 ghost use Prim.Native.Nat.{_≤_};
 ghost use Rattle.treejudge.specs.inner.Cycles.{SomeRound, Ahead, TwoRounds, ReadTo, Bracketed, EntryBetween, SearchDone, EntryFound};
 
 // The tree `count` rounds further.
-fn read_rounds(tables: &AllTables, k: u8, v: &[u8], count: u64, tree: Tree) -> Tree
-    requires { ⌜ SomeRound (now tables) k (now v) tree ⌝ }
-    ensures { λ r. ⌜ Ahead (now (tables .entry)) k (now (v .entry)) count tree r ⌝ }
+fn read_rounds(lookups: &Lookups, k: u8, v: &[u8], count: u64, tree: Tree) -> Tree
+    requires { ⌜ SomeRound (now lookups) k (now v) tree ⌝ }
+    ensures { λ r. ⌜ Ahead (now (lookups .entry)) k (now (v .entry)) count tree r ⌝ }
 {
     let mut sides = tree.laid();
     let mut now = tree.on_first_side();
     let mut round = 0u64;
     while round < count {
-        now = read_letters(tables, k, v, &mut sides, now);
+        now = read_letters(lookups, k, v, &mut sides, now);
         round += 1;
     }
     Tree::taken(&sides, now)
@@ -25,7 +25,7 @@ fn read_rounds(tables: &AllTables, k: u8, v: &[u8], count: u64, tree: Tree) -> T
 
 // The entry from `low` to `high`, where `first` is t(low) and `later` is the tree a period further.
 fn entry_between(
-    tables: &AllTables,
+    lookups: &Lookups,
     k: u8,
     v: &[u8],
     low: u64,
@@ -33,8 +33,8 @@ fn entry_between(
     first: Tree,
     later: Tree,
 ) -> u64
-    requires { ⌜ Bracketed (now tables) k (now v) low high first later ⌝ }
-    ensures { λ r. ⌜ EntryBetween (now (tables .entry)) k (now (v .entry)) low high first later r ⌝ }
+    requires { ⌜ Bracketed (now lookups) k (now v) low high first later ⌝ }
+    ensures { λ r. ⌜ EntryBetween (now (lookups .entry)) k (now (v .entry)) low high first later r ⌝ }
 {
     let mut here = first.laid();
     let mut there = later.laid();
@@ -49,15 +49,15 @@ fn entry_between(
         if place == high {
             return high;
         }
-        now = read_letters(tables, k, v, &mut here, now);
-        ahead = read_letters(tables, k, v, &mut there, ahead);
+        now = read_letters(lookups, k, v, &mut here, now);
+        ahead = read_letters(lookups, k, v, &mut there, ahead);
     }
     high
 }
 
 // The tree t(place): from the tree that is held, t(high), where that is no later, else from an earlier one, t(from).
 fn read_to(
-    tables: &AllTables,
+    lookups: &Lookups,
     k: u8,
     v: &[u8],
     place: u64,
@@ -66,21 +66,21 @@ fn read_to(
     high: u64,
     held: Tree,
 ) -> Tree
-    requires { ⌜ (from ≤ place) × TwoRounds (now tables) k (now v) from earlier high held ⌝ }
-    ensures { λ r. ⌜ ReadTo (now (tables .entry)) k (now (v .entry)) from earlier high held place r ⌝ }
+    requires { ⌜ (from ≤ place) × TwoRounds (now lookups) k (now v) from earlier high held ⌝ }
+    ensures { λ r. ⌜ ReadTo (now (lookups .entry)) k (now (v .entry)) from earlier high held place r ⌝ }
 {
     if high <= place {
-        return read_rounds(tables, k, v, place - high, held);
+        return read_rounds(lookups, k, v, place - high, held);
     }
-    read_rounds(tables, k, v, place - from, earlier)
+    read_rounds(lookups, k, v, place - from, earlier)
 }
 
 // The entry of the cycle that was found from t(0) on; it is no later than the tree that is held, t(power − 1). A period longer than
 // `half` reaches past the tree that was held before, t(half − 1), so t(period) can be read from there. A shorter one begins at
 // t(half) or later, since t(half − 1) has not come back.
-pub fn find_entry(tables: &AllTables, k: u8, v: &[u8], first: Tree, cycle: Cycle) -> u64
-    requires { ⌜ SearchDone (now tables) k (now v) first cycle ⌝ }
-    ensures { λ r. ⌜ EntryFound (now (tables .entry)) k (now (v .entry)) first cycle r ⌝ }
+pub fn find_entry(lookups: &Lookups, k: u8, v: &[u8], first: Tree, cycle: Cycle) -> u64
+    requires { ⌜ SearchDone (now lookups) k (now v) first cycle ⌝ }
+    ensures { λ r. ⌜ EntryFound (now (lookups .entry)) k (now (v .entry)) first cycle r ⌝ }
 {
     let half = cycle.half;
     let period = cycle.period;
@@ -90,13 +90,13 @@ pub fn find_entry(tables: &AllTables, k: u8, v: &[u8], first: Tree, cycle: Cycle
     }
     if half < period {
         let from = half - 1;
-        let there = read_to(tables, k, v, period, from, cycle.before, high, cycle.held);
-        return entry_between(tables, k, v, 0, high, first, there);
+        let there = read_to(lookups, k, v, period, from, cycle.before, high, cycle.held);
+        return entry_between(lookups, k, v, 0, high, first, there);
     }
     if half == high {
         return high;
     }
-    let here = read_rounds(tables, k, v, 1, cycle.before);
-    let there = read_to(tables, k, v, half + period, half, here, high, cycle.held);
-    entry_between(tables, k, v, half, high, here, there)
+    let here = read_rounds(lookups, k, v, 1, cycle.before);
+    let there = read_to(lookups, k, v, half + period, half, here, high, cycle.held);
+    entry_between(lookups, k, v, half, high, here, there)
 }

@@ -4,7 +4,7 @@ use tree::packed::unpack;
 use tree::rows::Sides;
 use tree::sides::OnSide;
 use tree::step::step_rows;
-use word::tables::AllTables;
+use word::lookups::Lookups;
 ghost use mathlib.Core.Path.{_≡_};
 ghost use Prim.Native.Nat.{_≤_, min};
 ghost use Rattle.rule.specs.Limits.{maxStates};
@@ -70,23 +70,23 @@ pub fn begin(on: OnSide) -> Followed
 
 // The tree and the followed nodes after the letters w.
 pub fn follow_letters(
-    tables: &AllTables,
+    lookups: &Lookups,
     k: u8,
     w: &[u8],
     sides: &mut Sides,
     from: Followed,
 ) -> Followed
     requires { ⌜ Stands (now sides) (from .tree)
-        × Followable (now tables) k (now w) (treeOn (now sides) (from .tree)) (from .maps) ⌝ }
+        × Followable (now lookups) k (now w) (treeOn (now sides) (from .tree)) (from .maps) ⌝ }
     ensures { λ r. ⌜ Stands (now (sides .exit)) (r .tree)
-        × FollowsTo (now (tables .entry)) k (now (w .entry)) (treeOn (now (sides .entry)) (from .tree)) (from .maps)
+        × FollowsTo (now (lookups .entry)) k (now (w .entry)) (treeOn (now (sides .entry)) (from .tree)) (from .maps)
         (treeOn (now (sides .exit)) (r .tree)) (r .maps) ⌝ }
 {
     let mut on = from.tree;
     let mut maps = from.maps;
     let mut at = 0usize;
     while at < w.len() {
-        let next = step_rows(&tables[w[at] as usize], k, sides, on.side, on.count);
+        let next = step_rows(&lookups[w[at] as usize], k, sides, on.side, on.count);
         on = OnSide {
             side: 1 - on.side,
             count: next.count,

@@ -9,8 +9,8 @@ use rule::lookup::ENTRIES;
 use table::header::Header;
 use table::reader::Reading;
 use tree::rows::Tree;
+use word::lookups::Lookups;
 use word::questions::walk_questions;
-use word::tables::AllTables;
 use word::walk::letters_left;
 ghost use mathlib.Core.Path.{_≡_};
 ghost use Prim.Native.Nat.{_≤_};
@@ -36,14 +36,14 @@ const NO_NAME: u8 = 255;
 
 // The answer to a walk whose look-ups are ready, with room for a name. It is right for every rule that the look-ups are of.
 fn judge_walk<'a>(
-    tables: &AllTables,
+    lookups: &Lookups,
     header: Header,
     u: &'a [u8],
     v: &'a [u8],
     names: &mut [u8],
 ) -> TreeAnswer
-    requires { ⌜ ((R : Rule) × Prepared R header (now tables) (now u) (now v)) × (nameRoom ≤ length (now names)) ⌝ }
-    ensures { λ r. ⌜ ((R : Rule) → Prepared R header (now (tables .entry)) (now (u .entry)) (now (v .entry))
+    requires { ⌜ ((R : Rule) × Prepared R header (now lookups) (now u) (now v)) × (nameRoom ≤ length (now names)) ⌝ }
+    ensures { λ r. ⌜ ((R : Rule) → Prepared R header (now (lookups .entry)) (now (u .entry)) (now (v .entry))
         → Judged R (now (u .entry)) (now (v .entry)) (now (names .entry)) r (now (names .exit))) ⌝ }
 {
     let k = header.sets as u8;
@@ -51,14 +51,14 @@ fn judge_walk<'a>(
     let start = Tree::start(header.start);
     let mut sides = start.laid();
     let led = read_letters(
-        tables,
+        lookups,
         k,
         letters_left(u, v, false, 0),
         &mut sides,
         start.on_first_side(),
     );
     let first = Tree::taken(&sides, led);
-    let found = find_repeat(tables, k, u, v, first);
+    let found = find_repeat(lookups, k, u, v, first);
     if found.witnesses == 0 {
         return TreeAnswer {
             number: 0,
@@ -95,30 +95,30 @@ pub fn tree_refusal(number: u8) -> TreeAnswer
 // The judge on look-ups that are ready for a walk: question 10 to the name buffer, then the verdict. It is right for every rule that the
 // look-ups are of.
 pub fn judge_prepared<'a>(
-    tables: &AllTables,
+    lookups: &Lookups,
     header: Header,
     u: &'a [u8],
     v: &'a [u8],
     names: &mut [u8],
 ) -> TreeAnswer
-    requires { ⌜ ((R : Rule) × Prepared R header (now tables) (now u) (now v)) ⌝ }
-    ensures { λ r. ⌜ ((R : Rule) → Prepared R header (now (tables .entry)) (now (u .entry)) (now (v .entry))
+    requires { ⌜ ((R : Rule) × Prepared R header (now lookups) (now u) (now v)) ⌝ }
+    ensures { λ r. ⌜ ((R : Rule) → Prepared R header (now (lookups .entry)) (now (u .entry)) (now (v .entry))
         → TreeAnswers (askRoom nameRoom (now (names .entry)) R) (now (u .entry)) (now (v .entry)) (now (names .entry))
         r (now (names .exit))) ⌝ }
 {
     if names.len() < Tree::NAME {
         return tree_refusal(10);
     }
-    judge_walk(tables, header, u, v, names)
+    judge_walk(lookups, header, u, v, names)
 }
 
 // THE TREE JUDGE: questions 1 to 6 to the table, 7 and 8 to the walk, 10 to the name buffer, then the verdict.
 pub fn tree_judge<'a>(table: &[u8], u: &'a [u8], v: &'a [u8], names: &mut [u8]) -> TreeAnswer
     ensures { λ r. ⌜ TreeCall (now (table .entry)) (now (u .entry)) (now (v .entry)) (now (names .entry)) r (now (names .exit)) ⌝ }
 {
-    let mut tables = [[0u64; ENTRIES]; LETTERS];
-    match walk_questions(table, u, v, &mut tables) {
+    let mut lookups = [[0u64; ENTRIES]; LETTERS];
+    match walk_questions(table, u, v, &mut lookups) {
         Reading::Refused(number) => tree_refusal(number),
-        Reading::Rule(header) => judge_prepared(&tables, header, u, v, names),
+        Reading::Rule(header) => judge_prepared(&lookups, header, u, v, names),
     }
 }

@@ -2,20 +2,20 @@
 use tree::rows::Sides;
 use tree::sides::OnSide;
 use tree::step::step_rows;
-use word::tables::AllTables;
+use word::lookups::Lookups;
 ghost use Rattle.tree.specs.inner.Sides.{treeOn, Stands};
 ghost use Rattle.treejudge.specs.inner.Reading.{Readable, ReadsTo};
 
 // The tree after the letters w, which are read from the tree `from`.
-pub fn read_letters(tables: &AllTables, k: u8, w: &[u8], sides: &mut Sides, from: OnSide) -> OnSide
-    requires { ⌜ Stands (now sides) from × Readable (now tables) k (now w) (treeOn (now sides) from) ⌝ }
+pub fn read_letters(lookups: &Lookups, k: u8, w: &[u8], sides: &mut Sides, from: OnSide) -> OnSide
+    requires { ⌜ Stands (now sides) from × Readable (now lookups) k (now w) (treeOn (now sides) from) ⌝ }
     ensures { λ r. ⌜ Stands (now (sides .exit)) r
-        × ReadsTo (now (tables .entry)) k (now (w .entry)) (treeOn (now (sides .entry)) from) (treeOn (now (sides .exit)) r) ⌝ }
+        × ReadsTo (now (lookups .entry)) k (now (w .entry)) (treeOn (now (sides .entry)) from) (treeOn (now (sides .exit)) r) ⌝ }
 {
     let mut on = from;
     let mut at = 0usize;
     while at < w.len() {
-        let next = step_rows(&tables[w[at] as usize], k, sides, on.side, on.count);
+        let next = step_rows(&lookups[w[at] as usize], k, sides, on.side, on.count);
         on = OnSide {
             side: 1 - on.side,
             count: next.count,

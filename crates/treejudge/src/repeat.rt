@@ -6,7 +6,7 @@ use crate::follow::follow_letters;
 use crate::letters::read_letters;
 use crate::same::same_tree;
 use tree::rows::Tree;
-use word::tables::AllTables;
+use word::lookups::Lookups;
 use word::walk::letters_left;
 ghost use mathlib.Core.List.{_++_};
 ghost use Prim.Native.Nat.{_≤_};
@@ -46,20 +46,20 @@ fn cut_of(length: usize) -> usize
 
 // A long tail mostly leads to one tree, from whatever tree it is read. If t(0) and t(1) lead to the same tree at the cut, then t(1) is
 // t(2), and the letters between are one cycle.
-fn early_repeat(tables: &AllTables, k: u8, head: &[u8], rest: &[u8], first: Tree) -> AtCut
-    requires { ⌜ FirstRound (now tables) k (now head ++ now rest) first ⌝ }
-    ensures { λ r. ⌜ FoundEarly (now (tables .entry)) k (now (head .entry) ++ now (rest .entry)) first (r .tree) (r .early) ⌝ }
+fn early_repeat(lookups: &Lookups, k: u8, head: &[u8], rest: &[u8], first: Tree) -> AtCut
+    requires { ⌜ FirstRound (now lookups) k (now head ++ now rest) first ⌝ }
+    ensures { λ r. ⌜ FoundEarly (now (lookups .entry)) k (now (head .entry) ++ now (rest .entry)) first (r .tree) (r .early) ⌝ }
 {
     let mut sides = first.laid();
-    let begun = read_letters(tables, k, head, &mut sides, first.on_first_side());
+    let begun = read_letters(lookups, k, head, &mut sides, first.on_first_side());
     let cut = Tree::taken(&sides, begun);
-    let second = follow_letters(tables, k, rest, &mut sides, begin(begun));
+    let second = follow_letters(lookups, k, rest, &mut sides, begin(begun));
     let entry = if same_tree(first, &sides, second.tree) {
         0u64
     } else {
         1u64
     };
-    let again = follow_letters(tables, k, head, &mut sides, second);
+    let again = follow_letters(lookups, k, head, &mut sides, second);
     if !same_tree(cut, &sides, again.tree) {
         return AtCut {
             early: Early::Nothing,
@@ -76,14 +76,14 @@ fn early_repeat(tables: &AllTables, k: u8, head: &[u8], rest: &[u8], first: Tree
 }
 
 // From t(0) on, which follows u: then the rounds, each the whole tail.
-pub fn find_repeat<'a>(tables: &AllTables, k: u8, u: &'a [u8], v: &'a [u8], first: Tree) -> Repeat
-    requires { ⌜ FirstRound (now tables) k (now v) first ⌝ }
-    ensures { λ r. ⌜ RepeatFound (now (tables .entry)) k (now (v .entry)) first r ⌝ }
+pub fn find_repeat<'a>(lookups: &Lookups, k: u8, u: &'a [u8], v: &'a [u8], first: Tree) -> Repeat
+    requires { ⌜ FirstRound (now lookups) k (now v) first ⌝ }
+    ensures { λ r. ⌜ RepeatFound (now (lookups .entry)) k (now (v .entry)) first r ⌝ }
 {
     let cut = cut_of(v.len());
     if 0 < cut {
         let rest = letters_left(u, v, true, cut);
-        let at_cut = early_repeat(tables, k, &v[0..cut], rest, first);
+        let at_cut = early_repeat(lookups, k, &v[0..cut], rest, first);
         let early = at_cut.early;
         let tree = at_cut.tree;
         if let Early::Repeat { entry, witnesses } = early {
@@ -96,8 +96,8 @@ pub fn find_repeat<'a>(tables: &AllTables, k: u8, u: &'a [u8], v: &'a [u8], firs
         }
     }
     let tail = letters_left(u, v, true, 0);
-    let cycle = find_cycle(tables, k, tail, first);
-    let entry = find_entry(tables, k, tail, first, cycle);
+    let cycle = find_cycle(lookups, k, tail, first);
+    let entry = find_entry(lookups, k, tail, first, cycle);
     let held = cycle.held;
     Repeat {
         tree: held,

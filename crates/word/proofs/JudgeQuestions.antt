@@ -15,11 +15,11 @@ use Rattle.table.specs.Table.{readRule}
 use Rattle.table.specs.declared.header.Header.{Header}
 use Rattle.table.proofs.Asked.{within-limits, RuleRead}
 use Rattle.word.specs.Walk.{lengthsFit, askWalk, walkOutcome}
-use Rattle.word.specs.inner.WalkTables.{Tables, tablesAfter}
+use Rattle.word.specs.inner.WalkLookups.{Lookups, lookupsAfter}
 use Rattle.word.specs.Judging.{walkQuestions, judgeQuestions}
 use Rattle.word.specs.inner.Prepared.{Prepared}
 use Rattle.word.proofs.WalkQuestions.{fit-nonempty, walk-accepted, walk-next, walk-refused}
-use Rattle.word.proofs.WalkTables.{walk-prepared}
+use Rattle.word.proofs.WalkLookups.{walk-prepared}
 
 -- what the questions to the table and to the walk say on yes
 pub record Accepted (table v : List ℕ) (R : Rule) : Type 0 where
@@ -51,10 +51,10 @@ module _ (table u v : List ℕ) where
     walk-yes none = behind ∙ walk-next (header .letters) u v (accepted (r .rule)) (sym e ∙ none)
 
     -- then the walk is prepared, once its letters have their tables
-    pub walk-ready : number ≡ 0 → (before : Tables) {tables : Tables} → tables ≡ tablesAfter words u v before → Prepared (r .rule) header tables u v
-    walk-ready none before {tables} made =
+    pub walk-ready : number ≡ 0 → (before : Lookups) {lookups : Lookups} → lookups ≡ lookupsAfter words u v before → Prepared (r .rule) header lookups u v
+    walk-ready none before {lookups} made =
         let (_, _, _, below, below′) = walk-accepted (header .letters) u v (sym e ∙ none) in
-        walk-prepared (r .holds) u v below below′ before tables made
+        walk-prepared (r .holds) u v below below′ before lookups made
 
   -- AN ACCEPTED WALK
 

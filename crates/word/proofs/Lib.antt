@@ -3,9 +3,9 @@ pub mod Periods
 pub mod Positions
 pub mod Pigeonhole
 pub mod Traces
-pub mod LoopToRun
-pub mod RunToLoop
-pub mod LoopTheorem
+pub mod LassoToRun
+pub mod RunToLasso
+pub mod LassoTheorem
 pub mod Variants
 pub mod SameAlong
 pub mod Verdicts
@@ -13,4 +13,4 @@ pub mod WalkQuestions
 pub mod JudgeQuestions
 pub mod TwoTables
 pub mod RefusalNumbers
-pub mod WalkTables
+pub mod WalkLookups

@@ -12,7 +12,7 @@ use Rattle.rule.specs.Rule.{Rule, edge, cellAt}
 use Rattle.rule.specs.WellFormed.{WellFormed}
 use Rattle.rule.proofs.Edges.{edge-inside}
 use Rattle.word.specs.Walk.{rounds}
-use Rattle.word.specs.Loop.{Leads}
+use Rattle.word.specs.Lasso.{Leads}
 
 -- ROUNDS
 

@@ -21,9 +21,9 @@ unfolding letterAt
 letter-prefix u v p h = rw (lt-ltb p (length u) h)
 
 -- p letters behind the prefix: the cycle's letter at p modulo its length
-pub letter-cycle : (u v : List ℕ) (p : ℕ) → letterAt u v (length u + p) ≡ getD v (p % length v) 0
+pub letter-behind : (u v : List ℕ) (p : ℕ) → letterAt u v (length u + p) ≡ getD v (p % length v) 0
 unfolding letterAt
-letter-cycle u v p =
+letter-behind u v p =
     let q : length u + p - length u ≡ p = omega arith in
     rw (le-ltb (length u + p) (length u) (omega arith), q)
 
@@ -31,7 +31,7 @@ letter-cycle u v p =
 pub letter-round : (u v : List ℕ) (r p : ℕ) → p < length v → letterAt u v (length u + r * length v + p) ≡ getD v p 0
 letter-round u v r p h =
     let q : length u + r * length v + p ≡ length u + (p + r * length v) = omega arith in
-    rw (q, letter-cycle, add-mul-mod-self-right, mod-eq-of-lt h)
+    rw (q, letter-behind, add-mul-mod-self-right, mod-eq-of-lt h)
 
 -- behind the lead-in a letter comes again a tail further on
 pub letter-again : (u v : List ℕ) (p : ℕ) → length u ≤ p → letterAt u v (p + length v) ≡ letterAt u v p
@@ -39,12 +39,12 @@ letter-again u v p h =
     let q : ℕ = p - length u in
     let e : p ≡ length u + q = omega arith in
     let e′ : p + length v ≡ length u + (q + length v) = omega arith in
-    ap (letterAt u v) e′ ∙ letter-cycle u v (q + length v) ∙ ap (λ (x : ℕ). getD v x 0) (add-mod-right q (length v))
-    ∙ sym (letter-cycle u v q) ∙ ap (letterAt u v) (sym e)
+    ap (letterAt u v) e′ ∙ letter-behind u v (q + length v) ∙ ap (λ (x : ℕ). getD v x 0) (add-mod-right q (length v))
+    ∙ sym (letter-behind u v q) ∙ ap (letterAt u v) (sym e)
 
 -- the first tail's letters, by their places in the tail and by their positions
 pub in-tail : (u v : List ℕ) (q : ℕ) → q < length v → letterAt u v (length u + q) ≡ getD v q 0
-in-tail u v q h = letter-cycle u v q ∙ ap (λ (x : ℕ). getD v x 0) (mod-eq-of-lt h)
+in-tail u v q h = letter-behind u v q ∙ ap (λ (x : ℕ). getD v x 0) (mod-eq-of-lt h)
 
 pub letter-tail : (u v : List ℕ) (p : ℕ) → length u ≤ p → p < length u + length v → letterAt u v p ≡ getD v (p - length u) 0
 letter-tail u v p h l =
@@ -60,7 +60,7 @@ every-letter P u v filled lead tail p = go (decLt p (length u))
     go (no h) =
         let q : ℕ = p - length u in
         let e : p ≡ length u + q = omega arith in
-        rw (e, letter-cycle u v q) (every-at P v (q % length v) 0 tail (mod-lt q filled))
+        rw (e, letter-behind u v q) (every-at P v (q % length v) 0 tail (mod-lt q filled))
 
 -- ROUNDS
 
@@ -116,7 +116,7 @@ letter-unrolled u v i j turns filled p = go (decLt p (length u))
         let r : ℕ = q - i * length v in
         let e : q ≡ r + i * length v = omega arith in
         let s : length u + q ≡ length w + r = omega (arith, width) in
-        rw s (letter-cycle w (rounds j v) r ∙ cyclic r
+        rw s (letter-behind w (rounds j v) r ∙ cyclic r
         ∙ ap (λ x. getD v x 0) (sym (add-mul-mod-self-right r i (length v)) ∙ ap (_% length v) (sym e)))
 
     go : Dec (p < length u) → letterAt w (rounds j v) p ≡ letterAt u v p
@@ -125,7 +125,7 @@ letter-unrolled u v i j turns filled p = go (decLt p (length u))
     go (no l) =
         let e : p ≡ length u + (p - length u) = omega arith in
         ap (letterAt w (rounds j v)) e ∙ behind (p - length u) (decLt (p - length u) (i * length v))
-        ∙ sym (letter-cycle u v (p - length u)) ∙ ap (letterAt u v) (sym e)
+        ∙ sym (letter-behind u v (p - length u)) ∙ ap (letterAt u v) (sym e)
 
 -- the walk has the letters w from position p on
 abbrev pub Reads : List ℕ → List ℕ → ℕ → List ℕ → Type 0
@@ -140,5 +140,5 @@ reads-lead u v i h q l =
 -- then any number of further rounds
 pub reads-rounds : (u v : List ℕ) (i j : ℕ) → 1 ≤ j → 1 ≤ length v → Reads u v (length (u ++ rounds i v)) (rounds j v)
 reads-rounds u v i j t h q l =
-    sym (letter-unrolled u v i j t h (length (u ++ rounds i v) + q)) ∙ letter-cycle (u ++ rounds i v) (rounds j v) q
+    sym (letter-unrolled u v i j t h (length (u ++ rounds i v) + q)) ∙ letter-behind (u ++ rounds i v) (rounds j v) q
     ∙ ap (λ x. getD (rounds j v) x 0) (mod-eq-of-lt l)

@@ -12,7 +12,7 @@ use Rattle.base.specs.BitSet.{member}
 use Rattle.base.proofs.Logic.{clash, or-l, or-r, or-in}
 use Rattle.base.proofs.BitSet.{member-union, member-none}
 use Rattle.rule.specs.Rule.{Rule, edge, cellAt}
-use Rattle.word.specs.Loop.{Leads}
+use Rattle.word.specs.Lasso.{Leads}
 
 -- the states ρ 0, ρ 1, .. move over the letters w: a transition at each place
 abbrev pub MovesOver : Rule → List ℕ → (ℕ → ℕ) → Type 0

@@ -15,32 +15,32 @@ use Rattle.rule.specs.Rule.{Rule, edge, edgeIn, cellAt}
 use Rattle.rule.specs.WellFormed.{WellFormed, startFits, bytesFit}
 use Rattle.word.specs.Walk.{letterAt, rounds}
 use Rattle.word.specs.Run.{Run, Takes, AcceptingRun}
-use Rattle.word.specs.Loop.{Leads, Loop}
-use Rattle.word.specs.Keeps.{Keeps, KeepsByLoop}
+use Rattle.word.specs.Lasso.{Leads, Lasso}
+use Rattle.word.specs.Keeps.{Keeps, KeepsByLasso}
 use Rattle.word.proofs.Paths.{rounds-one, one-leads}
-use Rattle.word.proofs.Positions.{letter-cycle}
-use Rattle.word.proofs.LoopToRun.{loop-run}
+use Rattle.word.proofs.Positions.{letter-behind}
+use Rattle.word.proofs.LassoToRun.{lasso-run}
 
 -- THE WALK AND THE RULES
 
 -- the walk 0 0 0 …
-abbrev pub cycle : List ℕ
-cycle = 0 ∷ []
+abbrev pub zeroTail : List ℕ
+zeroTail = 0 ∷ []
 
-pub nonempty : cycle ≡ [] → ⊥
+pub nonempty : zeroTail ≡ [] → ⊥
 nonempty e = omega (arith, ap length e)
 
 -- every letter is 0
-letter : (p : ℕ) → letterAt [] cycle p ≡ 0
-letter p = (rw zero-add at (letter-cycle [] cycle p)) ∙ ap (λ x. getD cycle x 0) (mod-one p)
+letter : (p : ℕ) → letterAt [] zeroTail p ≡ 0
+letter p = (rw zero-add at (letter-behind [] zeroTail p)) ∙ ap (λ x. getD zeroTail x 0) (mod-one p)
 
 -- a rule with one letter, one set and the starting state 0
 abbrev pub small : ℕ → List (List ℕ) → Rule
 small n square = record { states = n; letters = 1; sets = 1; start = 1; grid = square ∷ [] }
 
 -- without an accepting run there is no loop
-pub no-loop : (R : Rule) → WellFormed R → (AcceptingRun R [] cycle → ⊥) → Loop R [] cycle → ⊥
-no-loop R fits none L = none (loop-run R [] cycle fits nonempty L)
+pub no-lasso : (R : Rule) → WellFormed R → (AcceptingRun R [] zeroTail → ⊥) → Lasso R [] zeroTail → ⊥
+no-lasso R fits none L = none (lasso-run R [] zeroTail fits nonempty L)
 
 -- EACH SET INFINITELY OFTEN, NOT ONLY ONCE
 
@@ -80,15 +80,15 @@ away-state zero = 0
 away-state (suc p) = 1
 
 -- the run 0 1 1 1 … takes set 1 once
-once-run : OnceRun away [] cycle
+once-run : OnceRun away [] zeroTail
 unfolding edgeIn edge cellAt member
 once-run = record { run = run; once = once }
   where
-    moves : (p : ℕ) → edge (away .grid) (letterAt [] cycle p) (away-state p) (away-state (suc p)) ≡ true
+    moves : (p : ℕ) → edge (away .grid) (letterAt [] zeroTail p) (away-state p) (away-state (suc p)) ≡ true
     moves zero = rw letter
     moves (suc p) = rw letter
 
-    run : Run away [] cycle
+    run : Run away [] zeroTail
     run = record { state = away-state; starts = refl; moves = moves }
 
     once : (i : ℕ) → 1 ≤ i → i ≤ 1 → (p : ℕ) × Takes run i p
@@ -97,7 +97,7 @@ once-run = record { run = run; once = once }
     once (suc (suc i)) h k = absurd (omega arith)
 
 -- but no run takes it infinitely often, and there is no loop
-once-no-run : Keeps away [] cycle → ⊥
+once-no-run : Keeps away [] zeroTail → ⊥
 unfolding Keeps
 once-no-run A = go (A .often 1 (omega arith) (omega arith) 1)
   where
@@ -105,14 +105,14 @@ once-no-run A = go (A .often 1 (omega arith) (omega arith) 1)
     go (zero, h, t) = absurd (omega arith)
     go (suc p, h, t) = away-set _ _ (rw (away-to _ _ _ (A .run .moves p)) at t)
 
-pub once-no-loop : Loop away [] cycle → ⊥
+pub once-no-lasso : Lasso away [] zeroTail → ⊥
 unfolding Keeps
-once-no-loop = no-loop away away-fits once-no-run
+once-no-lasso = no-lasso away away-fits once-no-run
 
 -- LOOPS WITH OTHER CLAUSES
 
 -- a loop, with clauses to choose: for the state that the lead comes from, the number of tails, and the sets
-record LoopWith (From Turns Sets : ℕ → Type 0) (R : Rule) (u v : List ℕ) : Type 0 where
+record LassoWith (From Turns Sets : ℕ → Type 0) (R : Rule) (u v : List ℕ) : Type 0 where
   origin : ℕ
   state : ℕ
   lead : ℕ
@@ -135,8 +135,8 @@ abbrev EverySet : Rule → ℕ → Type 0
 EverySet R c = (i : ℕ) → i < R .sets → member c i ≡ true
 
 -- with the clauses of the definition it is a loop
-loop-with : (R : Rule) (u v : List ℕ) → LoopWith (Starting R) (1 ≤_) (EverySet R) R u v → Loop R u v
-loop-with R u v L = record {
+lasso-with : (R : Rule) (u v : List ℕ) → LassoWith (Starting R) (1 ≤_) (EverySet R) R u v → Lasso R u v
+lasso-with R u v L = record {
   origin = L .origin;
   state = L .state;
   lead = L .lead;
@@ -173,9 +173,9 @@ apart-from zero (suc zero) e = clash refl e
 apart-from zero (suc (suc r)) e = clash refl e
 
 -- a loop whose lead starts at state 1, but no accepting run and no loop
-any-start-loop : LoopWith Anything (1 ≤_) (EverySet apart) apart [] cycle
+any-start-lasso : LassoWith Anything (1 ≤_) (EverySet apart) apart [] zeroTail
 unfolding rounds edge cellAt
-any-start-loop = record {
+any-start-lasso = record {
   origin = 1;
   state = 1;
   lead = 0;
@@ -189,15 +189,15 @@ any-start-loop = record {
   every = first-set;
 }
 
-any-start-no-run : Keeps apart [] cycle → ⊥
+any-start-no-run : Keeps apart [] zeroTail → ⊥
 unfolding Keeps
 any-start-no-run A =
     let e : A .run .state 0 ≡ 0 = omega (arith, member-lt 1 1 (A .run .state 0) (lit< tt) (A .run .starts)) in
     apart-from _ _ (rw e at (A .run .moves 0))
 
-any-start-no-loop : KeepsByLoop apart [] cycle → ⊥
-unfolding Keeps KeepsByLoop
-any-start-no-loop = no-loop apart apart-fits any-start-no-run
+any-start-no-lasso : KeepsByLasso apart [] zeroTail → ⊥
+unfolding Keeps KeepsByLasso
+any-start-no-lasso = no-lasso apart apart-fits any-start-no-run
 
 -- EVERY SET ON THE LOOP, NOT ANY SETS
 
@@ -217,9 +217,9 @@ bare-set zero zero zero e = clash refl e
 bare-set zero zero (suc r) e = clash refl e
 
 -- a loop that takes no set, but no accepting run and no loop
-any-sets-loop : LoopWith (Starting bare) (1 ≤_) Anything bare [] cycle
+any-sets-lasso : LassoWith (Starting bare) (1 ≤_) Anything bare [] zeroTail
 unfolding rounds edge cellAt member
-any-sets-loop = record {
+any-sets-lasso = record {
   origin = 0;
   state = 0;
   lead = 0;
@@ -233,13 +233,13 @@ any-sets-loop = record {
   every = tt;
 }
 
-any-sets-no-run : Keeps bare [] cycle → ⊥
+any-sets-no-run : Keeps bare [] zeroTail → ⊥
 unfolding Keeps
 any-sets-no-run A = let (p, h, t) = A .often 1 (omega arith) (omega arith) 0 in bare-set _ _ _ t
 
-any-sets-no-loop : KeepsByLoop bare [] cycle → ⊥
-unfolding Keeps KeepsByLoop
-any-sets-no-loop = no-loop bare bare-fits any-sets-no-run
+any-sets-no-lasso : KeepsByLasso bare [] zeroTail → ⊥
+unfolding Keeps KeepsByLasso
+any-sets-no-lasso = no-lasso bare bare-fits any-sets-no-run
 
 -- ONE OR MORE TAILS, NOT ONE ONLY
 
@@ -255,9 +255,9 @@ swing-moves zero (suc zero) e = clash refl e
 swing-moves zero (suc (suc q)) e = clash refl e
 
 -- a loop of two tails, but none of one tail
-two-tails-loop : KeepsByLoop swing [] cycle
-unfolding KeepsByLoop rounds edge cellAt member
-two-tails-loop = record {
+two-tails-lasso : KeepsByLasso swing [] zeroTail
+unfolding KeepsByLasso rounds edge cellAt member
+two-tails-lasso = record {
   origin = 0;
   state = 0;
   lead = 0;
@@ -271,7 +271,7 @@ two-tails-loop = record {
   every = first-set;
 }
 
-one-tail-no-loop : LoopWith (Starting swing) (_≡ 1) (EverySet swing) swing [] cycle → ⊥
-one-tail-no-loop L =
-    let p : Leads swing cycle (L .state) (L .loopSets) (L .state) = rw (L .positive, rounds-one) at (L .loops) in
+one-tail-no-lasso : LassoWith (Starting swing) (_≡ 1) (EverySet swing) swing [] zeroTail → ⊥
+one-tail-no-lasso L =
+    let p : Leads swing zeroTail (L .state) (L .loopSets) (L .state) = rw (L .positive, rounds-one) at (L .loops) in
     swing-moves 0 (L .state) (one-leads swing 0 (L .state) (L .loopSets) (L .state) p .0)

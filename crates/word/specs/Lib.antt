@@ -2,7 +2,7 @@
 pub mod Walk
 pub mod Judging
 pub mod Run
-pub mod Loop
+pub mod Lasso
 pub mod Keeps
 pub mod Verdict
 pub mod EqualOn

@@ -31,7 +31,7 @@ WalkNumber = (m : ℕ) (u v : List ℕ) → Tells (walkOutcome m u v) (numberOf 
 
 -- "At each place the letters still to be read are the rest of whichever of u and v is being read."
 unfoldable pub lettersLeft : Bool → List ℕ → List ℕ → ℕ → List ℕ
-lettersLeft inCycle u v at = drop at (cond inCycle v u)
+lettersLeft inTail u v at = drop at (cond inTail v u)
 
 -- "The positions of a walk are numbered from 0 without end: u's letters first, then v's, over and over from v's first."
 unfoldable pub letterAt : List ℕ → List ℕ → ℕ → ℕ

@@ -1,3 +1,3 @@
 -- What the contracts of inner functions cite.
 pub mod Prepared
-pub mod WalkTables
+pub mod WalkLookups

@@ -1,4 +1,4 @@
 // Walks over a rule: the questions put to a walk, its letters, and their look-up tables.
+pub mod lookups;
 pub mod questions;
-pub mod tables;
 pub mod walk;

@@ -1,6 +1,6 @@
 // The questions to a table and a walk, and the look-up tables of the walk's letters. Both judges begin so.
-use crate::tables::AllTables;
-use crate::tables::walk_tables;
+use crate::lookups::Lookups;
+use crate::lookups::walk_lookups;
 use crate::walk::walk_number;
 use rule::limits::LETTERS;
 use rule::limits::NO_TRANSITION;
@@ -15,10 +15,10 @@ ghost use Rattle.word.specs.Judging.{walkQuestions};
 ghost use Rattle.word.specs.inner.Prepared.{Prepared};
 
 // Questions 1 to 6 to a table, 7 and 8 to a walk. On yes the look-up tables of the walk's letters are made in place.
-pub fn walk_questions(table: &[u8], u: &[u8], v: &[u8], tables: &mut AllTables) -> Reading
-    requires { ⌜ length (now tables) ≡ maxLetters ⌝ }
+pub fn walk_questions(table: &[u8], u: &[u8], v: &[u8], lookups: &mut Lookups) -> Reading
+    requires { ⌜ length (now lookups) ≡ maxLetters ⌝ }
     ensures { λ r. ⌜ Prepares (walkQuestions (now (table .entry)) (now (u .entry)) (now (v .entry)))
-        (λ R header. Prepared R header (now (tables .exit)) (now (u .entry)) (now (v .entry))) r ⌝ }
+        (λ R header. Prepared R header (now (lookups .exit)) (now (u .entry)) (now (v .entry))) r ⌝ }
 {
     let mut cells = [[[NO_TRANSITION; STATES]; STATES]; LETTERS];
     let mut words = [[0u64; STATES]; LETTERS];
@@ -29,7 +29,7 @@ pub fn walk_questions(table: &[u8], u: &[u8], v: &[u8], tables: &mut AllTables) 
             if number != 0 {
                 return Reading::Refused(number);
             }
-            walk_tables(&words, u, v, tables);
+            walk_lookups(&words, u, v, lookups);
             Reading::Rule(header)
         }
     }

@@ -26,21 +26,21 @@ unfoldable pub activeFits : ℕ → ℕ → Bool
 activeFits k m = leb 1 (m % 16) && leb (m % 16) k
 
 -- "each later depth is from 1 to one more than the depth before it", which is d
-unfoldable pub marksFollow : ℕ → ℕ → List ℕ → Bool
-marksFollow k d [] = true
-marksFollow k d (m ∷ left) = (leb 1 (m / 16) && leb (m / 16) (suc d)) && (activeFits k m && marksFollow k (m / 16) left)
+unfoldable pub tagsFollow : ℕ → ℕ → List ℕ → Bool
+tagsFollow k d [] = true
+tagsFollow k d (m ∷ left) = (leb 1 (m / 16) && leb (m / 16) (suc d)) && (activeFits k m && tagsFollow k (m / 16) left)
 
 -- "The root's depth is 0"
-unfoldable pub marksFit : ℕ → List ℕ → Bool
-marksFit k [] = false
-marksFit k (m ∷ left) = eqb (m / 16) 0 && (activeFits k m && marksFollow k 0 left)
+unfoldable pub tagsFit : ℕ → List ℕ → Bool
+tagsFit k [] = false
+tagsFit k (m ∷ left) = eqb (m / 16) 0 && (activeFits k m && tagsFollow k 0 left)
 
 -- RECORDS
 
--- what follows the map s of some tree's root: hosts, as many as s has states, and marks, one for each node
+-- what follows the map s of some tree's root: hosts, as many as s has states, and tags, one for each node
 unfoldable pub bodyFits : ℕ → ℕ → List ℕ → Bool
 bodyFits k s left = let nodes = length left - ones s in let hosts = take (ones s) left in
-    (allBelow nodes hosts && allHost nodes hosts) && marksFit k (drop (ones s) left)
+    (allBelow nodes hosts && allHost nodes hosts) && tagsFit k (drop (ones s) left)
 
 -- "The dead tree's record is the byte 0." Any other begins with the map of the root's states, which is not empty
 unfoldable pub recordChecks : ℕ → ℕ → List ℕ → Bool

@@ -7,20 +7,20 @@ use lib.Dec.{eqb}
 use lib.ListN.{getD}
 use Rattle.rule.specs.inner.Lanes.{mapOf, wordOf, inLane}
 use Rattle.rule.specs.Limits.{maxSets}
-use Rattle.rule.specs.inner.Lookup.{LetterTable, imagesBy, lookUp}
-use Rattle.word.specs.inner.WalkTables.{Tables}
+use Rattle.rule.specs.inner.Lookup.{Lookup, imagesBy, lookUp}
+use Rattle.word.specs.inner.WalkLookups.{Lookups}
 
 -- what f, which takes a letter's table, makes of x, letter by letter
-unfoldable pub over : (LetterTable → ℕ → ℕ) → Tables → List ℕ → ℕ → ℕ
-over f tables [] x = x
-over f tables (a ∷ w) x = over f tables w (f (getD tables a []) x)
+unfoldable pub over : (Lookup → ℕ → ℕ) → Lookups → List ℕ → ℕ → ℕ
+over f lookups [] x = x
+over f lookups (a ∷ w) x = over f lookups w (f (getD lookups a []) x)
 
 -- the states that the letters lead to
-unfoldable pub statesAfter : Tables → List ℕ → ℕ → ℕ
+unfoldable pub statesAfter : Lookups → List ℕ → ℕ → ℕ
 statesAfter = over (λ table states. lookUp table 0 states)
 
 -- where any transition of a letter leads to from the states s; from none nowhere, whatever the table
-unfoldable pub onward : LetterTable → ℕ → ℕ
+unfoldable pub onward : Lookup → ℕ → ℕ
 onward table s = cond (eqb s 0) 0 (lookUp table 0 s)
 
 -- the row of no letter: state s leads to itself, and no transition is taken
@@ -28,9 +28,9 @@ unfoldable pub ownRow : ℕ → ℕ
 ownRow s = inLane (2 ^ s) 0
 
 -- a row with a letter behind its ways: for set i the letter's transition is one of it, or the way before it takes one
-unfoldable pub extended : LetterTable → ℕ → ℕ
+unfoldable pub extended : Lookup → ℕ → ℕ
 extended table row = bitOr (imagesBy table (mapOf row 0)) (wordOf (suc maxSets) (λ i. onward table (mapOf row i)))
 
 -- and with the letters
-unfoldable pub rowAfter : Tables → List ℕ → ℕ → ℕ
+unfoldable pub rowAfter : Lookups → List ℕ → ℕ → ℕ
 rowAfter = over extended

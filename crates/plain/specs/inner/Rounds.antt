@@ -7,13 +7,13 @@ use Rattle.rule.specs.Limits.{maxSets}
 use Rattle.plain.specs.inner.Ways.{Ways, joined}
 
 -- the ways W, and those that pass state m, once or over and over
-unfoldable pub passing : ℕ → Ways → Ways
-passing m W s t i = W s t i || joined (W s m) (λ i. W m t i || joined (W m m) (W m t) i) i
+unfoldable pub through : ℕ → Ways → Ways
+through m W s t i = W s t i || joined (W s m) (λ i. W m t i || joined (W m m) (W m t) i) i
 
 -- the ways that may pass all states below m
-unfoldable pub widened : ℕ → Ways → Ways
-widened zero W s t i = W s t i
-widened (suc m) W s t i = passing m (widened m W) s t i
+unfoldable pub closure : ℕ → Ways → Ways
+closure zero W s t i = W s t i
+closure (suc m) W s t i = through m (closure m W) s t i
 
 -- a row, and its ways to m with one of the row `behind` behind them
 unfoldable pub continued : ℕ → ℕ → ℕ → ℕ

@@ -21,9 +21,9 @@ abbrev pub Reaches : Ways → ℕ → ℕ → ℕ → Type 0
 Reaches W n from t = (member from t ≡ true) ⊎ ((s : ℕ) × (s < n) × (member from s ≡ true) × (W s t 0 ≡ true))
 
 -- and from t ways of one or more tails lead back to t, and they take all k sets
-abbrev pub LoopAt : Ways → ℕ → ℕ → ℕ → ℕ → Type 0
-LoopAt W n k from t = Reaches W n from t × ((i : ℕ) → i ≤ k → W t t i ≡ true)
+abbrev pub LassoAt : Ways → ℕ → ℕ → ℕ → ℕ → Type 0
+LassoAt W n k from t = Reaches W n from t × ((i : ℕ) → i ≤ k → W t t i ≡ true)
 
 -- there is such a state
-abbrev pub SomeLoop : Ways → ℕ → ℕ → ℕ → Type 0
-SomeLoop W n k from = (t : ℕ) × (t < n) × LoopAt W n k from t
+abbrev pub SomeLasso : Ways → ℕ → ℕ → ℕ → Type 0
+SomeLasso W n k from = (t : ℕ) × (t < n) × LassoAt W n k from t

@@ -38,12 +38,12 @@ unfoldable pub images : List (List ℕ) → ℕ → ℕ
 images square s = byRelation (λ i r. member (image laneWidth (relation square i) s) r)
 
 -- a letter's table: the images of some sets, one entry each
-abbrev pub LetterTable : Type 0
-LetterTable = List ℕ
+abbrev pub Lookup : Type 0
+Lookup = List ℕ
 
 -- the table of a letter: the images of the sets 0 to 15, then of their multiples by 16
-unfoldable pub letterTable : List (List ℕ) → LetterTable
-letterTable square = tabulate 16 (λ j. images square j) ++ tabulate 16 (λ j. images square (16 * j))
+unfoldable pub letterLookup : List (List ℕ) → Lookup
+letterLookup square = tabulate 16 (λ j. images square j) ++ tabulate 16 (λ j. images square (16 * j))
 
 -- the union of the words of the members of s: the word of state q stands at place q
 unfoldable pub joinedWord : List ℕ → ℕ → ℕ
@@ -51,13 +51,13 @@ joinedWord [] s = 0
 joinedWord (word ∷ words) s = bitOr (cond (eqb (s % 2) 1) word 0) (joinedWord words (s / 2))
 
 -- the table that any words of the states give: the entries of the sets 0 to 15, then of their multiples by 16
-unfoldable pub joinedTable : List ℕ → LetterTable
-joinedTable words = tabulate 16 (λ j. joinedWord words j) ++ tabulate 16 (λ j. joinedWord words (16 * j))
+unfoldable pub joinedLookup : List ℕ → Lookup
+joinedLookup words = tabulate 16 (λ j. joinedWord words j) ++ tabulate 16 (λ j. joinedWord words (16 * j))
 
 -- the images of s by a table, in one number: under all transitions, then by those of each set
-unfoldable pub imagesBy : LetterTable → ℕ → ℕ
+unfoldable pub imagesBy : Lookup → ℕ → ℕ
 imagesBy table s = bitOr (getD table (s % 16) 0) (getD table (16 + s / 16 % 16) 0)
 
 -- one of them: under all transitions at i = 0, by those of set i at i
-unfoldable pub lookUp : LetterTable → ℕ → ℕ → ℕ
+unfoldable pub lookUp : Lookup → ℕ → ℕ → ℕ
 lookUp table i s = mapOf (imagesBy table s) i

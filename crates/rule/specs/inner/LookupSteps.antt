@@ -5,11 +5,11 @@ use mathlib.Core.List.{List}
 use Prim.Native.Nat.{ℕ, _+_, _%_, _^_, _≤_, _<_}
 use lib.Bits.{bitOr}
 use lib.ListN.{length, getD}
-use Rattle.rule.specs.inner.Lookup.{LetterTable}
+use Rattle.rule.specs.inner.Lookup.{Lookup}
 
 -- a letter's table with the entries of the first c sets that have the highest state q in their half: the entry of the set without
 -- it, joined with its word. All other entries stay.
-pub record StateAdded (words : List ℕ) (q c : ℕ) (before after : LetterTable) : Type 0 where
+pub record StateAdded (words : List ℕ) (q c : ℕ) (before after : Lookup) : Type 0 where
   pub entries : length after ≡ 32
   pub low : (j : ℕ) → j < c → getD after (2 ^ q + j) 0 ≡ bitOr (getD before j 0) (getD words q 0)
   pub high : (j : ℕ) → j < c → getD after (16 + (2 ^ q + j)) 0 ≡ bitOr (getD before (16 + j) 0) (getD words (4 + q) 0)

@@ -16,12 +16,12 @@ blankSquare = replicate maxStates blankRow
 abbrev pub blankCells : Grid
 blankCells = replicate maxLetters blankSquare
 
-unfoldable pub heldRow : List ℕ → List ℕ
-heldRow row = pad maxStates noTransition row
+unfoldable pub paddedRow : List ℕ → List ℕ
+paddedRow row = pad maxStates noTransition row
 
-unfoldable pub heldSquare : List (List ℕ) → List (List ℕ)
-heldSquare square = pad maxStates blankRow (map heldRow square)
+unfoldable pub paddedSquare : List (List ℕ) → List (List ℕ)
+paddedSquare square = pad maxStates blankRow (map paddedRow square)
 
 -- the arrays that hold a grid
-unfoldable pub held : Grid → Grid
-held grid = pad maxLetters blankSquare (map heldSquare grid)
+unfoldable pub padded : Grid → Grid
+padded grid = pad maxLetters blankSquare (map paddedSquare grid)

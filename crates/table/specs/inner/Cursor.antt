@@ -44,5 +44,5 @@ unfoldable pub readSquare : ℕ → ℕ → List ℕ → Read (List (List ℕ))
 readSquare n k bytes = replaced n blankSquare (readMany (readCell n k maxStates) n bytes)
 
 -- the cells of all letters, in arrays that were blank
-unfoldable pub readHeld : ℕ → ℕ → ℕ → List ℕ → Read Grid
-readHeld n m k bytes = replaced m blankCells (readMany (readSquare n k) m bytes)
+unfoldable pub readPadded : ℕ → ℕ → ℕ → List ℕ → Read Grid
+readPadded n m k bytes = replaced m blankCells (readMany (readSquare n k) m bytes)

@@ -5,8 +5,8 @@ use Prim.Native.Nat.{ℕ, _<_}
 use lib.ListN.{getD}
 use Rattle.base.specs.Outcome.{Outcome, accepted}
 use Rattle.rule.specs.Rule.{Grid, Rule}
-use Rattle.rule.specs.inner.Padded.{blankCells, held}
-use Rattle.rule.specs.inner.Lookup.{LetterTable, letterTable, gridWords}
+use Rattle.rule.specs.inner.Padded.{blankCells, padded}
+use Rattle.rule.specs.inner.Lookup.{Lookup, letterLookup, gridWords}
 use Rattle.table.specs.inner.ReadRule.{WithinLimits, NumbersOf, readingOf, cellsAfter}
 use Rattle.table.specs.declared.header.Header.{Header}
 use Rattle.table.specs.declared.reader.Reading.{Reading}
@@ -27,12 +27,12 @@ pub record Prepares (o : Outcome Rule) (Ready : Rule → Header → Type 0) (r :
   pub ready : (R : Rule) (header : Header) → o ≡ accepted R → NumbersOf R header → Ready R header
 
 -- a is a letter of the rule, and this is its table
-pub record HasTable (R : Rule) (a : ℕ) (table : LetterTable) : Type 0 where
+pub record HasTable (R : Rule) (a : ℕ) (table : Lookup) : Type 0 where
   pub below : a < R .letters
-  pub entries : table ≡ letterTable (getD (held (R .grid)) a [])
+  pub entries : table ≡ letterLookup (getD (padded (R .grid)) a [])
 
 -- the rule R is within the limits and has these numbers, and the letter a has this table
-pub record PreparedLetter (R : Rule) (header : Header) (a : ℕ) (table : LetterTable) : Type 0 where
+pub record PreparedLetter (R : Rule) (header : Header) (a : ℕ) (table : Lookup) : Type 0 where
   pub numbers : NumbersOf R header
   pub limits : WithinLimits R
   pub tabled : HasTable R a table

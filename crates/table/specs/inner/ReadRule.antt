@@ -6,7 +6,7 @@ use Rattle.base.specs.Outcome.{Outcome, refused, accepted}
 use Rattle.rule.specs.Limits.{maxStates, maxLetters, maxSets}
 use Rattle.rule.specs.Rule.{Rule, Grid}
 use Rattle.rule.specs.WellFormed.{WellFormed}
-use Rattle.rule.specs.inner.Padded.{held, blankCells}
+use Rattle.rule.specs.inner.Padded.{padded, blankCells}
 use Rattle.rule.specs.inner.Lookup.{gridWords}
 use Rattle.table.specs.declared.header.Header.{Header}
 use Rattle.table.specs.declared.reader.Reading.{Reading}
@@ -27,7 +27,7 @@ NumbersOf R header = header ≡ record { states = R .states; letters = R .letter
 -- the numbers and the words are those of R, which is within the limits
 pub record HoldsRule (R : Rule) (header : Header) (words : List (List ℕ)) : Type 0 where
   pub numbers : NumbersOf R header
-  pub images : words ≡ gridWords (held (R .grid))
+  pub images : words ≡ gridWords (padded (R .grid))
   pub limits : WithinLimits R
 
 -- the case of a `Reading` for each outcome: it carries document 01's number, or the values
@@ -38,4 +38,4 @@ readingOf (accepted R) = Reading·Rule (record { states = R .states; letters = R
 -- the arrays afterwards: the rule's grid; on a refusal no transition anywhere
 unfoldable pub cellsAfter : Outcome Rule → Grid
 cellsAfter (refused number) = blankCells
-cellsAfter (accepted R) = held (R .grid)
+cellsAfter (accepted R) = padded (R .grid)

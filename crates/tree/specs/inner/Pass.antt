@@ -9,7 +9,7 @@ use lib.Dec.{eqb, ltb}
 use lib.ListN.{length, getD}
 use Rattle.base.specs.BitSet.{minus}
 use Rattle.rule.specs.Limits.{maxStates, maxSets}
-use Rattle.rule.specs.inner.Lookup.{LetterTable, lookUp}
+use Rattle.rule.specs.inner.Lookup.{Lookup, lookUp}
 use Rattle.history.specs.Letter.{nextSet}
 use Rattle.history.specs.inner.OldNumbers.{noNode}
 use Rattle.tree.specs.declared.rows.Row.{Row}
@@ -141,7 +141,7 @@ abbrev pub atStart : Pass
 atStart = record { levels = outermost ∷ []; rows = []; accepting = 0; stable = 0 }
 
 -- one letter over rows, by the letter's table; there are k sets
-unfoldable pub steppedRows : LetterTable → ℕ → List Row → Pass
+unfoldable pub steppedRows : Lookup → ℕ → List Row → Pass
 steppedRows table k rows = passOver (lookUp table) k 0 atStart rows
 
 -- THE LEVELS IN ARRAYS

@@ -34,17 +34,17 @@ pub record HasRows (all : List Row) (x : CodeTree) : Type 0 where
 
 -- ROWS FROM A RECORD
 
--- how many marks at the front are deeper than d: the number of nodes below a node of depth d in front of them
+-- how many tags at the front are deeper than d: the number of nodes below a node of depth d in front of them
 unfoldable pub deeper : ℕ → List ℕ → ℕ
 deeper d [] = 0
 deeper d (m ∷ left) = cond (ltb d (m / 16)) (suc (deeper d left)) 0
 
--- the rows of some marks, numbered from i on; `label lo hi` are the states whose hosts are numbered from lo up to hi
-unfoldable pub rowsOfMarks : (ℕ → ℕ → ℕ) → ℕ → List ℕ → List Row
-rowsOfMarks label i [] = []
-rowsOfMarks label i (m ∷ left) =
+-- the rows of some tags, numbered from i on; `label lo hi` are the states whose hosts are numbered from lo up to hi
+unfoldable pub rowsOfTags : (ℕ → ℕ → ℕ) → ℕ → List ℕ → List Row
+rowsOfTags label i [] = []
+rowsOfTags label i (m ∷ left) =
     let end = suc i + deeper (m / 16) left in
-    record { depth = m / 16; label = label i end; kids = label (suc i) end; active = m % 16; old = 0 } ∷ rowsOfMarks label (suc i) left
+    record { depth = m / 16; label = label i end; kids = label (suc i) end; active = m % 16; old = 0 } ∷ rowsOfTags label (suc i) left
 
 -- A RECORD FROM ROWS
 
@@ -54,24 +54,24 @@ hostRow i [] q = i
 hostRow i (x ∷ rows) q = cond (member (x .label) q && not (member (x .kids) q)) i (hostRow (suc i) rows q)
 
 -- "16 times its depth plus its active set"
-unfoldable pub markOf : Row → ℕ
-markOf x = 16 * x .depth + x .active
+unfoldable pub tagOf : Row → ℕ
+tagOf x = 16 * x .depth + x .active
 
--- the bytes of the hosts of the states of s below n, lowest state first, and of the marks, in number order
+-- the bytes of the hosts of the states of s below n, lowest state first, and of the tags, in number order
 unfoldable pub hostBytes : List Row → ℕ → ℕ → List ℕ
 hostBytes rows n s = map (hostRow 0 rows) (members n s)
 
-unfoldable pub markBytes : List Row → List ℕ
-markBytes rows = map markOf rows
+unfoldable pub tagBytes : List Row → List ℕ
+tagBytes rows = map tagOf rows
 
 -- the record of a tree's rows
 unfoldable pub rowsRecord : ℕ → List Row → List ℕ
 rowsRecord n [] = 0 ∷ []
-rowsRecord n (root ∷ rows) = root .label ∷ (hostBytes (root ∷ rows) n (root .label) ++ markBytes (root ∷ rows))
+rowsRecord n (root ∷ rows) = root .label ∷ (hostBytes (root ∷ rows) n (root .label) ++ tagBytes (root ∷ rows))
 
--- a tree can be recorded: there is a byte for the root's label and for each mark
+-- a tree can be recorded: there is a byte for the root's label and for each tag
 pub record Recordable (n : ℕ) (x : CodeTree) : Type 0 where
   pub states : n ≤ maxStates
   pub few : x .count ≤ maxStates
   pub root : 0 < x .count → getD (rowsIn (x .rows)) 0 blankRow .label < 256
-  pub marks : (i : ℕ) → i < x .count → markOf (getD (rowsIn (x .rows)) i blankRow) < 256
+  pub tags : (i : ℕ) → i < x .count → tagOf (getD (rowsIn (x .rows)) i blankRow) < 256

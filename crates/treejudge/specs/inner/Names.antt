@@ -5,7 +5,7 @@ use mathlib.Core.List.{List, map, _++_}
 use Prim.Native.Nat.{ℕ, _-_, _^_}
 use Rattle.base.specs.Lists.{Every}
 use Rattle.rule.specs.Rule.{Rule}
-use Rattle.word.specs.inner.WalkTables.{Tables, Tabled}
+use Rattle.word.specs.inner.WalkLookups.{Lookups, HasLookup}
 use Rattle.history.specs.Tree.{Tree, isTreeOf}
 use Rattle.history.specs.Rounds.{readLetters}
 use Rattle.history.specs.inner.Following.{carried, keptMap, witnessMap}
@@ -33,15 +33,15 @@ pub record Follows (R : Rule) (T : Tree) (w : List ℕ) (x : CodeTree) (m : Maps
   pub witnesses : m .witnesses ≡ witnessMap R T w
 
 -- the letters w are read on, behind others
-pub record FollowsOn (R : Rule) (T : Tree) (before : List ℕ) (tables : Tables) (k : ℕ) (w : List ℕ)
+pub record FollowsOn (R : Rule) (T : Tree) (before : List ℕ) (lookups : Lookups) (k : ℕ) (w : List ℕ)
     (x : CodeTree) (m : Maps) : Type 0 where
   pub holds : HasSets R k
-  pub tabled : Every (Tabled R tables) w
+  pub has-lookups : Every (HasLookup R lookups) w
   pub follows : Follows R T before x m
 
-unfoldable pub Followable : Tables → ℕ → List ℕ → CodeTree → Maps → Type 0
-Followable tables k w x m = (R : Rule) × (T : Tree) × (before : List ℕ) × FollowsOn R T before tables k w x m
+unfoldable pub Followable : Lookups → ℕ → List ℕ → CodeTree → Maps → Type 0
+Followable lookups k w x m = (R : Rule) × (T : Tree) × (before : List ℕ) × FollowsOn R T before lookups k w x m
 
-unfoldable pub FollowsTo : Tables → ℕ → List ℕ → CodeTree → Maps → CodeTree → Maps → Type 0
-FollowsTo tables k w x m y n =
-    (R : Rule) (T : Tree) (before : List ℕ) → FollowsOn R T before tables k w x m → Follows R T (before ++ w) y n
+unfoldable pub FollowsTo : Lookups → ℕ → List ℕ → CodeTree → Maps → CodeTree → Maps → Type 0
+FollowsTo lookups k w x m y n =
+    (R : Rule) (T : Tree) (before : List ℕ) → FollowsOn R T before lookups k w x m → Follows R T (before ++ w) y n

@@ -5,7 +5,7 @@ use Prim.Native.Nat.{ℕ}
 use Rattle.base.specs.Lists.{Every}
 use Rattle.rule.specs.Rule.{Rule}
 use Rattle.table.specs.inner.ReadRule.{WithinLimits}
-use Rattle.word.specs.inner.WalkTables.{Tables, Tabled}
+use Rattle.word.specs.inner.WalkLookups.{Lookups, HasLookup}
 use Rattle.history.specs.Tree.{Tree}
 use Rattle.history.specs.Rounds.{readLetters}
 use Rattle.tree.specs.inner.Rows.{HoldsTree}
@@ -17,14 +17,14 @@ pub record HasSets (R : Rule) (k : ℕ) : Type 0 where
   pub limits : WithinLimits R
 
 -- the letters w are read from T
-pub record Reads (R : Rule) (T : Tree) (tables : Tables) (k : ℕ) (w : List ℕ) (x : CodeTree) : Type 0 where
+pub record Reads (R : Rule) (T : Tree) (lookups : Lookups) (k : ℕ) (w : List ℕ) (x : CodeTree) : Type 0 where
   pub holds : HasSets R k
-  pub tabled : Every (Tabled R tables) w
+  pub has-lookups : Every (HasLookup R lookups) w
   pub tree : HoldsTree R T x
 
-unfoldable pub Readable : Tables → ℕ → List ℕ → CodeTree → Type 0
-Readable tables k w x = (R : Rule) × (T : Tree) × Reads R T tables k w x
+unfoldable pub Readable : Lookups → ℕ → List ℕ → CodeTree → Type 0
+Readable lookups k w x = (R : Rule) × (T : Tree) × Reads R T lookups k w x
 
 -- and lead to the tree after them
-unfoldable pub ReadsTo : Tables → ℕ → List ℕ → CodeTree → CodeTree → Type 0
-ReadsTo tables k w x r = (R : Rule) (T : Tree) → Reads R T tables k w x → HoldsTree R (readLetters R w T) r
+unfoldable pub ReadsTo : Lookups → ℕ → List ℕ → CodeTree → CodeTree → Type 0
+ReadsTo lookups k w x r = (R : Rule) (T : Tree) → Reads R T lookups k w x → HoldsTree R (readLetters R w T) r

@@ -6,7 +6,7 @@ use Prim.Native.Nat.{ℕ, _<_}
 use lib.ListN.{getD}
 use Rattle.base.specs.BitSet.{member}
 use Rattle.rule.specs.Rule.{Rule}
-use Rattle.word.specs.inner.WalkTables.{Tables}
+use Rattle.word.specs.inner.WalkLookups.{Lookups}
 use Rattle.history.specs.Forest.{size, names}
 use Rattle.history.specs.Tree.{Tree}
 use Rattle.history.specs.Rounds.{roundTree, FirstRepeat}
@@ -30,11 +30,11 @@ pub record RepeatOf (R : Rule) (u v : List ℕ) (r : Repeat) : Type 0 where
   pub none : r .witnesses ≡ 0 → (w : List ℕ) → Witness R u v (r .entry) (r .period) w → ⊥
 
 -- the first repeat was found from t(0) on, for every walk with this tail that has this t(0)
-unfoldable pub RepeatFound : Tables → ℕ → List ℕ → CodeTree → Repeat → Type 0
-RepeatFound tables k v first r = (R : Rule) (u : List ℕ) → AtRound R u v tables k 0 first → RepeatOf R u v r
+unfoldable pub RepeatFound : Lookups → ℕ → List ℕ → CodeTree → Repeat → Type 0
+RepeatFound lookups k v first r = (R : Rule) (u : List ℕ) → AtRound R u v lookups k 0 first → RepeatOf R u v r
 
 -- what each case of an early answer says, beside the tree at the cut: the first repeat was found, and its period is 1; or nothing
-abbrev pub FoundEarly : Tables → ℕ → List ℕ → CodeTree → CodeTree → Early → Type 0
-FoundEarly tables k v first cut (EarlyRepeat entry witnesses) =
-    RepeatFound tables k v first (record { tree = cut; witnesses = witnesses; entry = entry; period = 1 })
-FoundEarly tables k v first cut Nothing = Unit
+abbrev pub FoundEarly : Lookups → ℕ → List ℕ → CodeTree → CodeTree → Early → Type 0
+FoundEarly lookups k v first cut (EarlyRepeat entry witnesses) =
+    RepeatFound lookups k v first (record { tree = cut; witnesses = witnesses; entry = entry; period = 1 })
+FoundEarly lookups k v first cut Nothing = Unit

@@ -15,17 +15,17 @@ states-after-requires c κs = rw (c .letters-left .ensures) (lead-small (c .befo
 letters-left-requires-2 : tie.Need-letters-left-requires-2
 letters-left-requires-2 c κs = search needs
 
-tail-rows-requires : tie.Need-tail-rows-requires
+tail-matrix-requires : tie.Need-tail-matrix-requires
 unfolding lettersLeft
-tail-rows-requires c κs =
+tail-matrix-requires c κs =
     let walks = c .before .before .before .before .before .pre .1 in
     (states-few walks, rw (c .letters-left2 .ensures) (tail-small walks))
 
-widen-rows-requires : tie.Need-widen-rows-requires
-widen-rows-requires c κs = (states-few (c .before .before .before .before .before .before .before .pre .1), search needs)
+transitive-closure-requires : tie.Need-transitive-closure-requires
+transitive-closure-requires c κs = (states-few (c .before .before .before .before .before .before .before .pre .1), search needs)
 
-some-loop-requires : tie.Need-some-loop-requires
-some-loop-requires c κs =
+some-lasso-requires : tie.Need-some-lasso-requires
+some-lasso-requires c κs =
     let walks = c .before .before .before .before .before .before .before .before .before .pre .1 in
     (states-few walks, sets-few walks)
 
@@ -37,7 +37,7 @@ returns c =
     let left = tail .before in
     let lead = left .before in
     λ R walks. verdict-right walks _ _ _ _ (rw (lead .before .letters-left .ensures) at (lead .states-after .ensures))
-    (rw (left .letters-left2 .ensures) at (tail .tail-rows .ensures)) (wide .widen-rows .ensures) (c .some-loop .ensures)
+    (rw (left .letters-left2 .ensures) at (tail .tail-matrix .ensures)) (wide .transitive-closure .ensures) (c .some-lasso .ensures)
 
 pub walk-verdict-spec : {M : Type 1} → statement M
 walk-verdict-spec =
@@ -46,7 +46,7 @@ walk-verdict-spec =
     letters-left-requires
     states-after-requires
     letters-left-requires-2
-    tail-rows-requires
-    widen-rows-requires
-    some-loop-requires
+    tail-matrix-requires
+    transitive-closure-requires
+    some-lasso-requires
     returns)

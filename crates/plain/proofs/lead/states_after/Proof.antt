@@ -14,10 +14,10 @@ use Rattle.plain.proofs.lead.states_after.Statement.{statement}
 use Rattle.plain.proofs.lead.states_after.Tie as tie
 
 abbrev Inv-loop : tie.InvT-loop
-Inv-loop tables start u states₀ at₀ states at = (at ≤ length u) × (statesAfter tables (drop at u) states ≡ statesAfter tables u start)
+Inv-loop lookups start u states₀ at₀ states at = (at ≤ length u) × (statesAfter lookups (drop at u) states ≡ statesAfter lookups u start)
 
 abbrev μ-loop : tie.MeasureT-loop
-μ-loop tables start u states₀ at₀ states at = length u - at
+μ-loop lookups start u states₀ at₀ states at = length u - at
 
 loop-holds : tie.Need-loop-holds Inv-loop μ-loop
 loop-holds c = (omega arith, refl)

@@ -8,20 +8,20 @@ use Rattle.rule.specs.Limits.{maxLetters}
 use Rattle.rule.specs.inner.Padded.{blankSquare, blankCells}
 use Rattle.rule.specs.inner.Lookup.{gridWords}
 use Rattle.rule.proofs.RowWords.{words-at, words-stored}
-use Rattle.table.specs.inner.Cursor.{readSquare, readHeld}
+use Rattle.table.specs.inner.Cursor.{readSquare, readPadded}
 use Rattle.table.proofs.ManyReading.{ManySoFar, many-start, many-place, many-more, many-refused, many-done}
 use Rattle.table.proofs.cells.read_cells.Statement.{statement}
 use Rattle.table.proofs.cells.read_cells.Tie as tie
 
 abbrev Inv-loop : tie.InvT-loop
 Inv-loop s n m k cells₀ words₀ at₀ letter₀ cells words at letter =
-    ManySoFar s (readSquare n k) m blankCells (readHeld n m k (drop (at₀ .at) s)) cells (at .at) letter × (words ≡ gridWords cells)
+    ManySoFar s (readSquare n k) m blankCells (readPadded n m k (drop (at₀ .at) s)) cells (at .at) letter × (words ≡ gridWords cells)
 
 abbrev μ-loop : tie.MeasureT-loop
 μ-loop s n m k cells₀ words₀ at₀ letter₀ cells words at letter = m - letter
 
 loop-holds : tie.Need-loop-holds Inv-loop μ-loop
-unfolding readHeld
+unfolding readPadded
 loop-holds c = (rw (c .before .pre .1 .1 .0) (many-start _ _ _ _ _), c .before .pre .1 .1 .1)
 
 mul-read-letter : tie.Need-mul-read-letter Inv-loop μ-loop

@@ -22,14 +22,14 @@ enum-known-header c = search needs
 returns : tie.Need-returns
 returns c = prepares-no (letter-no (rule (c .before .before .before)) _ (c .if1 .taken))
 
-mul-fill-table : tie.Need-mul-fill-table
-mul-fill-table c = search needs
+mul-fill-lookup : tie.Need-mul-fill-lookup
+mul-fill-lookup c = search needs
 
-index-1-fill-table : tie.Need-index-1-fill-table
-index-1-fill-table c = letter-inside (rule (c .before .before .before)) _ (c .if1 .left)
+index-1-fill-lookup : tie.Need-index-1-fill-lookup
+index-1-fill-lookup c = letter-inside (rule (c .before .before .before)) _ (c .if1 .left)
 
-fill-table-requires : tie.Need-fill-table-requires
-fill-table-requires c κs = search needs
+fill-lookup-requires : tie.Need-fill-lookup-requires
+fill-lookup-requires c κs = search needs
 
 returns-2 : tie.Need-returns-2
 returns-2 c =
@@ -41,7 +41,7 @@ returns-3 c =
     let letter = c .before .before .before in
     let v = rule (letter .before .before .before) in
     let small = letter .if1 .left in
-    prepares-yes (letter-yes v _ small) (v .holds .numbers) (letter-prepared v _ small (c .fill-table .ensures))
+    prepares-yes (letter-yes v _ small) (v .holds .numbers) (letter-prepared v _ small (c .fill-lookup .ensures))
 
 pub letter-questions-spec : {M : Type 1} → statement M
 letter-questions-spec =
@@ -51,8 +51,8 @@ letter-questions-spec =
     enum-known-number
     enum-known-header
     returns
-    mul-fill-table
-    index-1-fill-table
-    fill-table-requires
+    mul-fill-lookup
+    index-1-fill-lookup
+    fill-lookup-requires
     returns-2
     returns-3)

@@ -1,4 +1,4 @@
--- What follows a map: its hosts and its marks.
+-- What follows a map: its hosts and its tags.
 use borrow.Author.Needs.{needs}
 use mathlib.Core.Path.{sym}
 use lib.Seq.{length-take-le}
@@ -36,17 +36,17 @@ returns-2 c =
     let numbers = c .before .before .before in
     rw (told-yes (numbers .before .all-below .ensures) (numbers .if1 .left), told-no (c .before .all-host .ensures) (c .if2 .taken))
 
-sub-marks-fit : tie.Need-sub-marks-fit
-sub-marks-fit c = search needs
+sub-tags-fit : tie.Need-sub-tags-fit
+sub-tags-fit c = search needs
 
-part-marks-fit-start : tie.Need-part-marks-fit-start
-part-marks-fit-start c = search needs
+part-tags-fit-start : tie.Need-part-tags-fit-start
+part-tags-fit-start c = search needs
 
-part-marks-fit-end : tie.Need-part-marks-fit-end
-part-marks-fit-end c = search needs
+part-tags-fit-end : tie.Need-part-tags-fit-end
+part-tags-fit-end c = search needs
 
-marks-fit-requires : tie.Need-marks-fit-requires
-marks-fit-requires c κs = search needs
+tags-fit-requires : tie.Need-tags-fit-requires
+tags-fit-requires c κs = search needs
 
 returns-3 : tie.Need-returns-3
 unfolding bodyFits
@@ -54,7 +54,7 @@ returns-3 c =
     let each = c .before .before .before in
     let numbers = each .before .before in
     rw (told-yes (numbers .before .all-below .ensures) (numbers .if1 .left), told-yes (each .all-host .ensures) (c .before .before .if2 .left))
-    (rw to-end at (c .marks-fit .ensures))
+    (rw to-end at (c .tags-fit .ensures))
 
 pub body-fits-spec : {M : Type 1} → statement M
 body-fits-spec =
@@ -68,8 +68,8 @@ body-fits-spec =
     slice-aggregate-all-host
     all-host-requires
     returns-2
-    sub-marks-fit
-    part-marks-fit-start
-    part-marks-fit-end
-    marks-fit-requires
+    sub-tags-fit
+    part-tags-fit-start
+    part-tags-fit-end
+    tags-fit-requires
     returns-3)

@@ -1,4 +1,4 @@
--- Deeper marks at the front, by the laws of ReadingInTurn.
+-- Deeper tags at the front, by the laws of ReadingInTurn.
 use borrow.Author.Needs.{needs}
 use Prim.Native.Nat.{_-_}
 use lib.ListN.{length}
@@ -7,10 +7,10 @@ use Rattle.tree.proofs.reading.deeper.Statement.{statement}
 use Rattle.tree.proofs.reading.deeper.Tie as tie
 
 abbrev Inv-loop : tie.InvT-loop
-Inv-loop depth marks count₀ count = DeeperSoFar depth marks count
+Inv-loop depth tags count₀ count = DeeperSoFar depth tags count
 
 abbrev μ-loop : tie.MeasureT-loop
-μ-loop depth marks count₀ count = length marks - count
+μ-loop depth tags count₀ count = length tags - count
 
 loop-holds : tie.Need-loop-holds Inv-loop μ-loop
 loop-holds c = deeper-start _ _

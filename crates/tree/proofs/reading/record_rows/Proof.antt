@@ -1,4 +1,4 @@
--- A row for each mark, by the laws of ReadingInTurn.
+-- A row for each tag, by the laws of ReadingInTurn.
 use borrow.Author.Needs.{needs}
 use Prim.Native.Nat.{_+_, _-_}
 use mathlib.Core.Path.{refl}
@@ -13,17 +13,17 @@ use Rattle.tree.proofs.reading.record_rows.Statement.{statement}
 use Rattle.tree.proofs.reading.record_rows.Tie as tie
 
 abbrev Inv-loop : tie.InvT-loop
-Inv-loop n map hosts marks rows₀ node₀ rows node = RowsSoFar (hostedIn n map hosts) marks (rowsIn rows) node
+Inv-loop n map hosts tags rows₀ node₀ rows node = RowsSoFar (hostedIn n map hosts) tags (rowsIn rows) node
 
 abbrev μ-loop : tie.MeasureT-loop
-μ-loop n map hosts marks rows₀ node₀ rows node = length marks - node
+μ-loop n map hosts tags rows₀ node₀ rows node = length tags - node
 
 loop-holds : tie.Need-loop-holds Inv-loop μ-loop
 unfolding unpacked
 loop-holds c = rows-start _ _ _ refl (c .before .before .pre .1)
 
-shared-slice-read-mark : tie.Need-shared-slice-read-mark Inv-loop μ-loop
-shared-slice-read-mark c = search needs
+shared-slice-read-tag : tie.Need-shared-slice-read-tag Inv-loop μ-loop
+shared-slice-read-tag c = search needs
 
 cast-depth : tie.Need-cast-depth Inv-loop μ-loop
 cast-depth c = omega (arith, c .shared-slice-known3 .given (c .before .before .loop .node))
@@ -47,8 +47,8 @@ add-end : tie.Need-add-end Inv-loop μ-loop
 add-end c =
     let turn = c .before .before .before in
     let node = turn .before .loop .node in
-    let marks = turn .before .before .before .before .args .marks .now in
-    omega (arith, deeper-few _ (node + 1) marks (to-end (node + 1) marks) (c .deeper .ensures))
+    let tags = turn .before .before .before .before .args .tags .now in
+    omega (arith, deeper-few _ (node + 1) tags (to-end (node + 1) tags) (c .deeper .ensures))
 
 hosted-requires : tie.Need-hosted-requires Inv-loop μ-loop
 hosted-requires c κs = search needs
@@ -73,8 +73,8 @@ loop-again c =
     let below = c .before .before .before in
     let turn = below .before .before .before in
     let node = turn .before .loop .node in
-    let marks = turn .before .before .before .before .args .marks .now in
-    rows-next (turn .before .loop .inv) (turn .loop-test .taken) _ _ _ _ (to-end (node + 1) marks) (below .deeper .ensures)
+    let tags = turn .before .before .before .before .args .tags .now in
+    rows-next (turn .before .loop .inv) (turn .loop-test .taken) _ _ _ _ (to-end (node + 1) tags) (below .deeper .ensures)
     (c .before .before .hosted .ensures) (c .before .hosted2 .ensures) _
     (row-written (turn .before .loop .rows) node (c .pack .result) (c .pack .ensures))
 
@@ -88,7 +88,7 @@ record-rows-spec =
     Inv-loop
     μ-loop
     loop-holds
-    shared-slice-read-mark
+    shared-slice-read-tag
     cast-depth
     add-next
     sub-deeper

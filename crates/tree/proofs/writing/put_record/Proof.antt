@@ -1,4 +1,4 @@
--- The record of a tree's rows: the map, the hosts and the marks.
+-- The record of a tree's rows: the map, the hosts and the tags.
 use borrow.Author.Needs.{needs}
 use mathlib.Core.Path.{_≡_, _∙_}
 use native.Mathlib.Omega.{arith}
@@ -6,7 +6,7 @@ use lib.ListN.{getD, length-set}
 use Rattle.tree.specs.inner.PackedRows.{rowsIn}
 use Rattle.tree.specs.inner.Pass.{blankRow}
 use Rattle.tree.proofs.PackedWords.{row-read, rows-many}
-use Rattle.tree.proofs.WritingInTurn.{record-dead, root-small, marks-room-left, record-live}
+use Rattle.tree.proofs.WritingInTurn.{record-dead, root-small, tags-room-left, record-live}
 use Rattle.tree.proofs.writing.put_record.Statement.{statement}
 use Rattle.tree.proofs.writing.put_record.Tie as tie
 
@@ -55,8 +55,8 @@ put-hosts-requires c κs =
     let placed = c .before .before .before .before .before in
     rw (placed .on-first-side .ensures) ((omega arith, omega arith), (placed .before .laid .ensures .arrays, omega arith), simp length-set (omega arith))
 
-put-marks-requires : tie.Need-put-marks-requires
-put-marks-requires c κs =
+put-tags-requires : tie.Need-put-tags-requires
+put-tags-requires c κs =
     let hosts = c .before .before .before .before in
     let read = hosts .before .before .before .before in
     let placed = read .before .before in
@@ -67,7 +67,7 @@ put-marks-requires c κs =
     rw (placed .on-first-side .ensures) (
       rw (laid .are) (start .pre .0),
       (laid .arrays, omega arith),
-      marks-room-left _ _ (start .args .out .now) (start .pre .0) (start .pre .1) _ (root read) _ then at (c .before .before .before .out .given),
+      tags-room-left _ _ (start .args .out .now) (start .pre .0) (start .pre .1) _ (root read) _ then at (c .before .before .before .out .given),
     )
 
 same-length-2 : tie.Need-same-length-2
@@ -75,15 +75,15 @@ same-length-2 c = c .before .out2 .given ∙ c .before .before .before .before .
 
 returns-2 : tie.Need-returns-2
 returns-2 c =
-    let marks = c .before .before in
-    let hosts = marks .before .before .before .before .before in
+    let tags = c .before .before in
+    let hosts = tags .before .before .before .before .before in
     let read = hosts .before .before .before .before in
     let placed = read .before .before in
     let live = placed .before .before in
     let start = live .before .before .before in
     let laid = placed .before .laid .ensures in
     let (at, first) = rw (placed .on-first-side .ensures, laid .are) at (hosts .put-hosts .ensures) in
-    let (end, last) = rw (placed .on-first-side .ensures, laid .are) at (marks .put-marks .ensures) in
+    let (end, last) = rw (placed .on-first-side .ensures, laid .are) at (tags .put-tags .ensures) in
     record-live _ _ _ (start .pre .0) (start .pre .1) _ (root read) (live .if1 .left)
     (rows-many (start .args .tree .rows) (rw (laid .are) at (laid .arrays .long 0 (omega arith)))) _ _ _ _ at first end last
 
@@ -102,6 +102,6 @@ put-record-spec =
     cast-out
     slice-write-out-2
     put-hosts-requires
-    put-marks-requires
+    put-tags-requires
     same-length-2
     returns-2)

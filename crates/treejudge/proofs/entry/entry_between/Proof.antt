@@ -16,19 +16,19 @@ use Rattle.treejudge.proofs.entry.entry_between.Statement.{statement}
 use Rattle.treejudge.proofs.entry.entry_between.Tie as tie
 
 abbrev Inv-loop : tie.InvT-loop
-Inv-loop tables k v low high here₀ there₀ now₀ ahead₀ place₀ here there now ahead place =
+Inv-loop lookups k v low high here₀ there₀ now₀ ahead₀ place₀ here there now ahead place =
     (Stands here now × Stands there ahead) × ((R : Rule) (u : List ℕ) (entry period : ℕ)
-    → Bracket R u v tables k entry period low high (treeOn here₀ now₀) (treeOn there₀ ahead₀)
-    → Bracket R u v tables k entry period place high (treeOn here now) (treeOn there ahead))
+    → Bracket R u v lookups k entry period low high (treeOn here₀ now₀) (treeOn there₀ ahead₀)
+    → Bracket R u v lookups k entry period place high (treeOn here now) (treeOn there ahead))
 
 abbrev μ-loop : tie.MeasureT-loop
-μ-loop tables k v low high here₀ there₀ now₀ ahead₀ place₀ here there now ahead place = high - place
+μ-loop lookups k v low high here₀ there₀ now₀ ahead₀ place₀ here there now ahead place = high - place
 
 -- the two trees at hand
 at-hand : (c : tie.At-loop Inv-loop μ-loop) → let args = c .before .before .before .before .before .before .args in
     (R : Rule) (u : List ℕ) (entry period : ℕ)
-    → Bracket R u (args .v .now) (args .tables .now) (args .k) entry period (args .low) (args .high) (args .first) (args .later)
-    → Bracket R u (args .v .now) (args .tables .now) (args .k) entry period (c .loop .place) (args .high)
+    → Bracket R u (args .v .now) (args .lookups .now) (args .k) entry period (args .low) (args .high) (args .first) (args .later)
+    → Bracket R u (args .v .now) (args .lookups .now) (args .k) entry period (c .loop .place) (args .high)
     (treeOn (c .loop .here) (c .loop .now)) (treeOn (c .loop .there) (c .loop .ahead))
 at-hand c R u entry period B =
     let first = c .before .before in
@@ -40,7 +40,7 @@ at-hand c R u entry period B =
 -- over the walk that is known
 known : (c : tie.At-loop Inv-loop μ-loop) → let args = c .before .before .before .before .before .before .args in
     (R : Rule) × (u : List ℕ) × (entry : ℕ) × (period : ℕ)
-    × Bracket R u (args .v .now) (args .tables .now) (args .k) entry period (c .loop .place) (args .high)
+    × Bracket R u (args .v .now) (args .lookups .now) (args .k) entry period (c .loop .place) (args .high)
     (treeOn (c .loop .here) (c .loop .now)) (treeOn (c .loop .there) (c .loop .ahead))
 unfolding Bracketed
 known c =

@@ -14,17 +14,17 @@ use Rattle.treejudge.proofs.entry.read_rounds.Statement.{statement}
 use Rattle.treejudge.proofs.entry.read_rounds.Tie as tie
 
 abbrev Inv-loop : tie.InvT-loop
-Inv-loop tables k v count sides₀ now₀ round₀ sides now round =
-    ((round ≤ count) × Stands sides now) × ((R : Rule) (u : List ℕ) (r : ℕ) → AtRound R u v tables k r (treeOn sides₀ now₀)
-    → AtRound R u v tables k (r + round) (treeOn sides now))
+Inv-loop lookups k v count sides₀ now₀ round₀ sides now round =
+    ((round ≤ count) × Stands sides now) × ((R : Rule) (u : List ℕ) (r : ℕ) → AtRound R u v lookups k r (treeOn sides₀ now₀)
+    → AtRound R u v lookups k (r + round) (treeOn sides now))
 
 abbrev μ-loop : tie.MeasureT-loop
-μ-loop tables k v count sides₀ now₀ round₀ sides now round = count - round
+μ-loop lookups k v count sides₀ now₀ round₀ sides now round = count - round
 
 -- the tree at hand
 at-hand : (c : tie.At-loop Inv-loop μ-loop) → let args = c .before .before .before .before .args in (R : Rule) (u : List ℕ) (r : ℕ)
-    → AtRound R u (args .v .now) (args .tables .now) (args .k) r (args .tree)
-    → AtRound R u (args .v .now) (args .tables .now) (args .k) (r + c .loop .round) (treeOn (c .loop .sides) (c .loop .now))
+    → AtRound R u (args .v .now) (args .lookups .now) (args .k) r (args .tree)
+    → AtRound R u (args .v .now) (args .lookups .now) (args .k) (r + c .loop .round) (treeOn (c .loop .sides) (c .loop .now))
 at-hand c R u r A =
     c .loop .inv .1 R u r (rw (laid-first (c .before .before .laid .ensures) (c .before .on-first-side .ensures) .1) A)
 

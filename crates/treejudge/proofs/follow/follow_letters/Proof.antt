@@ -10,10 +10,10 @@ use Rattle.treejudge.proofs.follow.follow_letters.Statement.{statement}
 use Rattle.treejudge.proofs.follow.follow_letters.Tie as tie
 
 abbrev Inv-loop : tie.InvT-loop
-Inv-loop tables k w sides₀ on₀ maps₀ at₀ sides on maps at = FollowedUpTo tables k w (treeOn sides₀ on₀) maps₀ at sides on maps
+Inv-loop lookups k w sides₀ on₀ maps₀ at₀ sides on maps at = FollowedUpTo lookups k w (treeOn sides₀ on₀) maps₀ at sides on maps
 
 abbrev μ-loop : tie.MeasureT-loop
-μ-loop tables k w sides₀ on₀ maps₀ at₀ sides on maps at = length w - at
+μ-loop lookups k w sides₀ on₀ maps₀ at₀ sides on maps at = length w - at
 
 loop-holds : tie.Need-loop-holds Inv-loop μ-loop
 loop-holds c = followed-none _ _ _ _ _ _ (c .before .before .before .pre .0)

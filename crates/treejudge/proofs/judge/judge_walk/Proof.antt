@@ -26,8 +26,8 @@ begun-first c = begun (c .before .before .before)
 lead-read : (c : tie.After-on-first-side) →
     let args = begun c .args in
     let lead = c .before .before in
-    (R : Rule) → Prepared R (args .header) (args .tables .now) (args .u .now) (args .v .now)
-    → Reads R (startTree R) (args .tables .now) (args .header .sets) (lead .letters-left .result .now)
+    (R : Rule) → Prepared R (args .header) (args .lookups .now) (args .u .now) (args .v .now)
+    → Reads R (startTree R) (args .lookups .now) (args .header .sets) (lead .letters-left .result .now)
     (treeOn (lead .before .laid .result) (c .on-first-side .result))
 lead-read c R p =
     let lead = c .before .before in
@@ -37,8 +37,8 @@ lead-read c R p =
 -- t(0) of the walk
 first-place : (c : tie.After-taken) →
     let args = begun-first c .args in
-    (R : Rule) → Prepared R (args .header) (args .tables .now) (args .u .now) (args .v .now)
-    → AtRound R (args .u .now) (args .v .now) (args .tables .now) (args .header .sets) 0 (c .taken .result)
+    (R : Rule) → Prepared R (args .header) (args .lookups .now) (args .u .now) (args .v .now)
+    → AtRound R (args .u .now) (args .v .now) (args .lookups .now) (args .header .sets) 0 (c .taken .result)
 first-place c R p =
     let read = c .before .before in
     let placed = read .before in

@@ -9,10 +9,10 @@ use Rattle.treejudge.proofs.letters.read_letters.Statement.{statement}
 use Rattle.treejudge.proofs.letters.read_letters.Tie as tie
 
 abbrev Inv-loop : tie.InvT-loop
-Inv-loop tables k w sides₀ on₀ at₀ sides on at = ReadUpTo tables k w (treeOn sides₀ on₀) at sides on
+Inv-loop lookups k w sides₀ on₀ at₀ sides on at = ReadUpTo lookups k w (treeOn sides₀ on₀) at sides on
 
 abbrev μ-loop : tie.MeasureT-loop
-μ-loop tables k w sides₀ on₀ at₀ sides on at = length w - at
+μ-loop lookups k w sides₀ on₀ at₀ sides on at = length w - at
 
 loop-holds : tie.Need-loop-holds Inv-loop μ-loop
 loop-holds c = upto-none _ _ _ _ _ (c .before .pre .0)

@@ -17,7 +17,7 @@ use Rattle.treejudge.proofs.repeat.early_repeat.Tie as tie
 
 -- the letters up to the cut lead from t(0) to the tree at the cut
 to-cut : (c : tie.After-taken) → let args = c .before .before .before .before .before .before .before .before .args in
-    ReadsTo (args .tables .now) (args .k) (args .head .now) (args .first) (c .taken .result)
+    ReadsTo (args .lookups .now) (args .k) (args .head .now) (args .first) (c .taken .result)
 to-cut c =
     let read = c .before .before in
     reads-taken _ _ _ (laid-first (read .before .before .before .laid .ensures) (read .before .on-first-side .ensures) .1)
@@ -26,7 +26,7 @@ to-cut c =
 -- the others lead from there to t(1), and its nodes are followed
 to-second : (c : tie.After-follow-letters) → let cut = c .before .before .before in
     let args = cut .before .before .before .before .before .before .before .before .args in
-    FollowsTo (args .tables .now) (args .k) (args .rest .now) (cut .taken .result) (allKept (cut .taken .result .count))
+    FollowsTo (args .lookups .now) (args .k) (args .rest .now) (cut .taken .result) (allKept (cut .taken .result .count))
     (treeOn (c .follow-letters .last .1 .1 .1 .0) (c .follow-letters .result .tree)) (c .follow-letters .result .maps)
 to-second c = rw (c .before .before .before .taken .ensures) (rw (c .before .begin .ensures) at (c .follow-letters .ensures .1))
 

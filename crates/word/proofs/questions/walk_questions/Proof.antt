@@ -27,8 +27,8 @@ returns : tie.Need-returns
 returns c = let walk = c .before in
     prepares-no (walk-no _ _ _ (rule (walk .before .before)) (walk .walk-number .ensures) (c .if1 .taken))
 
-walk-tables-requires : tie.Need-walk-tables-requires
-walk-tables-requires c κs = search needs
+walk-lookups-requires : tie.Need-walk-lookups-requires
+walk-lookups-requires c κs = search needs
 
 returns-2 : tie.Need-returns-2
 returns-2 c =
@@ -41,7 +41,7 @@ returns-3 c =
     let walk = fits .before in
     let v = rule (walk .before .before) in
     let number = walk .walk-number .ensures in
-    prepares-yes (walk-yes _ _ _ v number (fits .if1 .left)) (v .holds .numbers) (walk-ready _ _ _ v number (fits .if1 .left) _ (c .walk-tables .ensures))
+    prepares-yes (walk-yes _ _ _ v number (fits .if1 .left)) (v .holds .numbers) (walk-ready _ _ _ v number (fits .if1 .left) _ (c .walk-lookups .ensures))
 
 pub walk-questions-spec : {M : Type 1} → statement M
 walk-questions-spec =
@@ -52,6 +52,6 @@ walk-questions-spec =
     enum-known-header
     walk-number-requires
     returns
-    walk-tables-requires
+    walk-lookups-requires
     returns-2
     returns-3)

@@ -61,11 +61,11 @@ shared-slice-read-map c = omega (arith, long (c .before))
 cast-map : tie.Need-cast-map
 cast-map c = omega (arith, c .shared-slice-known2 .given 0)
 
-cast-marks : tie.Need-cast-marks
-cast-marks c = omega (arith, long (c .before))
+cast-tags : tie.Need-cast-tags
+cast-tags c = omega (arith, long (c .before))
 
-add-marks : tie.Need-add-marks
-add-marks c = omega (arith, long (c .before))
+add-tags : tie.Need-add-tags
+add-tags c = omega (arith, long (c .before))
 
 sub-nodes : tie.Need-sub-nodes
 sub-nodes c = omega (arith, long (c .before))
@@ -124,8 +124,8 @@ checked-spec =
     returns-2
     shared-slice-read-map
     cast-map
-    cast-marks
-    add-marks
+    cast-tags
+    add-tags
     sub-nodes
     sub-record-rows
     part-record-rows-start
