@@ -1,4 +1,4 @@
--- Letters read by their tables (specs/Letters.antt), as the code's loops read them.
+-- Letters read by their look-ups (specs/Letters.antt), as the code's loops read them.
 use mathlib.Core.Path.{_≡_, refl, sym, _∙_, ap, ap₂}
 use mathlib.Core.Bool.{Bool, true, false, cond}
 use mathlib.Core.List.{List, []}
@@ -37,47 +37,47 @@ module _ (f : Lookup → ℕ → ℕ) (lookups : Lookups) (w : List ℕ) (at x :
 -- A LETTER BEHIND A ROW
 
 -- from no state nowhere, and from others where a look-up says
-pub onward-none : (table : Lookup) → onward table 0 ≡ 0
+pub onward-none : (lookup : Lookup) → onward lookup 0 ≡ 0
 unfolding onward
-onward-none table = refl
+onward-none lookup = refl
 
-pub onward-some : (table : Lookup) (s : ℕ) → (s ≡ 0 → ⊥) → onward table s ≡ lookUp table 0 s
+pub onward-some : (lookup : Lookup) (s : ℕ) → (s ≡ 0 → ⊥) → onward lookup s ≡ lookUp lookup 0 s
 unfolding onward
-onward-some table s some = simp (ne-eqb s 0 some)
+onward-some lookup s some = simp (ne-eqb s 0 some)
 
 -- its members are those of the look-up
-pub onward-out : (table : Lookup) (s r : ℕ) → member (onward table s) r ≡ true → member (lookUp table 0 s) r ≡ true
-onward-out table s r m = go (ℕ-discrete s 0)
+pub onward-out : (lookup : Lookup) (s r : ℕ) → member (onward lookup s) r ≡ true → member (lookUp lookup 0 s) r ≡ true
+onward-out lookup s r m = go (ℕ-discrete s 0)
   where
-    go : Dec (s ≡ 0) → member (lookUp table 0 s) r ≡ true
-    go (yes none) = clash (member-none r) (rw (none, onward-none table) at m)
-    go (no some) = rw (onward-some table s some) at m
+    go : Dec (s ≡ 0) → member (lookUp lookup 0 s) r ≡ true
+    go (yes none) = clash (member-none r) (rw (none, onward-none lookup) at m)
+    go (no some) = rw (onward-some lookup s some) at m
 
-pub onward-in : (table : Lookup) (s q r : ℕ) → member s q ≡ true → member (lookUp table 0 s) r ≡ true → member (onward table s) r ≡ true
-onward-in table s q r inside m = rw (onward-some table s (λ none. clash (member-none q) (rw none at inside))) m
+pub onward-in : (lookup : Lookup) (s q r : ℕ) → member s q ≡ true → member (lookUp lookup 0 s) r ≡ true → member (onward lookup s) r ≡ true
+onward-in lookup s q r inside m = rw (onward-some lookup s (λ none. clash (member-none q) (rw none at inside))) m
 
 -- it is a map of states
-pub onward-lt : (table : Lookup) (s : ℕ) → onward table s < 2 ^ laneWidth
+pub onward-lt : (lookup : Lookup) (s : ℕ) → onward lookup s < 2 ^ laneWidth
 unfolding lookUp
-onward-lt table s = go (ℕ-discrete s 0)
+onward-lt lookup s = go (ℕ-discrete s 0)
   where
-    go : Dec (s ≡ 0) → onward table s < 2 ^ laneWidth
-    go (yes none) = rw (none, onward-none table) (omega arith)
-    go (no some) = rw (onward-some table s some) (map-lt _ 0)
+    go : Dec (s ≡ 0) → onward lookup s < 2 ^ laneWidth
+    go (yes none) = rw (none, onward-none lookup) (omega arith)
+    go (no some) = rw (onward-some lookup s some) (map-lt _ 0)
 
-module _ (table : Lookup) (row : ℕ) where
+module _ (lookup : Lookup) (row : ℕ) where
   -- the images of its states, by all relations at once
   abbrev own : ℕ
-  own = imagesBy table (mapOf row 0)
+  own = imagesBy lookup (mapOf row 0)
 
   -- where its ways lead on, by relation
   abbrev further : ℕ → ℕ
-  further i = onward table (mapOf row i)
+  further i = onward lookup (mapOf row i)
 
-  pub extended-at : (i : ℕ) → i ≤ maxSets → mapOf (extended table row) i ≡ bitOr (lookUp table i (mapOf row 0)) (onward table (mapOf row i))
+  pub extended-at : (i : ℕ) → i ≤ maxSets → mapOf (extended lookup row) i ≡ bitOr (lookUp lookup i (mapOf row 0)) (onward lookup (mapOf row i))
   unfolding extended lookUp
   extended-at i h = map-union own (wordOf (suc maxSets) further) i
-      ∙ ap (bitOr (mapOf own i)) (wordOf-at (suc maxSets) further i (λ j. onward-lt table (mapOf row j)) (omega arith))
+      ∙ ap (bitOr (mapOf own i)) (wordOf-at (suc maxSets) further i (λ j. onward-lt lookup (mapOf row j)) (omega arith))
 
   -- as the code joins it: the map for relation 0 is there already
   pub extended-first : own ≡ bitOr own (wordOf 1 further)
@@ -86,17 +86,17 @@ module _ (table : Lookup) (row : ℕ) where
     where
       go : Dec (mapOf row 0 ≡ 0) → own ≡ bitOr own (wordOf 1 further)
       go (yes none) =
-          let e = wordOf-one further ∙ ap (onward table) none ∙ onward-none table in
+          let e = wordOf-one further ∙ ap (onward lookup) none ∙ onward-none lookup in
           sym (ap (bitOr own) e ∙ or-zero-r own)
       go (no some) =
-          let e = wordOf-one further ∙ onward-some table (mapOf row 0) some in
+          let e = wordOf-one further ∙ onward-some lookup (mapOf row 0) some in
           sym (ap (bitOr own) e ∙ lane-zero own)
 
   -- one map more
   pub extended-more : (i all more : ℕ) → all ≡ bitOr own (wordOf i further) → more ≡ inLane (further i) i
       → bitOr all more ≡ bitOr own (wordOf (i + 1) further)
   extended-more i all more sofar e = ap₂ bitOr sofar e ∙ sym (union-assoc own (wordOf i further) (inLane (further i) i))
-      ∙ ap (bitOr own) (wordOf-more i further (λ j. onward-lt table (mapOf row j)) ∙ ap (λ (k : ℕ). wordOf k further) (omega arith))
+      ∙ ap (bitOr own) (wordOf-more i further (λ j. onward-lt lookup (mapOf row j)) ∙ ap (λ (k : ℕ). wordOf k further) (omega arith))
 
   -- all maps at once, where each has all of the row's states or none
   module _ (b : ℕ) (full : row ≡ inLanes (mapOf row 0) (lanesWith row b (eachLane (suc maxSets)))) where
@@ -117,13 +117,13 @@ module _ (table : Lookup) (row : ℕ) where
         go : (s : Bool) → stands row b i ≡ s → Dec (mapOf row 0 ≡ 0) → cond s (mapOf own 0) 0 ≡ further i
         go false e _ =
             let none : mapOf row i ≡ 0 = map-bit i small ∙ rw e in
-            sym (ap (onward table) none ∙ onward-none table)
+            sym (ap (onward lookup) none ∙ onward-none lookup)
         go true e (yes none) = clash (ap (λ (x : ℕ). stands x b i) (empty none) ∙ stands-none b i) e
         go true e (no states) =
             let all : mapOf row i ≡ mapOf row 0 = map-bit i small ∙ rw e in
-            sym (ap (onward table) all ∙ onward-some table (mapOf row 0) states)
+            sym (ap (onward lookup) all ∙ onward-some lookup (mapOf row 0) states)
 
-    pub extended-full : bitOr own (inLanes (mapOf own 0) (lanesWith row b (eachLane (suc maxSets)))) ≡ extended table row
+    pub extended-full : bitOr own (inLanes (mapOf own 0) (lanesWith row b (eachLane (suc maxSets)))) ≡ extended lookup row
     unfolding extended
     extended-full = ap (bitOr own) (ap (inLanes (mapOf own 0)) (lanes-with row b (suc maxSets))
         ∙ in-lanes (mapOf own 0) (suc maxSets) (stands row b) ∙ wordOf-ext (suc maxSets) _ _ leads-on)

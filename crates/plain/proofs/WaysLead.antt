@@ -1,4 +1,4 @@
--- Letters read by their tables lead where the paths of the rule lead: the states after the lead-in, and the rows of a tail.
+-- Letters read by their look-ups lead where the paths of the rule lead: the states after the lead-in, and the rows of a tail.
 use mathlib.Core.Path.{_≡_, refl, sym, _∙_, ap, subst}
 use mathlib.Core.Logic.{_⊎_, ⊎-elim, inl, inr}
 use mathlib.Core.Bool.{Bool, true, _&&_}
@@ -48,11 +48,11 @@ module _ (R : Rule) (well : WellFormed R) (states : R .states ≤ laneWidth) (lo
   -- ONE LETTER
 
   module _ (a : ℕ) (has-lookups : HasLookup R lookups a) where
-    abbrev table : Lookup
-    table = getD lookups a []
+    abbrev lookup : Lookup
+    lookup = getD lookups a []
 
     -- a look-up has the states that transitions lead to
-    look-out : (i S r : ℕ) → i ≤ maxSets → member (lookUp table i S) r ≡ true
+    look-out : (i S r : ℕ) → i ≤ maxSets → member (lookUp lookup i S) r ≡ true
         → (q : ℕ) × (member S q ≡ true) × (edge (R .grid) a q r ≡ true) × Takes (cellAt (R .grid) a q r) i
     unfolding successors successorsIn
     look-out zero S r h m =
@@ -65,7 +65,7 @@ module _ (R : Rule) (well : WellFormed R) (states : R .states ≤ laneWidth) (lo
         (q, inside, edgeIn-edge (R .grid) (suc i) a q r e, edgeIn-member (R .grid) i a q r e)
 
     look-in : (i S q r : ℕ) → i ≤ maxSets → member S q ≡ true → edge (R .grid) a q r ≡ true → Takes (cellAt (R .grid) a q r) i
-        → member (lookUp table i S) r ≡ true
+        → member (lookUp lookup i S) r ≡ true
     unfolding successors successorsIn
     look-in zero S q r h m e takes =
         let (_, q-lt, r-lt) = edge-inside R well a q r e in
@@ -76,19 +76,19 @@ module _ (R : Rule) (well : WellFormed R) (states : R .states ≤ laneWidth) (lo
         (image-in (R .states) (edgeIn (R .grid) (suc i) a) S q r q-lt r-lt m (member-edgeIn (R .grid) i a q r e takes))
 
     -- the ways of a row with the letter behind it: a way of the row, and a transition behind it
-    extended-out : (row r i : ℕ) → i ≤ maxSets → member (mapOf (extended table row) i) r ≡ true
+    extended-out : (row r i : ℕ) → i ≤ maxSets → member (mapOf (extended lookup row) i) r ≡ true
         → (q : ℕ) × (edge (R .grid) a q r ≡ true) × Behind row q (cellAt (R .grid) a q r) i
     extended-out row r i h m = ⊎-elim
         (λ k. let (q, inside, e, takes) = look-out i (mapOf row 0) r h k in (q, e, inr (inside, takes)))
-        (λ k. let (q, inside, e, _) = look-out 0 (mapOf row i) r (omega arith) (onward-out table (mapOf row i) r k) in (q, e, inl inside))
-        (or-in (member (lookUp table i (mapOf row 0)) r) _ (sym (member-union _ _ r) ∙ (rw (extended-at table row i h) at m)))
+        (λ k. let (q, inside, e, _) = look-out 0 (mapOf row i) r (omega arith) (onward-out lookup (mapOf row i) r k) in (q, e, inl inside))
+        (or-in (member (lookUp lookup i (mapOf row 0)) r) _ (sym (member-union _ _ r) ∙ (rw (extended-at lookup row i h) at m)))
 
     extended-in : (row q r i : ℕ) → i ≤ maxSets → edge (R .grid) a q r ≡ true → Behind row q (cellAt (R .grid) a q r) i
-        → member (mapOf (extended table row) i) r ≡ true
-    extended-in row q r i h e (inl k) = rw (extended-at table row i h) (member-union _ _ r
-        ∙ or-r (member (lookUp table i (mapOf row 0)) r) _ (onward-in table (mapOf row i) q r k (look-in 0 (mapOf row i) q r (omega arith) k e tt)))
-    extended-in row q r i h e (inr (k, takes)) = rw (extended-at table row i h) (member-union _ _ r
-        ∙ or-l (member (lookUp table i (mapOf row 0)) r) _ (look-in i (mapOf row 0) q r h k e takes))
+        → member (mapOf (extended lookup row) i) r ≡ true
+    extended-in row q r i h e (inl k) = rw (extended-at lookup row i h) (member-union _ _ r
+        ∙ or-r (member (lookUp lookup i (mapOf row 0)) r) _ (onward-in lookup (mapOf row i) q r k (look-in 0 (mapOf row i) q r (omega arith) k e tt)))
+    extended-in row q r i h e (inr (k, takes)) = rw (extended-at lookup row i h) (member-union _ _ r
+        ∙ or-l (member (lookUp lookup i (mapOf row 0)) r) _ (look-in i (mapOf row 0) q r h k e takes))
 
   -- THE LEAD-IN
 

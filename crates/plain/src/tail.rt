@@ -22,22 +22,22 @@ ghost use Rattle.plain.specs.inner.Letters.{extended, onward, ownRow, ro
 pub type Matrix = [u64; LANE_WIDTH];
 
 // Where any transition of a letter leads to from some states; from none nowhere.
-fn onward(table: &Lookup, states: u16) -> u16
-    ensures { λ r. ⌜ r ≡ onward (now (table .entry)) states ⌝ }
+fn onward(lookup: &Lookup, states: u16) -> u16
+    ensures { λ r. ⌜ r ≡ onward (now (lookup .entry)) states ⌝ }
 {
     if states == 0 {
         return 0;
     }
-    map_of(look_up(table, states), 0)
+    map_of(look_up(lookup, states), 0)
 }
 
 // A row with one letter more behind its ways. The transition of set i is taken at this letter: one look-up has all these ways. Or it is
 // taken before, and any transition leads on; where each map has all of the row's states or none, the same look-up tells.
-fn extended(table: &Lookup, row: u64) -> u64
-    ensures { λ r. ⌜ r ≡ extended (now (table .entry)) row ⌝ }
+fn extended(lookup: &Lookup, row: u64) -> u64
+    ensures { λ r. ⌜ r ≡ extended (now (lookup .entry)) row ⌝ }
 {
     let states = map_of(row, 0);
-    let images = look_up(table, states);
+    let images = look_up(lookup, states);
     // the lanes that have the lowest of the states
     let full = lanes_with(row, u16::trailing_zeros(states) as usize, lanes_to(SETS));
     if row == in_lanes(states, full) {
@@ -46,7 +46,7 @@ fn extended(table: &Lookup, row: u64) -> u64
     let mut all = images;
     let mut relation = 1usize;
     while relation <= SETS {
-        let further = onward(table, map_of(row, relation));
+        let further = onward(lookup, map_of(row, relation));
         all = all | in_lane(further, relation);
         relation += 1;
     }
@@ -54,13 +54,13 @@ fn extended(table: &Lookup, row: u64) -> u64
 }
 
 // One letter more, for the first n rows.
-fn append_letter(table: &Lookup, rows: &mut Matrix, n: usize)
+fn append_letter(lookup: &Lookup, rows: &mut Matrix, n: usize)
     requires { ⌜ (n ≤ laneWidth) × (length (now rows) ≡ laneWidth) ⌝ }
-    ensures { λ _. ⌜ Changed (extended (now (table .entry))) n (now (rows .entry)) (now (rows .exit)) ⌝ }
+    ensures { λ _. ⌜ Changed (extended (now (lookup .entry))) n (now (rows .entry)) (now (rows .exit)) ⌝ }
 {
     let mut state = 0usize;
     while state < n {
-        rows[state] = extended(table, rows[state]);
+        rows[state] = extended(lookup, rows[state]);
         state += 1;
     }
 }

@@ -1,4 +1,4 @@
--- Two entries of a letter's table give the image of any set of states under each of its relations: so a look-up gives the
+-- Two entries of a letter's look-up give the image of any set of states under each of its relations: so a look-up gives the
 -- successors of a set of states, and those by transitions of one set.
 use mathlib.Core.Path.{_≡_, sym, _∙_, ap, ap₂}
 use mathlib.Core.Bool.{Bool, _&&_}
@@ -27,13 +27,13 @@ unfolding images
 images-union square s t = relations-ext _ _ (λ i r h l. ap (λ (x : ℕ). member x r) (image-union laneWidth (relation square i) s t)
     ∙ member-union _ _ r) ∙ sym (relations-union _ _)
 
--- an image from a table's entry
+-- an image from a look-up's entry
 images-at : (square : List (List ℕ)) (i s : ℕ) → i < lanes → mapOf (images square s) i ≡ image laneWidth (relation square i) s
 unfolding images
 images-at square i s h = relations-at (λ i r. member (image laneWidth (relation square i) s) r) i h
     ∙ collect-members laneWidth (image laneWidth (relation square i) s) (image-lt laneWidth (relation square i) s)
 
--- the look-up in a letter's table gives the image under the letter's relation i, for each lane
+-- the look-up in a letter's look-up gives the image under the letter's relation i, for each lane
 pub look-up-image : (square : List (List ℕ)) (i s : ℕ) → i < lanes
     → lookUp (letterLookup square) i s ≡ image laneWidth (relation square i) s
 unfolding lookUp imagesBy letterLookup

@@ -1,4 +1,4 @@
--- The table that the code makes from the words of a letter's states is the letter's table (specs/Lookup.antt), and the steps by
+-- The look-up that the code makes from the words of a letter's states is the letter's look-up (specs/Lookup.antt), and the steps by
 -- which it makes it (specs/LookupSteps.antt).
 use mathlib.Core.Path.{_≡_, refl, sym, _∙_, ap, ap₂}
 use mathlib.Core.Logic.{_⊎_, inl, inr, ⊎-elim}
@@ -116,7 +116,7 @@ joined-images square (suc q) h s small = go (decLt s (2 ^ q)) (joined-images squ
         rw e (joined-more (squareWords square) q j few ∙ ap₂ bitOr (below j few) (word-at square q)
         ∙ images-more square q j (omega arith) few)
 
--- so they give the letter's table
+-- so they give the letter's look-up
 pub joined-lookup : (square : List (List ℕ)) → joinedLookup (squareWords square) ≡ letterLookup square
 unfolding joinedLookup letterLookup
 joined-lookup square = ap₂ (λ (l r : Lookup). l ++ r)
@@ -124,15 +124,15 @@ joined-lookup square = ap₂ (λ (l r : Lookup). l ++ r)
     (tabulate-ext 16 _ _ (λ j h. joined-images square laneWidth (omega arith) (16 * j) (omega arith)))
 
 -- of the letter a of the arrays, from the words that stand beside them
-pub lookup-made : (cells : Grid) {words : List (List ℕ)} → words ≡ gridWords cells → (a : ℕ) {table : Lookup}
-    → table ≡ joinedLookup (getD words a []) → table ≡ letterLookup (getD cells a [])
+pub lookup-made : (cells : Grid) {words : List (List ℕ)} → words ≡ gridWords cells → (a : ℕ) {lookup : Lookup}
+    → lookup ≡ joinedLookup (getD words a []) → lookup ≡ letterLookup (getD cells a [])
 lookup-made cells are a made = made ∙ ap joinedLookup (rw are (words-at cells a)) ∙ joined-lookup (getD cells a [])
 
 -- ONE MORE STATE
 
 -- before the first set
-pub added-none : (words : List ℕ) (q : ℕ) (table : Lookup) → length table ≡ 32 → StateAdded words q 0 table table
-added-none words q table size = record {
+pub added-none : (words : List ℕ) (q : ℕ) (lookup : Lookup) → length lookup ≡ 32 → StateAdded words q 0 lookup lookup
+added-none words q lookup size = record {
   entries = size;
   low = λ j h. absurd (omega arith);
   high = λ j h. absurd (omega arith);
@@ -140,10 +140,10 @@ added-none words q table size = record {
 }
 
 -- one more set: the entries of both halves
-pub added-more : (words : List ℕ) (q made j : ℕ) (before table : Lookup) → StateAdded words q j before table → made ≡ 2 ^ q → q < 4 → j < made
-    → let first = set table (made + j) (bitOr (getD table j 0) (getD words q 0)) in
+pub added-more : (words : List ℕ) (q made j : ℕ) (before lookup : Lookup) → StateAdded words q j before lookup → made ≡ 2 ^ q → q < 4 → j < made
+    → let first = set lookup (made + j) (bitOr (getD lookup j 0) (getD words q 0)) in
     StateAdded words q (j + 1) before (set first (16 + (made + j)) (bitOr (getD first (16 + j) 0) (getD words (4 + q) 0)))
-added-more words q made j before table v em hq hj = rw em
+added-more words q made j before lookup v em hq hj = rw em
     (record { entries = simp length-set (v .entries); low = more-low; high = more-high; others = stay })
   where
     c : ℕ
@@ -153,10 +153,10 @@ added-more words q made j before table v em hq hj = rw em
     small = omega (arith, pow-suc 2 q, pow-mono {i = suc q} {j = 4} (omega arith))
 
     x : ℕ
-    x = bitOr (getD table j 0) (getD words q 0)
+    x = bitOr (getD lookup j 0) (getD words q 0)
 
     first : Lookup
-    first = set table c x
+    first = set lookup c x
 
     y : ℕ
     y = bitOr (getD first (16 + j) 0) (getD words (4 + q) 0)
@@ -168,45 +168,45 @@ added-more words q made j before table v em hq hj = rw em
     more-low i h = getD-set-other first (16 + c) (2 ^ q + i) y 0 (λ e. omega (arith, small)) ∙ go (ℕ-discrete i j)
       where
         go : Dec (i ≡ j) → getD first (2 ^ q + i) 0 ≡ bitOr (getD before i 0) (getD words q 0)
-        go (yes e) = rw e (getD-set-same table c x 0 (omega (arith, small, v .entries))
+        go (yes e) = rw e (getD-set-same lookup c x 0 (omega (arith, small, v .entries))
             ∙ ap (λ (z : ℕ). bitOr z (getD words q 0)) (v .others j (inl (omega arith))))
-        go (no e) = getD-set-other table c (2 ^ q + i) x 0 (λ z. e (omega arith)) ∙ v .low i (omega arith)
+        go (no e) = getD-set-other lookup c (2 ^ q + i) x 0 (λ z. e (omega arith)) ∙ v .low i (omega arith)
 
     more-high : (i : ℕ) → i < j + 1 → getD last (16 + (2 ^ q + i)) 0 ≡ bitOr (getD before (16 + i) 0) (getD words (4 + q) 0)
     more-high i h = go (ℕ-discrete i j)
       where
         go : Dec (i ≡ j) → getD last (16 + (2 ^ q + i)) 0 ≡ bitOr (getD before (16 + i) 0) (getD words (4 + q) 0)
-        go (yes e) = rw e (getD-set-same first (16 + c) y 0 (omega (arith, small, length-set table c x, v .entries))
+        go (yes e) = rw e (getD-set-same first (16 + c) y 0 (omega (arith, small, length-set lookup c x, v .entries))
             ∙ ap (λ (z : ℕ). bitOr z (getD words (4 + q) 0))
-            (getD-set-other table c (16 + j) x 0 (λ z. omega (arith, small)) ∙ v .others (16 + j) (inl (omega arith))))
+            (getD-set-other lookup c (16 + j) x 0 (λ z. omega (arith, small)) ∙ v .others (16 + j) (inl (omega arith))))
         go (no e) = getD-set-other first (16 + c) (16 + (2 ^ q + i)) y 0 (λ z. e (omega arith))
-            ∙ getD-set-other table c (16 + (2 ^ q + i)) x 0 (λ z. omega (arith, small)) ∙ v .high i (omega arith)
+            ∙ getD-set-other lookup c (16 + (2 ^ q + i)) x 0 (λ z. omega (arith, small)) ∙ v .high i (omega arith)
 
     stay : (i : ℕ) → (i % 16 < 2 ^ q) ⊎ (2 ^ q + (j + 1) ≤ i % 16) → getD last i 0 ≡ getD before i 0
     stay i out = getD-set-other first (16 + c) i y 0 (λ e. ⊎-elim (λ l. omega (arith, small)) (λ l. omega (arith, small)) out)
-        ∙ getD-set-other table c i x 0 (λ e. ⊎-elim (λ l. omega (arith, small)) (λ l. omega (arith, small)) out)
+        ∙ getD-set-other lookup c i x 0 (λ e. ⊎-elim (λ l. omega (arith, small)) (λ l. omega (arith, small)) out)
         ∙ v .others i (⊎-elim inl (λ l. inr (omega arith)) out)
 
 -- ALL STATES
 
--- the first c entries of each half of a letter's table are made
-pub record Filled (words : List ℕ) (c : ℕ) (table : Lookup) : Type 0 where
-  pub entries : length table ≡ 32
-  pub low : (j : ℕ) → j < c → getD table j 0 ≡ joinedWord words j
-  pub high : (j : ℕ) → j < c → getD table (16 + j) 0 ≡ joinedWord words (16 * j)
+-- the first c entries of each half of a letter's look-up are made
+pub record Filled (words : List ℕ) (c : ℕ) (lookup : Lookup) : Type 0 where
+  pub entries : length lookup ≡ 32
+  pub low : (j : ℕ) → j < c → getD lookup j 0 ≡ joinedWord words j
+  pub high : (j : ℕ) → j < c → getD lookup (16 + j) 0 ≡ joinedWord words (16 * j)
 
 -- before the first state: the empty set, in both halves
-pub filled-none : (words : List ℕ) (table : Lookup) → length table ≡ 32 → Filled words (2 ^ 0) (set (set table 0 0) 16 0)
-filled-none words table size = record { entries = simp length-set size; low = none-low; high = none-high }
+pub filled-none : (words : List ℕ) (lookup : Lookup) → length lookup ≡ 32 → Filled words (2 ^ 0) (set (set lookup 0 0) 16 0)
+filled-none words lookup size = record { entries = simp length-set size; low = none-low; high = none-high }
   where
-    none-low : (j : ℕ) → j < 1 → getD (set (set table 0 0) 16 0) j 0 ≡ joinedWord words j
+    none-low : (j : ℕ) → j < 1 → getD (set (set lookup 0 0) 16 0) j 0 ≡ joinedWord words j
     none-low j h = let e : j ≡ 0 = omega arith in
-        rw e (getD-set-other (set table 0 0) 16 0 0 0 (λ z. omega arith) ∙ getD-set-same table 0 0 0 (omega arith)
+        rw e (getD-set-other (set lookup 0 0) 16 0 0 0 (λ z. omega arith) ∙ getD-set-same lookup 0 0 0 (omega arith)
         ∙ sym (joined-none words))
 
-    none-high : (j : ℕ) → j < 1 → getD (set (set table 0 0) 16 0) (16 + j) 0 ≡ joinedWord words (16 * j)
+    none-high : (j : ℕ) → j < 1 → getD (set (set lookup 0 0) 16 0) (16 + j) 0 ≡ joinedWord words (16 * j)
     none-high j h = let e : j ≡ 0 = omega arith in
-        rw e (getD-set-same (set table 0 0) 16 0 0 (omega (arith, length-set table 0 0)) ∙ sym (joined-none words))
+        rw e (getD-set-same (set lookup 0 0) 16 0 0 (omega (arith, length-set lookup 0 0)) ∙ sym (joined-none words))
 
 -- with one more state there are twice as many
 pub filled-more : (words : List ℕ) (q : ℕ) (before after : Lookup) → Filled words (2 ^ q) before → q < 4
@@ -240,9 +240,9 @@ filled-more words q before after v hq add = record {
         ∙ sym (joined-more words (4 + q) (16 * j) (omega arith)))
 
 -- all sixteen entries of each half
-pub filled-all : (words : List ℕ) (table : Lookup) → Filled words 16 table → table ≡ joinedLookup words
+pub filled-all : (words : List ℕ) (lookup : Lookup) → Filled words 16 lookup → lookup ≡ joinedLookup words
 unfolding joinedLookup
-filled-all words table v = ext-getD 0 table (lows ++ highs)
+filled-all words lookup v = ext-getD 0 lookup (lows ++ highs)
     (v .entries ∙ sym (length-append lows highs ∙ ap₂ _+_ (length-tabulate 16 low) (length-tabulate 16 high))) (λ i h. go i h (decLt i 16))
   where
     low : ℕ → ℕ
@@ -257,7 +257,7 @@ filled-all words table v = ext-getD 0 table (lows ++ highs)
     highs : Lookup
     highs = tabulate 16 high
 
-    go : (i : ℕ) → i < length table → Dec (i < 16) → getD table i 0 ≡ getD (lows ++ highs) i 0
+    go : (i : ℕ) → i < length lookup → Dec (i < 16) → getD lookup i 0 ≡ getD (lows ++ highs) i 0
     go i h (yes k) = v .low i k ∙ sym (List·getD-append lows highs 0 i (omega (arith, length-tabulate 16 low))
         ∙ getD-tabulate 16 low i 0 k)
     go i h (no k) =

@@ -8,7 +8,7 @@ use Rattle.spelling.specs.SameCall.{sameOutcome, SameAnswers}
 use Rattle.spelling.proofs.SameAnswers.{same-determined}
 use Rattle.plain.specs.PlainCall.{plainOutcome, PlainAnswers}
 use Rattle.plain.proofs.PlainVerdict.{plain-determined}
-use Rattle.tree.specs.TreeCalls.{startOutcome, startAnswer, startAfter}
+use Rattle.tree.specs.StartCall.{startOutcome, startAnswer, startAfter}
 use Rattle.treejudge.specs.JudgeCall.{treeOutcome, TreeAnswers}
 use Rattle.treejudge.proofs.TreeVerdict.{tree-determined}
 use Rattle.stored.specs.Calls.{readNumbers, startNumbers, treeNumbers, plainNumbers, sameNumbers, ReadGives, WriteGives, StartGives, StepGives, TreeGives, PlainGives, SameGives, SuccessorsGives, Gives}

@@ -5,7 +5,7 @@ use mathlib.Core.Option.{Option, none, some, Option·some-injective}
 use Prim.Native.Nat.{ℕ, _+_}
 use native.Mathlib.Omega.{arith}
 use Rattle.table.specs.Table.{readRule}
-use Rattle.tree.specs.TreeCalls.{startOutcome, startAnswer, startAfter}
+use Rattle.tree.specs.StartCall.{startOutcome, startAnswer, startAfter}
 use Rattle.job.specs.Ascii.{ascii}
 use Rattle.job.specs.JobCall.{JobAnswer, jobParts, textOf, refusalText, digits, digitsWithin, line as jobLine}
 use Rattle.notation.specs.Parts.{space, inFront, parts, fieldAt}

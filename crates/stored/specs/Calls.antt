@@ -15,9 +15,10 @@ use Rattle.spelling.specs.SameCall.{sameOutcome, SameAnswers}
 use Rattle.spelling.specs.declared.same.SameAnswer.{SameAnswer}
 use Rattle.plain.specs.PlainCall.{plainOutcome, PlainAnswers, scratchAfter}
 use Rattle.plain.specs.declared.judge.PlainAnswer.{PlainAnswer}
-use Rattle.tree.specs.TreeCalls.{startOutcome, startAnswer, startAfter, stepOutcome, stepAnswer, stepAfter}
-use Rattle.tree.specs.declared.calls.StartAnswer.{StartAnswer}
-use Rattle.tree.specs.declared.calls.StepAnswer.{StepAnswer}
+use Rattle.tree.specs.StartCall.{startOutcome, startAnswer, startAfter}
+use Rattle.tree.specs.declared.start.StartAnswer.{StartAnswer}
+use Rattle.step.specs.StepCall.{stepOutcome, stepAnswer, stepAfter}
+use Rattle.step.specs.declared.call.StepAnswer.{StepAnswer}
 use Rattle.treejudge.specs.JudgeCall.{treeOutcome, TreeAnswers}
 use Rattle.treejudge.specs.declared.judge.TreeAnswer.{TreeAnswer}
 use Rattle.job.specs.Ascii.{ascii}

@@ -26,7 +26,7 @@ unfolding successorsAnswer lookUp
 looked-up {R} {header} {a} p s {images} look {next} first {reached} rest =
     let well = p .limits .well in
     let few = p .limits .states in
-    let word = look ∙ ap (λ (table : Lookup). imagesBy table s) (p .tabled .entries) in
+    let word = look ∙ ap (λ (table : Lookup). imagesBy table s) (p .is-lookup .entries) in
     let all : next ≡ successors R a s = first ∙ ap (λ (w : ℕ). mapOf w 0) word ∙ look-up-successors R well few a s in
     let sets : reached ≡ tabulate maxSets (λ i. successorsIn R (suc i) a s) = rest ∙ tabulate-ext maxSets _ _ (λ i h.
     ap (λ (w : ℕ). mapOf w (suc i)) word ∙ look-up-successors-in R well few (suc i) a s (omega arith) (omega arith)) in

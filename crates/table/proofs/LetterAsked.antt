@@ -48,7 +48,7 @@ module _ {table : List ℕ} {header : Header} {cells : Grid} {words : List (List
     letter-prepared made = record {
       numbers = v .holds .numbers;
       limits = v .holds .limits;
-      tabled = record { below = below; entries = lookup-made (padded (v .rule .grid)) (v .holds .images) a made };
+      is-lookup = record { below = below; entries = lookup-made (padded (v .rule .grid)) (v .holds .images) a made };
     }
 
 -- an accepted letter: the table is read as the rule, and the letter is one of its letters

@@ -6,9 +6,8 @@ use native.Mathlib.Omega.{arith}
 use native.Mathlib.Nat.{add-comm, mul-comm, mod-eq-of-lt, div-div-eq-div-mul, mod-lt}
 use lib.Arith.{digits-div, digits-mod, mod-mul}
 use lib.ListN.{length, getD, set, length-map, List·getD-map}
-use Rattle.tree.specs.inner.Pass.{blankRow}
+use Rattle.tree.specs.inner.Rows.{blankRow, withoutOld}
 use Rattle.tree.specs.inner.PackedRows.{unpacked, rowsIn}
-use Rattle.tree.specs.inner.Rows.{withoutOld}
 use Rattle.tree.specs.declared.rows.Row.{Row}
 
 -- a number by its lowest digit and what stands above it

@@ -16,7 +16,7 @@ use Rattle.base.specs.Lists.{pad}
 use Rattle.base.proofs.BitSet.{collect-more}
 use Rattle.history.specs.Record.{rank, hostedIn}
 use Rattle.history.proofs.Members.{rank-all, rank-lt}
-use Rattle.tree.specs.inner.Pass.{blankRow}
+use Rattle.tree.specs.inner.Rows.{blankRow}
 use Rattle.tree.specs.inner.RecordRows.{places, blankBehind, deeper, rowsOfTags}
 use Rattle.tree.specs.declared.rows.Row.{Row}
 

@@ -23,8 +23,7 @@ use Rattle.history.proofs.Members.{map-members}
 use Rattle.history.proofs.RecordOfTree.{root-states}
 use Rattle.history.proofs.TreesOf.{of-few, of-nested}
 use Rattle.tree.specs.inner.PackedRows.{rowsIn, countedRows}
-use Rattle.tree.specs.inner.Rows.{rowsFrom, rowsOf, withoutOld, AreRows, HoldsTree}
-use Rattle.tree.specs.inner.Pass.{blankRow}
+use Rattle.tree.specs.inner.Rows.{rowsFrom, rowsOf, withoutOld, AreRows, HoldsTree, blankRow}
 use Rattle.tree.specs.inner.RecordRows.{hostRow, tagOf, hostBytes, tagBytes, rowsRecord, Recordable}
 use Rattle.tree.specs.declared.rows.Row.{Row}
 use Rattle.tree.specs.declared.rows.Tree.{Tree as CodeTree}

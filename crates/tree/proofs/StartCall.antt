@@ -16,8 +16,8 @@ use Rattle.history.proofs.TreesOf.{start-is-tree}
 use Rattle.tree.specs.inner.PackedRows.{countedRows}
 use Rattle.tree.specs.inner.Rows.{rowsFrom, rowsOf, HoldsTree}
 use Rattle.tree.specs.inner.RecordRows.{startRows, HasRows, rowsRecord, Recordable}
-use Rattle.tree.specs.TreeCalls.{recordRoom, startOutcome, startAnswer, startAfter, StartCall}
-use Rattle.tree.specs.declared.calls.StartAnswer.{StartAnswer}
+use Rattle.tree.specs.StartCall.{recordRoom, startOutcome, startAnswer, startAfter, StartCall}
+use Rattle.tree.specs.declared.start.StartAnswer.{StartAnswer}
 use Rattle.tree.specs.declared.rows.Tree.{Tree as CodeTree}
 use Rattle.tree.proofs.TreeRows.{has-holds}
 use Rattle.tree.proofs.RecordOfRows.{held-record, held-recordable}

@@ -1,8 +1,8 @@
 -- A tree in the code: as many rows as nodes, in front of blank ones.
 use mathlib.Core.Path.{_≡_, refl, sym, _∙_, ap}
 use mathlib.Core.Bool.{true}
-use mathlib.Core.List.{List, [], map, map-append}
-use Prim.Native.Nat.{ℕ, suc, _-_, _≤_, _<_}
+use mathlib.Core.List.{List, [], map, map-append, _∷_}
+use Prim.Native.Nat.{ℕ, suc, _-_, _≤_, _<_, zero}
 use native.Mathlib.Omega.{arith}
 use lib.ListN.{length, getD, replicate, length-append, length-map}
 use lib.Seq.{take-at}
@@ -12,13 +12,18 @@ use Rattle.rule.specs.Rule.{Rule}
 use Rattle.history.specs.Forest.{nil, node, size}
 use Rattle.history.specs.Tree.{Tree, isTreeOf}
 use Rattle.history.proofs.TreesOf.{of-few}
-use Rattle.tree.specs.inner.Pass.{blankRow}
+use Rattle.tree.specs.inner.Rows.{blankRow, rowsFrom, rowsOf, withoutOld, AreRows, HoldsTree}
 use Rattle.tree.specs.inner.PackedRows.{rowsIn, countedRows}
-use Rattle.tree.specs.inner.Rows.{rowsFrom, rowsOf, withoutOld, AreRows, HoldsTree}
 use Rattle.tree.specs.inner.RecordRows.{places, blankBehind, HasRows}
 use Rattle.tree.specs.inner.Sides.{TwoSides}
 use Rattle.tree.specs.declared.rows.Row.{Row}
 use Rattle.tree.specs.declared.rows.Tree.{Tree as CodeTree}
+use Rattle.tree.proofs.PackedWords.{rows-many}
+use Rattle.rule.specs.Limits.{maxStates}
+use Rattle.tree.specs.inner.Rows.{blankRow}
+use Rattle.tree.specs.inner.PackedRows.{rowsIn}
+use Rattle.tree.specs.inner.RecordRows.{places}
+use Rattle.tree.specs.inner.Sides.{TwoSides}
 use Rattle.tree.proofs.PackedWords.{rows-many}
 
 -- THE ROWS OF A TREE
@@ -67,3 +72,12 @@ tree-small {R} {T} h held = omega (arith, held .nodes, of-few R T (held .fits))
 -- a side has a row for each place
 pub side-rows : {sides : List (List ℕ)} {side : ℕ} → TwoSides sides × (side < 2) → length (rowsIn (getD sides side [])) ≡ places
 side-rows {sides} {side} (arrays, on) = rows-many (getD sides side []) (arrays .long side on)
+
+-- two arrays side by side
+pub two-sides : (words other : List ℕ) → length words ≡ places → length other ≡ places → TwoSides (words ∷ other ∷ [])
+two-sides words other long-words long-other = record { two = refl; long = both }
+  where
+    both : (side : ℕ) → side < 2 → length (getD (words ∷ other ∷ []) side []) ≡ places
+    both zero h = long-words
+    both (suc zero) h = long-other
+    both (suc (suc side)) h = absurd (omega arith)

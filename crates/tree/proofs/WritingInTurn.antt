@@ -13,9 +13,9 @@ use Rattle.base.specs.BitSet.{member}
 use Rattle.base.specs.LentBuffer.{stored}
 use Rattle.base.proofs.Storing.{stored-start, stored-byte, stored-next, PiecesStored, pieces-start, pieces-byte, pieces-skip, pieces-size, pieces-done}
 use Rattle.history.specs.Record.{membersFrom, members}
-use Rattle.tree.specs.TreeCalls.{recordRoom}
+use Rattle.tree.specs.StartCall.{recordRoom}
 use Rattle.tree.specs.inner.PackedRows.{rowsIn, countedRows}
-use Rattle.tree.specs.inner.Pass.{blankRow}
+use Rattle.tree.specs.inner.Rows.{blankRow}
 use Rattle.tree.specs.inner.RecordRows.{places, hostRow, tagOf, hostBytes, tagBytes, rowsRecord, Recordable}
 use Rattle.tree.specs.declared.rows.Row.{Row}
 use Rattle.tree.specs.declared.rows.Tree.{Tree as CodeTree}

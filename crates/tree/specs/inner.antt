@@ -1,6 +1,5 @@
 -- What the contracts of inner functions cite.
 pub mod PackedRows
-pub mod Pass
 pub mod RecordCode
 pub mod RecordRows
 pub mod Rows

@@ -1,10 +1,9 @@
-// History trees: the check of a record, the starting record, and one letter.
-pub mod calls;
+// History trees in code: a tree, its record, the check of a record, and the starting record.
 mod checks;
 pub mod packed;
 mod reading;
 pub mod record;
 pub mod rows;
 pub mod sides;
-pub mod step;
-mod writing;
+pub mod start;
+pub mod writing;

@@ -3,7 +3,7 @@ use rule::limits::STATES;
 ghost use mathlib.Core.Path.{_≡_};
 
 // A node: its depth, its label, the union of its children's labels, its active set, and its number before the last
-// letter (NONE where that letter has sprouted it).
+// letter (255 where that letter has sprouted it).
 pub struct Row {
     pub depth: u16,
     pub label: u16,
@@ -11,9 +11,6 @@ pub struct Row {
     pub active: u8,
     pub old: u8,
 }
-
-// The number of no node.
-pub const NONE: u8 = 255;
 
 // The rows of a tree, in number order, one word each.
 pub type Rows = [u64; Tree::PLACES];
@@ -54,11 +51,4 @@ impl Tree {
     {
         self.rows
     }
-}
-
-// What a letter answers: how many rows the next tree has, and the maps by old node number.
-pub struct Stepped {
-    pub count: usize,
-    pub accepting: u16,
-    pub stable: u16,
 }

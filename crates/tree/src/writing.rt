@@ -10,7 +10,7 @@ ghost use Prim.Native.Nat.{_+_, _<_, _≤_};
 ghost use lib.ListN.{length};
 ghost use Rattle.base.specs.BitSet.{member};
 ghost use Rattle.base.specs.LentBuffer.{stored};
-ghost use Rattle.tree.specs.TreeCalls.{recordRoom};
+ghost use Rattle.tree.specs.StartCall.{recordRoom};
 ghost use Rattle.tree.specs.inner.PackedRows.{countedRows};
 ghost use Rattle.tree.specs.inner.Sides.{treeOn, Stands};
 ghost use Rattle.tree.specs.inner.RecordRows.{places, hostRow, hostBytes, tagBytes, rowsRecord, Recordable};

@@ -14,13 +14,14 @@ use Rattle.history.specs.Tree.{Tree}
 use Rattle.history.specs.Letter.{nextTree}
 use Rattle.history.specs.Rounds.{readLetters}
 use Rattle.history.proofs.TreesOfWalk.{read-append}
-use Rattle.tree.specs.inner.Pass.{steppedRows}
-use Rattle.tree.specs.inner.Sides.{treeOn, rowsOn, Stands, Laid, Steppable, Stepping}
+use Rattle.tree.specs.inner.Sides.{treeOn, Stands, Laid}
 use Rattle.tree.specs.inner.Rows.{HoldsTree}
-use Rattle.tree.specs.declared.rows.Stepped.{Stepped}
 use Rattle.tree.specs.declared.rows.Tree.{Tree as CodeTree}
 use Rattle.tree.specs.declared.sides.OnSide.{OnSide}
-use Rattle.tree.proofs.StepOfRows.{place-ready, place-steps}
+use Rattle.step.specs.inner.Pass.{steppedRows}
+use Rattle.step.specs.inner.Stepping.{rowsOn, Steppable, Stepping}
+use Rattle.step.specs.declared.pass.Stepped.{Stepped}
+use Rattle.step.proofs.StepOfRows.{place-ready, place-steps}
 use Rattle.treejudge.specs.inner.Reading.{Reads, Readable, ReadsTo}
 
 -- a tree that is laid stands on side 0

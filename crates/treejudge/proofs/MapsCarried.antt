@@ -17,7 +17,7 @@ use Rattle.base.specs.BitSet.{member, collect}
 use Rattle.base.proofs.BitSet.{member-lt, member-mod, collect-lt, collect-ext, collect-more}
 use Rattle.base.proofs.Logic.{look, bool-ext}
 use Rattle.history.specs.inner.Following.{carried}
-use Rattle.tree.specs.inner.Pass.{blankRow}
+use Rattle.tree.specs.inner.Rows.{blankRow}
 use Rattle.tree.specs.inner.PackedRows.{rowsIn}
 use Rattle.tree.specs.declared.rows.Row.{Row}
 use Rattle.tree.specs.declared.rows.Tree.{Tree as CodeTree}

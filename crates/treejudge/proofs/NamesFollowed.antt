@@ -16,14 +16,15 @@ use Rattle.history.specs.Rounds.{readLetters}
 use Rattle.history.specs.inner.OldNumbers.{noNode}
 use Rattle.history.proofs.FollowingLaws.{follow-none, follow-kept, follow-accepted}
 use Rattle.history.proofs.TreesOfWalk.{read-append}
-use Rattle.tree.specs.inner.Pass.{steppedRows}
-use Rattle.tree.specs.inner.Sides.{treeOn, rowsOn, Stands, Steppable, Stepping}
-use Rattle.tree.specs.inner.Rows.{HoldsTree, StepsTo}
-use Rattle.tree.specs.declared.rows.Stepped.{Stepped}
+use Rattle.tree.specs.inner.Sides.{treeOn, Stands}
+use Rattle.tree.specs.inner.Rows.{HoldsTree}
 use Rattle.tree.specs.declared.rows.Tree.{Tree as CodeTree}
 use Rattle.tree.specs.declared.sides.OnSide.{OnSide}
 use Rattle.tree.proofs.TreeRows.{tree-small}
-use Rattle.tree.proofs.StepOfRows.{place-ready, place-steps}
+use Rattle.step.specs.inner.Pass.{steppedRows}
+use Rattle.step.specs.inner.Stepping.{rowsOn, Steppable, Stepping, StepsTo}
+use Rattle.step.specs.declared.pass.Stepped.{Stepped}
+use Rattle.step.proofs.StepOfRows.{place-ready, place-steps}
 use Rattle.treejudge.specs.inner.Reading.{Readable}
 use Rattle.treejudge.specs.inner.Names.{allKept, carriedMaps, Follows, FollowsOn, Followable, FollowsTo}
 use Rattle.treejudge.specs.declared.follow.Maps.{Maps}

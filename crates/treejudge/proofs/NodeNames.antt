@@ -18,9 +18,8 @@ use Rattle.history.specs.Tree.{Tree}
 use Rattle.history.proofs.Conditions.{OneRoot}
 use Rattle.history.proofs.TreesOf.{of-root, of-few}
 use Rattle.history.proofs.NamesByDepth.{after-deeper, after-beside, name-root, name-next, name-depth, depth-next, name-small}
-use Rattle.tree.specs.inner.Rows.{rowsFrom, rowsOf, withoutOld, HoldsTree}
+use Rattle.tree.specs.inner.Rows.{rowsFrom, rowsOf, withoutOld, HoldsTree, blankRow}
 use Rattle.tree.specs.inner.PackedRows.{rowsIn}
-use Rattle.tree.specs.inner.Pass.{blankRow}
 use Rattle.tree.specs.declared.rows.Row.{Row}
 use Rattle.tree.specs.declared.rows.Tree.{Tree as CodeTree}
 use Rattle.tree.proofs.TreeRows.{tree-small}

@@ -16,8 +16,7 @@ use Rattle.rule.specs.Rule.{Rule}
 use Rattle.history.specs.Tree.{Tree}
 use Rattle.history.proofs.QuestionNine.{record-injective}
 use Rattle.history.proofs.TreesOf.{of-nested}
-use Rattle.tree.specs.inner.Rows.{withoutOld, HoldsTree}
-use Rattle.tree.specs.inner.Pass.{blankRow}
+use Rattle.tree.specs.inner.Rows.{withoutOld, HoldsTree, blankRow}
 use Rattle.tree.specs.inner.RecordRows.{places}
 use Rattle.tree.specs.inner.PackedRows.{unpacked, countedRows}
 use Rattle.tree.specs.declared.rows.Row.{Row}

@@ -7,7 +7,8 @@ use Rattle.base.specs.Outcome.{Outcome, refused, accepted}
 use Rattle.rule.specs.Rule.{Rule}
 use Rattle.history.specs.Rounds.{roundTree, FirstRepeat}
 use Rattle.history.specs.Finding.{Finding, yes-node, no-node, Found}
-use Rattle.tree.specs.TreeCalls.{startOutcome, Moved, stepOutcome, recordRoom}
+use Rattle.tree.specs.StartCall.{startOutcome, recordRoom}
+use Rattle.step.specs.StepCall.{Moved, stepOutcome}
 use Rattle.treejudge.specs.JudgeCall.{treeOutcome, TreeAnswers, nameRoom}
 use Rattle.treejudge.specs.declared.judge.TreeAnswer.{TreeAnswer}
 

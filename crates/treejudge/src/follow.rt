@@ -1,9 +1,9 @@
 // Following nodes by their names, letter by letter. Numbers shift from tree to tree, so the followed nodes are kept as maps over
 // the present numbers, and each letter carries them from the old numbers to the new ones.
+use step::pass::step_rows;
 use tree::packed::unpack;
 use tree::rows::Sides;
 use tree::sides::OnSide;
-use tree::step::step_rows;
 use word::lookups::Lookups;
 ghost use mathlib.Core.Path.{_≡_};
 ghost use Prim.Native.Nat.{_≤_, min};

@@ -1,7 +1,7 @@
 // Reading letters: a letter is one step over the rows of a tree.
+use step::pass::step_rows;
 use tree::rows::Sides;
 use tree::sides::OnSide;
-use tree::step::step_rows;
 use word::lookups::Lookups;
 ghost use Rattle.tree.specs.inner.Sides.{treeOn, Stands};
 ghost use Rattle.treejudge.specs.inner.Reading.{Readable, ReadsTo};

@@ -1,4 +1,4 @@
--- The tables of a walk: the letters that occur in it, the tables made from their words, and that each letter has its table.
+-- The look-ups of a walk: the letters that occur in it, the look-ups made from their words, and that each letter has its look-up.
 use mathlib.Core.Path.{_≡_, refl, sym, _∙_, ap, ap₂}
 use mathlib.Core.Logic.{_⊎_, ⊎-elim}
 use mathlib.Core.Bool.{Bool, true, false, _&&_, _||_, cond, or-assoc, or-false}
@@ -79,7 +79,7 @@ module _ (others : ℕ) (w : List ℕ) (at letters : ℕ) (v : LettersUpTo other
 
 -- THEIR TABLES
 
--- tables as they were, but for those of the letters of a map that are no longer in `rest`
+-- look-ups as they were, but for those of the letters of a map that are no longer in `rest`
 pub record TablesBut (letters rest : ℕ) (words : List (List ℕ)) (before lookups : Lookups) : Type 0 where
   pub places : length lookups ≡ maxLetters
   pub few : rest < 2 ^ maxLetters
@@ -110,21 +110,21 @@ module _ (letters rest : ℕ) (words : List (List ℕ)) (before lookups : Lookup
     letter-of : member letters letter ≡ true
     letter-of = v .inside letter (lowest-stands maxLetters maxLetters rest (omega arith) (omega arith) (v .few))
 
-    -- with its table
-    pub lookups-more : (table : List ℕ) → table ≡ joinedLookup (getD words letter [])
-        → TablesBut letters (bitAnd rest (rest - 1)) words before (set lookups letter table)
-    lookups-more table is = record {
-      places = length-set lookups letter table ∙ v .places;
+    -- with its look-up
+    pub lookups-more : (lookup : List ℕ) → lookup ≡ joinedLookup (getD words letter [])
+        → TablesBut letters (bitAnd rest (rest - 1)) words before (set lookups letter lookup)
+    lookups-more lookup is = record {
+      places = length-set lookups letter lookup ∙ v .places;
       few = omega (arith, v .few, and-le-r rest (rest - 1));
       inside = λ a m. v .inside a (cleared-others maxLetters maxLetters rest (omega arith) (omega arith) (v .few) a m .0);
       made = λ a m out. go a m out (ℕ-discrete a letter);
-      stays = λ a out. getD-set-other lookups letter a table [] (λ e. clash out (rw e letter-of)) ∙ v .stays a out;
+      stays = λ a out. getD-set-other lookups letter a lookup [] (λ e. clash out (rw e letter-of)) ∙ v .stays a out;
     }
       where
         go : (a : ℕ) → member letters a ≡ true → member (bitAnd rest (rest - 1)) a ≡ false → Dec (a ≡ letter)
-            → getD (set lookups letter table) a [] ≡ joinedLookup (getD words a [])
-        go a m out (yes e) = rw e (getD-set-same lookups letter table [] (omega (arith, v .places, letter-inside)) ∙ is)
-        go a m out (no e) = getD-set-other lookups letter a table [] e ∙ v .made a m
+            → getD (set lookups letter lookup) a [] ≡ joinedLookup (getD words a [])
+        go a m out (yes e) = rw e (getD-set-same lookups letter lookup [] (omega (arith, v .places, letter-inside)) ∙ is)
+        go a m out (no e) = getD-set-other lookups letter a lookup [] e ∙ v .made a m
             (never (member rest a) (λ stands. clash out (cleared-keeps maxLetters maxLetters rest (omega arith) (omega arith) (v .few) a stands e)))
 
   -- at the end
@@ -141,7 +141,7 @@ module _ (letters rest : ℕ) (words : List (List ℕ)) (before lookups : Lookup
 
 -- THE LETTERS OF A WALK
 
--- the tables of the letters of u and of v
+-- the look-ups of the letters of u and of v
 pub lookups-walk : (words : List (List ℕ)) (u v : List ℕ) (lead-letters letters : ℕ) (before : Lookups)
     → lead-letters ≡ bitOr 0 (lettersOf u) → letters ≡ bitOr lead-letters (lettersOf v)
     → refilled (member letters) words before ≡ lookupsAfter words u v before
@@ -157,13 +157,13 @@ lookups-walk words u v lead-letters letters before lead-are are = tabulate-ext m
         ∙ ap₂ _||_ (ap (λ (x : ℕ). member x a) lead-are ∙ member-union 0 (lettersOf u) a
         ∙ ap₂ _||_ (member-none a) (of u a l)) (of v a l)
 
--- so each letter of a walk over a rule that the words are of has its table
+-- so each letter of a walk over a rule that the words are of has its look-up
 module _ {R : Rule} {header : Header} {words : List (List ℕ)} (h : HoldsRule R header words) (u v : List ℕ)
     (lead : Every (λ a. a < header .letters) u) (tail : Every (λ a. a < header .letters) v)
     (before lookups : Lookups) (made : lookups ≡ lookupsAfter words u v before) where
-  has-table : (a : ℕ) → a < header .letters → (occurs u (a % maxLetters) || occurs v (a % maxLetters)) ≡ true → HasLookup R lookups a
+  has-lookup : (a : ℕ) → a < header .letters → (occurs u (a % maxLetters) || occurs v (a % maxLetters)) ≡ true → HasLookup R lookups a
   unfolding lookupsAfter refilled
-  has-table a less m =
+  has-lookup a less m =
       let below : a < R .letters = rw (h .numbers) at less in
       let small : a < maxLetters = omega (arith, h .limits .letters) in
       let same : a % maxLetters ≡ a = omega arith in
@@ -177,6 +177,6 @@ module _ {R : Rule} {header : Header} {words : List (List ℕ)} (h : HoldsRule R
   walk-prepared = record {
     numbers = h .numbers;
     limits = h .limits;
-    lead = every-weaker _ _ u (λ a (less, m). has-table a less (or-l _ _ m)) (every-both _ _ u lead (occurs-all u));
-    tail = every-weaker _ _ v (λ a (less, m). has-table a less (or-r (occurs u (a % maxLetters)) _ m)) (every-both _ _ v tail (occurs-all v));
+    lead = every-weaker _ _ u (λ a (less, m). has-lookup a less (or-l _ _ m)) (every-both _ _ u lead (occurs-all u));
+    tail = every-weaker _ _ v (λ a (less, m). has-lookup a less (or-r (occurs u (a % maxLetters)) _ m)) (every-both _ _ v tail (occurs-all v));
   }

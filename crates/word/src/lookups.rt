@@ -1,4 +1,4 @@
-// The look-up tables of a walk: those of the letters that occur in it, each made once.
+// The look-ups of a walk: those of the letters that occur in it, each made once.
 use rule::limits::LETTERS;
 use rule::limits::Words;
 use rule::lookup::Lookup;
@@ -10,7 +10,7 @@ ghost use Rattle.base.specs.BitSet.{collect, member};
 ghost use Rattle.rule.specs.Limits.{maxLetters};
 ghost use Rattle.word.specs.inner.WalkLookups.{occurs, refilled, lookupsAfter};
 
-// A table for each letter.
+// A look-up for each letter.
 pub type Lookups = [Lookup; LETTERS];
 
 // The map of the letters of w, joined to a map of letters. A byte from the limit up counts by its remainder.
@@ -26,7 +26,7 @@ fn occurring(w: &[u8], others: u16) -> u16
     letters
 }
 
-// The tables of a map of letters, made in place from the words of their states; those of other letters stay.
+// The look-ups of a map of letters, made in place from the words of their states; those of other letters stay.
 fn fill_lookups(words: &Words, letters: u16, lookups: &mut Lookups)
     requires { ⌜ length (now lookups) ≡ maxLetters ⌝ }
     ensures { λ _. ⌜ now (lookups .exit) ≡ refilled (member letters) (now (words .entry)) (now (lookups .entry)) ⌝ }
@@ -39,7 +39,7 @@ fn fill_lookups(words: &Words, letters: u16, lookups: &mut Lookups)
     }
 }
 
-// The tables of the letters that occur in a walk, made in place; those of other letters stay. Both judges read letters by them.
+// The look-ups of the letters that occur in a walk, made in place; those of other letters stay. Both judges read letters by them.
 pub fn walk_lookups(words: &Words, u: &[u8], v: &[u8], lookups: &mut Lookups)
     requires { ⌜ length (now lookups) ≡ maxLetters ⌝ }
     ensures { λ _. ⌜ now (lookups .exit) ≡ lookupsAfter (now (words .entry)) (now (u .entry)) (now (v .entry)) (now (lookups .entry)) ⌝ }

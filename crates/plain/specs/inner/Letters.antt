@@ -1,4 +1,4 @@
--- Letters read by their tables, inside the plain judge: the states that they lead to, and the ways that they open.
+-- Letters read by their look-ups, inside the plain judge: the states that they lead to, and the ways that they open.
 use mathlib.Core.Bool.{cond}
 use mathlib.Core.List.{List, [], _∷_}
 use Prim.Native.Nat.{ℕ, suc, _^_}
@@ -10,18 +10,18 @@ use Rattle.rule.specs.Limits.{maxSets}
 use Rattle.rule.specs.inner.Lookup.{Lookup, imagesBy, lookUp}
 use Rattle.word.specs.inner.WalkLookups.{Lookups}
 
--- what f, which takes a letter's table, makes of x, letter by letter
+-- what f, which takes a letter's look-up, makes of x, letter by letter
 unfoldable pub over : (Lookup → ℕ → ℕ) → Lookups → List ℕ → ℕ → ℕ
 over f lookups [] x = x
 over f lookups (a ∷ w) x = over f lookups w (f (getD lookups a []) x)
 
 -- the states that the letters lead to
 unfoldable pub statesAfter : Lookups → List ℕ → ℕ → ℕ
-statesAfter = over (λ table states. lookUp table 0 states)
+statesAfter = over (λ lookup states. lookUp lookup 0 states)
 
--- where any transition of a letter leads to from the states s; from none nowhere, whatever the table
+-- where any transition of a letter leads to from the states s; from none nowhere, whatever the look-up
 unfoldable pub onward : Lookup → ℕ → ℕ
-onward table s = cond (eqb s 0) 0 (lookUp table 0 s)
+onward lookup s = cond (eqb s 0) 0 (lookUp lookup 0 s)
 
 -- the row of no letter: state s leads to itself, and no transition is taken
 unfoldable pub ownRow : ℕ → ℕ
@@ -29,7 +29,7 @@ ownRow s = inLane (2 ^ s) 0
 
 -- a row with a letter behind its ways: for set i the letter's transition is one of it, or the way before it takes one
 unfoldable pub extended : Lookup → ℕ → ℕ
-extended table row = bitOr (imagesBy table (mapOf row 0)) (wordOf (suc maxSets) (λ i. onward table (mapOf row i)))
+extended lookup row = bitOr (imagesBy lookup (mapOf row 0)) (wordOf (suc maxSets) (λ i. onward lookup (mapOf row i)))
 
 -- and with the letters
 unfoldable pub rowAfter : Lookups → List ℕ → ℕ → ℕ

@@ -1,4 +1,4 @@
--- The look-up of a set's successors inside the code: a letter has a table of the images of all sets of states within the
+-- The look-up of a set's successors inside the code: a letter has a look-up of the images of all sets of states within the
 -- lowest four bits, then of those within the next four. Two entries give the images of any set, by all relations at once, in one word
 -- of lanes (Lanes.antt): lane i has the image under relation i.
 use mathlib.Core.Bool.{Bool, _&&_, cond}
@@ -37,11 +37,11 @@ gridWords cells = map squareWords cells
 unfoldable pub images : List (List ℕ) → ℕ → ℕ
 images square s = byRelation (λ i r. member (image laneWidth (relation square i) s) r)
 
--- a letter's table: the images of some sets, one entry each
+-- a letter's look-up: the images of some sets, one entry each
 abbrev pub Lookup : Type 0
 Lookup = List ℕ
 
--- the table of a letter: the images of the sets 0 to 15, then of their multiples by 16
+-- the look-up of a letter: the images of the sets 0 to 15, then of their multiples by 16
 unfoldable pub letterLookup : List (List ℕ) → Lookup
 letterLookup square = tabulate 16 (λ j. images square j) ++ tabulate 16 (λ j. images square (16 * j))
 
@@ -50,14 +50,14 @@ unfoldable pub joinedWord : List ℕ → ℕ → ℕ
 joinedWord [] s = 0
 joinedWord (word ∷ words) s = bitOr (cond (eqb (s % 2) 1) word 0) (joinedWord words (s / 2))
 
--- the table that any words of the states give: the entries of the sets 0 to 15, then of their multiples by 16
+-- the look-up that any words of the states give: the entries of the sets 0 to 15, then of their multiples by 16
 unfoldable pub joinedLookup : List ℕ → Lookup
 joinedLookup words = tabulate 16 (λ j. joinedWord words j) ++ tabulate 16 (λ j. joinedWord words (16 * j))
 
--- the images of s by a table, in one number: under all transitions, then by those of each set
+-- the images of s by a look-up, in one number: under all transitions, then by those of each set
 unfoldable pub imagesBy : Lookup → ℕ → ℕ
-imagesBy table s = bitOr (getD table (s % 16) 0) (getD table (16 + s / 16 % 16) 0)
+imagesBy lookup s = bitOr (getD lookup (s % 16) 0) (getD lookup (16 + s / 16 % 16) 0)
 
 -- one of them: under all transitions at i = 0, by those of set i at i
 unfoldable pub lookUp : Lookup → ℕ → ℕ → ℕ
-lookUp table i s = mapOf (imagesBy table s) i
+lookUp lookup i s = mapOf (imagesBy lookup s) i

@@ -1,4 +1,4 @@
--- The steps by which the code makes a letter's look-up table. Only contracts of private functions cite these.
+-- The steps by which the code makes a letter's look-up. Only contracts of private functions cite these.
 use mathlib.Core.Path.{_≡_}
 use mathlib.Core.Logic.{_⊎_}
 use mathlib.Core.List.{List}
@@ -7,7 +7,7 @@ use lib.Bits.{bitOr}
 use lib.ListN.{length, getD}
 use Rattle.rule.specs.inner.Lookup.{Lookup}
 
--- a letter's table with the entries of the first c sets that have the highest state q in their half: the entry of the set without
+-- a letter's look-up with the entries of the first c sets that have the highest state q in their half: the entry of the set without
 -- it, joined with its word. All other entries stay.
 pub record StateAdded (words : List ℕ) (q c : ℕ) (before after : Lookup) : Type 0 where
   pub entries : length after ≡ 32

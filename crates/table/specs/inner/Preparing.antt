@@ -1,4 +1,4 @@
--- A table read into arrays, and look-ups that are made ready where the questions are put: what the crates above learn of them.
+-- A look-up read into arrays, and look-ups that are made ready where the questions are put: what the crates above learn of them.
 use mathlib.Core.Path.{_≡_}
 use mathlib.Core.List.{List, []}
 use Prim.Native.Nat.{ℕ, _<_}
@@ -26,13 +26,13 @@ pub record Prepares (o : Outcome Rule) (Ready : Rule → Header → Type 0) (r :
   pub answers : r ≡ readingOf o
   pub ready : (R : Rule) (header : Header) → o ≡ accepted R → NumbersOf R header → Ready R header
 
--- a is a letter of the rule, and this is its table
-pub record HasTable (R : Rule) (a : ℕ) (table : Lookup) : Type 0 where
+-- a is a letter of the rule, and this is its look-up
+pub record IsLookup (R : Rule) (a : ℕ) (lookup : Lookup) : Type 0 where
   pub below : a < R .letters
-  pub entries : table ≡ letterLookup (getD (padded (R .grid)) a [])
+  pub entries : lookup ≡ letterLookup (getD (padded (R .grid)) a [])
 
--- the rule R is within the limits and has these numbers, and the letter a has this table
-pub record PreparedLetter (R : Rule) (header : Header) (a : ℕ) (table : Lookup) : Type 0 where
+-- the rule R is within the limits and has these numbers, and the letter a has this look-up
+pub record PreparedLetter (R : Rule) (header : Header) (a : ℕ) (lookup : Lookup) : Type 0 where
   pub numbers : NumbersOf R header
   pub limits : WithinLimits R
-  pub tabled : HasTable R a table
+  pub is-lookup : IsLookup R a lookup

@@ -10,7 +10,7 @@ use Rattle.base.specs.BitSet.{member}
 use Rattle.base.specs.Lists.{pad}
 use Rattle.rule.specs.Limits.{maxStates}
 use Rattle.history.specs.Record.{members}
-use Rattle.tree.specs.inner.Pass.{blankRow}
+use Rattle.tree.specs.inner.Rows.{blankRow}
 use Rattle.tree.specs.inner.PackedRows.{rowsIn}
 use Rattle.tree.specs.declared.rows.Row.{Row}
 use Rattle.tree.specs.declared.rows.Tree.{Tree as CodeTree}

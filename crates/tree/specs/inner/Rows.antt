@@ -6,11 +6,8 @@ use Prim.Native.Nat.{ℕ, suc}
 use Rattle.rule.specs.Rule.{Rule}
 use Rattle.history.specs.Forest.{nil, node, size}
 use Rattle.history.specs.Tree.{Tree, labels, isTreeOf}
-use Rattle.history.specs.Letter.{nextTree, acceptingMap, stableMap}
-use Rattle.history.specs.inner.OldNumbers.{oldNumbers}
 use Rattle.tree.specs.inner.PackedRows.{countedRows}
 use Rattle.tree.specs.declared.rows.Row.{Row}
-use Rattle.tree.specs.declared.rows.Stepped.{Stepped}
 use Rattle.tree.specs.declared.rows.Tree.{Tree as CodeTree}
 
 -- the rows of siblings at depth d and of all below them, in number order; the old number does not count here
@@ -37,9 +34,6 @@ pub record HoldsTree (R : Rule) (T : Tree) (x : CodeTree) : Type 0 where
   pub nodes : x .count ≡ size T
   pub are : AreRows (countedRows x) T
 
--- what one letter makes of the tree T: the next tree, with the old numbers of its nodes, and the answer
-pub record StepsTo (R : Rule) (a : ℕ) (T : Tree) (x : CodeTree) (r : Stepped) : Type 0 where
-  pub next : HoldsTree R (nextTree R a T) x
-  pub olds : map (λ y. y .old) (countedRows x) ≡ oldNumbers R a T
-  pub accepting : r .accepting ≡ acceptingMap R a T
-  pub stable : r .stable ≡ stableMap R a T
+-- the row of no node
+abbrev pub blankRow : Row
+blankRow = record { depth = 0; label = 0; kids = 0; active = 0; old = 0 }

@@ -1,4 +1,4 @@
--- The look-up tables of a walk's letters, for the judges that read letters by them.
+-- The look-ups of a walk's letters, for the judges that read letters by them.
 use mathlib.Core.Bool.{Bool, false, _||_, cond}
 use mathlib.Core.List.{List, [], _∷_}
 use Prim.Native.Nat.{ℕ, _%_}
@@ -8,9 +8,9 @@ use Rattle.base.specs.Lists.{tabulate}
 use Rattle.rule.specs.Limits.{maxLetters}
 use Rattle.rule.specs.Rule.{Rule}
 use Rattle.rule.specs.inner.Lookup.{Lookup, joinedLookup}
-use Rattle.table.specs.inner.Preparing.{HasTable}
+use Rattle.table.specs.inner.Preparing.{IsLookup}
 
--- a table for each letter
+-- a look-up for each letter
 abbrev pub Lookups : Type 0
 Lookups = List Lookup
 
@@ -19,14 +19,14 @@ unfoldable pub occurs : List ℕ → ℕ → Bool
 occurs [] a = false
 occurs (b ∷ w) a = eqb (b % maxLetters) a || occurs w a
 
--- the tables where those of some letters are made from the words of their states; the others stay
+-- the look-ups where those of some letters are made from the words of their states; the others stay
 unfoldable pub refilled : (ℕ → Bool) → List (List ℕ) → Lookups → Lookups
 refilled chosen words lookups = tabulate maxLetters (λ a. cond (chosen a) (joinedLookup (getD words a [])) (getD lookups a []))
 
--- the tables after those of a walk's letters are made
+-- the look-ups after those of a walk's letters are made
 unfoldable pub lookupsAfter : List (List ℕ) → List ℕ → List ℕ → Lookups → Lookups
 lookupsAfter words u v lookups = refilled (λ a. occurs u a || occurs v a) words lookups
 
--- a letter of the rule has its table
+-- a letter of the rule has its look-up
 abbrev pub HasLookup : Rule → Lookups → ℕ → Type 0
-HasLookup R lookups a = HasTable R a (getD lookups a [])
+HasLookup R lookups a = IsLookup R a (getD lookups a [])

@@ -10,10 +10,10 @@ use Rattle.plain.proofs.tail.append_letter.Statement.{statement}
 use Rattle.plain.proofs.tail.append_letter.Tie as tie
 
 abbrev Inv-loop : tie.InvT-loop
-Inv-loop table rows₀ n state₀ rows state = (state ≤ n) × Changed (extended table) state rows₀ rows
+Inv-loop lookup rows₀ n state₀ rows state = (state ≤ n) × Changed (extended lookup) state rows₀ rows
 
 abbrev μ-loop : tie.MeasureT-loop
-μ-loop table rows₀ n state₀ rows state = n - state
+μ-loop lookup rows₀ n state₀ rows state = n - state
 
 loop-holds : tie.Need-loop-holds Inv-loop μ-loop
 loop-holds c = (omega arith, changed-none _ _)

@@ -16,15 +16,15 @@ use Rattle.plain.proofs.tail.extended.Statement.{statement}
 use Rattle.plain.proofs.tail.extended.Tie as tie
 
 abbrev Inv-loop : tie.InvT-loop
-Inv-loop table row states images full all₀ relation₀ all relation =
-    (relation ≤ suc maxSets) × (all ≡ bitOr (imagesBy table (mapOf row 0)) (wordOf relation (λ i. onward table (mapOf row i))))
+Inv-loop lookup row states images full all₀ relation₀ all relation =
+    (relation ≤ suc maxSets) × (all ≡ bitOr (imagesBy lookup (mapOf row 0)) (wordOf relation (λ i. onward lookup (mapOf row i))))
 
 abbrev μ-loop : tie.MeasureT-loop
-μ-loop table row states images full all₀ relation₀ all relation = suc maxSets - relation
+μ-loop lookup row states images full all₀ relation₀ all relation = suc maxSets - relation
 
 -- the images of the row's states
 own-images : (c : tie.After-look-up Inv-loop μ-loop) → let start = c .before .before in
-    c .look-up .result ≡ imagesBy (start .args .table .now) (mapOf (start .args .row) 0)
+    c .look-up .result ≡ imagesBy (start .args .lookup .now) (mapOf (start .args .row) 0)
 own-images c = c .look-up .ensures ∙ ap (imagesBy _) (c .before .map-of .ensures)
 
 -- the lanes that have the lowest of the states

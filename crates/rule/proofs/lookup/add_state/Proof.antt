@@ -11,11 +11,11 @@ use Rattle.rule.proofs.lookup.add_state.Statement.{statement}
 use Rattle.rule.proofs.lookup.add_state.Tie as tie
 
 abbrev Inv-loop : tie.InvT-loop
-Inv-loop table₀ words q low high made j₀ table j =
-    (made ≡ 2 ^ q) × (made ≤ 8) × (j ≤ made) × StateAdded words q j table₀ table
+Inv-loop lookup₀ words q low high made j₀ lookup j =
+    (made ≡ 2 ^ q) × (made ≤ 8) × (j ≤ made) × StateAdded words q j lookup₀ lookup
 
 abbrev μ-loop : tie.MeasureT-loop
-μ-loop table₀ words q low high made j₀ table j = made - j
+μ-loop lookup₀ words q low high made j₀ lookup j = made - j
 
 mul-low : tie.Need-mul-low Inv-loop μ-loop
 mul-low c = search needs
@@ -46,35 +46,35 @@ loop-holds c =
 add-set : tie.Need-add-set Inv-loop μ-loop
 add-set c = search needs
 
-mul-table : tie.Need-mul-table Inv-loop μ-loop
-mul-table c = search needs
+mul-lookup : tie.Need-mul-lookup Inv-loop μ-loop
+mul-lookup c = search needs
 
-element-copy-out-table : tie.Need-element-copy-out-table Inv-loop μ-loop
-element-copy-out-table c = search needs
+element-copy-out-lookup : tie.Need-element-copy-out-lookup Inv-loop μ-loop
+element-copy-out-lookup c = search needs
 
-mul-table-2 : tie.Need-mul-table-2 Inv-loop μ-loop
-mul-table-2 c = search needs
+mul-lookup-2 : tie.Need-mul-lookup-2 Inv-loop μ-loop
+mul-lookup-2 c = search needs
 
-element-write-table : tie.Need-element-write-table Inv-loop μ-loop
-element-write-table c = search needs
+element-write-lookup : tie.Need-element-write-lookup Inv-loop μ-loop
+element-write-lookup c = search needs
 
-add-table : tie.Need-add-table Inv-loop μ-loop
-add-table c = search needs
+add-lookup : tie.Need-add-lookup Inv-loop μ-loop
+add-lookup c = search needs
 
-mul-table-3 : tie.Need-mul-table-3 Inv-loop μ-loop
-mul-table-3 c = search needs
+mul-lookup-3 : tie.Need-mul-lookup-3 Inv-loop μ-loop
+mul-lookup-3 c = search needs
 
-element-copy-out-table-2 : tie.Need-element-copy-out-table-2 Inv-loop μ-loop
-element-copy-out-table-2 c = search needs
+element-copy-out-lookup-2 : tie.Need-element-copy-out-lookup-2 Inv-loop μ-loop
+element-copy-out-lookup-2 c = search needs
 
-add-table-2 : tie.Need-add-table-2 Inv-loop μ-loop
-add-table-2 c = search needs
+add-lookup-2 : tie.Need-add-lookup-2 Inv-loop μ-loop
+add-lookup-2 c = search needs
 
-mul-table-4 : tie.Need-mul-table-4 Inv-loop μ-loop
-mul-table-4 c = search needs
+mul-lookup-4 : tie.Need-mul-lookup-4 Inv-loop μ-loop
+mul-lookup-4 c = search needs
 
-element-write-table-2 : tie.Need-element-write-table-2 Inv-loop μ-loop
-element-write-table-2 c = search needs
+element-write-lookup-2 : tie.Need-element-write-lookup-2 Inv-loop μ-loop
+element-write-lookup-2 c = search needs
 
 add-j : tie.Need-add-j Inv-loop μ-loop
 add-j c = search needs
@@ -107,16 +107,16 @@ add-state-spec =
     shl-made
     loop-holds
     add-set
-    mul-table
-    element-copy-out-table
-    mul-table-2
-    element-write-table
-    add-table
-    mul-table-3
-    element-copy-out-table-2
-    add-table-2
-    mul-table-4
-    element-write-table-2
+    mul-lookup
+    element-copy-out-lookup
+    mul-lookup-2
+    element-write-lookup
+    add-lookup
+    mul-lookup-3
+    element-copy-out-lookup-2
+    add-lookup-2
+    mul-lookup-4
+    element-write-lookup-2
     add-j
     loop-less
     loop-again

@@ -1,4 +1,4 @@
--- `fill_lookup` meets its contract. With each state the images of twice as many sets are in the table.
+-- `fill_lookup` meets its contract. With each state the images of twice as many sets are in the look-up.
 use borrow.Author.Needs.{needs}
 use mathlib.Core.Path.{_≡_}
 use Prim.Native.Nat.{_-_, _^_, _≤_}
@@ -9,10 +9,10 @@ use Rattle.rule.proofs.lookup.fill_lookup.Statement.{statement}
 use Rattle.rule.proofs.lookup.fill_lookup.Tie as tie
 
 abbrev Inv-loop : tie.InvT-loop
-Inv-loop words table₀ q₀ table q = (q ≤ 4) × Filled words (2 ^ q) table
+Inv-loop words lookup₀ q₀ lookup q = (q ≤ 4) × Filled words (2 ^ q) lookup
 
 abbrev μ-loop : tie.MeasureT-loop
-μ-loop words table₀ q₀ table q = 4 - q
+μ-loop words lookup₀ q₀ lookup q = 4 - q
 
 slice-write-entries : tie.Need-slice-write-entries Inv-loop μ-loop
 slice-write-entries c = search needs
@@ -21,7 +21,7 @@ slice-write-entries-2 : tie.Need-slice-write-entries-2 Inv-loop μ-loop
 slice-write-entries-2 c = search needs
 
 loop-holds : tie.Need-loop-holds Inv-loop μ-loop
-loop-holds c = (omega arith, filled-none _ (c .before .args .table .now) (c .entries .given .0 .1))
+loop-holds c = (omega arith, filled-none _ (c .before .args .lookup .now) (c .entries .given .0 .1))
 
 add-state-requires : tie.Need-add-state-requires Inv-loop μ-loop
 add-state-requires c κs = search needs

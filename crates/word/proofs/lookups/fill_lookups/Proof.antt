@@ -1,4 +1,4 @@
--- `fill_lookups` meets its contract. The loop fills the table of each letter of the map, the lowest first.
+-- `fill_lookups` meets its contract. The loop fills the look-up of each letter of the map, the lowest first.
 use borrow.Author.Needs.{needs}
 use Prim.Native.Nat.{_-_, _<_}
 use native.Mathlib.Omega.{arith}

@@ -3,7 +3,7 @@ use borrow.Author.Needs.{needs}
 use mathlib.Core.Path.{_≡_, refl}
 use lib.ListN.{length, length-map}
 use Rattle.tree.specs.inner.RecordRows.{places}
-use Rattle.tree.proofs.PassLoop.{two-sides}
+use Rattle.tree.proofs.TreeRows.{two-sides}
 use Rattle.tree.proofs.rows.Tree.laid.Statement.{statement}
 use Rattle.tree.proofs.rows.Tree.laid.Tie as tie
 

@@ -1,0 +1,171 @@
+-- The pass over the rows of one node and of all below it, given the pass over the rows of its children.
+use mathlib.Core.Path.{_≡_, refl, sym, _∙_, ap}
+use mathlib.Core.Bool.{Bool, true, false, not, _&&_, cond}
+use mathlib.Core.List.{List, [], _∷_, _++_, append-assoc, append-nil}
+use Prim.Native.Nat.{ℕ, suc, _+_, _^_, _≤_}
+use native.Mathlib.Omega.{arith}
+use borrow.Author.Tests.{eqb-true}
+use lib.Bits.{bitOr, or-zero-r}
+use lib.Dec.{eqb}
+use lib.ListN.{length}
+use Rattle.base.specs.BitSet.{member, minus}
+use Rattle.base.proofs.BitSet.{member-union, member-minus, set-ext, union-assoc}
+use Rattle.rule.specs.Rule.{Rule, successors, successorsIn}
+use Rattle.history.specs.Forest.{Forest, nil, node, size}
+use Rattle.history.specs.Tree.{Node, Tree, labels}
+use Rattle.history.specs.Letter.{Origin, was, Grown, child}
+use Rattle.history.proofs.LocalStep.{newLabel, sproutOf, newBelow, accepts, step}
+use Rattle.history.proofs.LabelsOfStep.{labels-step}
+use Rattle.history.proofs.StepsJoined.{plain, heldNode, grown, advanced, grown-step, oldNode, begunFrom, held-begunFrom}
+use Rattle.tree.specs.inner.Rows.{rowsFrom}
+use Rattle.tree.specs.declared.rows.Row.{Row}
+use Rattle.step.specs.inner.Pass.{metBy, Level, joinedIf, deepest, Pass, metRow, passOver}
+use Rattle.step.specs.declared.pass.Met.{Met}
+use Rattle.step.proofs.PassSteps.{level, pass, pass-skips, pass-meets, met-removed, met-accepting, met-kept}
+use Rattle.step.proofs.GrownRows.{grownRows, acceptingOf, stableOf, rowsHere, acceptingHere, stableHere}
+
+-- the row of a node at depth d
+abbrev pub rowAt : ℕ → Node → Tree → Row
+rowAt d x below = record { depth = d; label = x .label; kids = labels below; active = x .active; old = 0 }
+
+-- the union of the new children's labels is known from the old ones
+labels-below : (R : Rule) (a older sprout : ℕ) (F : Tree)
+    → labels (step R a older sprout F) ≡ minus (bitOr (successors R a (labels F)) sprout) older
+labels-below R a older sprout F = set-ext _ _ (λ q. labels-step R a older sprout F q
+    ∙ sym (member-minus (bitOr (successors R a (labels F)) sprout) older q ∙ ap (λ (b : Bool). b && not (member older q))
+    (member-union (successors R a (labels F)) sprout q)))
+
+-- a pass goes over the rows of nodes that are deeper than its levels
+pass-below : (E : ℕ → ℕ → ℕ) (k i : ℕ) (p : Pass) (d : ℕ) (F : Tree) (left : List Row) → length (p .levels) ≤ d
+    → passOver E k i p (rowsFrom d F ++ left) ≡ passOver E k (i + size F) p left
+unfolding rowsFrom size
+pass-below E k i p d nil left h = let e : i ≡ i + 0 = omega arith in ap (λ (n : ℕ). passOver E k n p left) e
+pass-below E k i p d (node x below younger) left h =
+    pass-skips E k i p (rowAt d x below) ((rowsFrom (suc d) below ++ rowsFrom d younger) ++ left) h
+    ∙ rw (append-assoc (rowsFrom (suc d) below) (rowsFrom d younger) left)
+    (pass-below E k (suc i) p (suc d) below (rowsFrom d younger ++ left) (omega arith)
+    ∙ pass-below E k (suc i + size below) p d younger left h
+    ∙ (let e : suc i + size below + size younger ≡ i + suc (size below + size younger) = omega arith in
+    ap (λ (n : ℕ). passOver E k n p left) e))
+
+-- what is joined to a map
+joined-or : (map i : ℕ) (b : Bool) → joinedIf map i b ≡ bitOr map (cond b (2 ^ i) 0)
+unfolding joinedIf
+joined-or map i true = refl
+joined-or map i false = sym (or-zero-r map)
+
+joined-more : (map i more : ℕ) (b : Bool) → bitOr (joinedIf map i b) (cond b more 0) ≡ bitOr map (cond b (bitOr (2 ^ i) more) 0)
+unfolding joinedIf
+joined-more map i more true = sym (union-assoc map (2 ^ i) more)
+joined-more map i more false = refl
+
+pub cond-none : (b : Bool) → _≡_ {A = ℕ} (cond b 0 0) 0
+cond-none true = refl
+cond-none false = refl
+
+-- the old node named v after steps 1 to 3, where older nodes hold some states; its new children; and step 4's two tests of it
+module _ (R : Rule) (a older : ℕ) (v : List ℕ) (x : Node) (below : Tree) where
+  abbrev pub here : Grown
+  here = advanced R a older (oldNode v x)
+
+  abbrev pub newKids : Forest Grown
+  newKids = grown R a older (child R a (oldNode v x)) (begunFrom v 0 below)
+
+  abbrev pub gone : Bool
+  gone = eqb (newLabel R a older x) 0
+
+  abbrev pub full : Bool
+  full = eqb (newLabel R a older x) (labels (plain newKids))
+
+  pub full-is : accepts R a older (record { top = x; below = below }) ≡ full
+  unfolding accepts newBelow child oldNode sproutOf
+  full-is = rw (grown-step R a older (child R a (oldNode v x)) (begunFrom v 0 below) refl, held-begunFrom v 0 below)
+
+module _ (R : Rule) (a : ℕ) (E : ℕ → ℕ → ℕ) (number : Origin → ℕ) where
+  -- the pass over the rows of siblings at depth d, and of all below them, with some rows behind: their level is closed
+  abbrev pub Passes : Tree → List ℕ → ℕ → ℕ → ℕ → ℕ → Grown → Bool → List Level → List Row → ℕ → ℕ → List Row → Type 0
+  Passes F p c i d older y b levels rows accepting stable left =
+      passOver E (R .sets) i (pass (level older (child R a y .label) b ∷ levels) rows accepting stable) (rowsFrom d F ++ left)
+      ≡ passOver E (R .sets) (i + size F) (pass levels (rows ++ grownRows number d (grown R a older (child R a y) (begunFrom p c F)))
+      (bitOr accepting (acceptingOf number (grown R a older (child R a y) (begunFrom p c F))))
+      (bitOr stable (cond b (stableOf number p c (grown R a older (child R a y) (begunFrom p c F))) 0))) left
+
+module _ (R : Rule) (a : ℕ) (E : ℕ → ℕ → ℕ) (number : Origin → ℕ)
+    (all : (s : ℕ) → E 0 s ≡ successors R a s)
+    (of : (i s : ℕ) → 1 ≤ i → i ≤ R .sets → E i s ≡ successorsIn R i a s) where
+  module _ (v : List ℕ) (x : Node) (below : Tree) (low : 1 ≤ x .active) (high : x .active ≤ R .sets) (older : ℕ) where
+    abbrev pub N : Grown
+    N = here R a older v x below
+
+    abbrev pub B : Forest Grown
+    B = newKids R a older v x below
+
+    abbrev met : Met
+    met = record { label = newLabel R a older x; kids = labels (plain B); sprout = successorsIn R (x .active) a (x .label) }
+
+    -- steps 1 to 3 at its row
+    met-node : (d : ℕ) → metBy E (rowAt d x below) older ≡ met
+    unfolding metBy newLabel child oldNode
+    met-node d = rw (
+      all (x .label),
+      all (labels below),
+      of (x .active) (x .label) low high,
+      grown-step R a older (child R a (oldNode v x)) (begunFrom v 0 below) refl,
+      held-begunFrom v 0 below,
+      labels-below R a older (successorsIn R (x .active) a (x .label)) below,
+    )
+
+    abbrev pub g : Bool
+    g = gone R a older v x below
+
+    abbrev pub f : Bool
+    f = full R a older v x below
+
+    -- the pass over its rows, given the pass over those of its children
+    pub pass-branch : (i d sprout : ℕ) (b : Bool) (levels : List Level) (rows : List Row) (accepting stable : ℕ) (left : List Row)
+        → length levels ≡ d → number (was v) ≡ i
+        → ((inner : List Level) (rows : List Row) (accepting stable : ℕ) → length inner ≡ suc d
+        → Passes R a E number below v 0 (suc i) (suc d) older (oldNode v x) b inner rows accepting stable left)
+        → passOver E (R .sets) i (pass (level older sprout b ∷ levels) rows accepting stable)
+        (rowAt d x below ∷ (rowsFrom (suc d) below ++ left))
+        ≡ passOver E (R .sets) (suc i + size below) (pass (level (bitOr older (newLabel R a older x)) sprout (cond g false b) ∷ levels)
+        (rows ++ rowsHere number (R .sets) d g f N B)
+        (bitOr accepting (acceptingHere number (R .sets) g f N B))
+        (bitOr stable (cond b (stableHere number (R .sets) v g f N B) 0))) left
+    unfolding deepest rowsHere acceptingHere stableHere advanced child oldNode heldNode
+    pass-branch i d sprout b levels rows accepting stable left deep own ih =
+        pass-meets E (R .sets) i now (rowAt d x below) (rowsFrom (suc d) below ++ left) (ap suc deep)
+        ∙ rw (met-node d) (go g f refl refl)
+      where
+        now : Pass
+        now = pass (level older sprout b ∷ levels) rows accepting stable
+
+        go : (g′ f′ : Bool) → g ≡ g′ → f ≡ f′
+            → passOver E (R .sets) (suc i) (metRow (R .sets) i (rowAt d x below) met now) (rowsFrom (suc d) below ++ left)
+            ≡ passOver E (R .sets) (suc i + size below) (pass (level (bitOr older (newLabel R a older x)) sprout (cond g′ false b) ∷ levels)
+            (rows ++ rowsHere number (R .sets) d g′ f′ N B)
+            (bitOr accepting (acceptingHere number (R .sets) g′ f′ N B))
+            (bitOr stable (cond b (stableHere number (R .sets) v g′ f′ N B) 0))) left
+        go true f′ e _ =
+            rw (
+              met-removed (R .sets) i (rowAt d x below) met (level older sprout b) levels rows accepting stable e,
+              eqb-true (newLabel R a older x) 0 e,
+              or-zero-r older,
+              append-nil rows,
+              or-zero-r accepting,
+              cond-none b,
+              or-zero-r stable,
+            )
+            (pass-below E (R .sets) (suc i) _ (suc d) below left (omega arith))
+        go false true e e′ =
+            rw (
+              met-accepting (R .sets) i (rowAt d x below) met (level older sprout b) levels rows accepting stable e e′,
+              own,
+              joined-or stable i b,
+            )
+            (pass-below E (R .sets) (suc i) _ (suc d) below left (omega arith))
+        go false false e e′ =
+            rw (met-kept (R .sets) i (rowAt d x below) met (level older sprout b) levels rows accepting stable e e′, own)
+            (ih (level (bitOr older (newLabel R a older x)) sprout b ∷ levels) (rows ++ (_ ∷ [])) accepting (joinedIf stable i b)
+            (ap suc deep)
+            ∙ rw (append-assoc rows, joined-more stable i (stableOf number v 0 B) b))

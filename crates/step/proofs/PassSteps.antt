@@ -1,0 +1,102 @@
+-- The pass one move at a time: a level is closed, a row is passed over, or a row is met.
+use mathlib.Core.Path.{_≡_, refl, ap}
+use mathlib.Core.Bool.{Bool, true, false}
+use mathlib.Core.List.{List, [], _∷_, _++_, append-assoc, append-nil}
+use Prim.Native.Nat.{ℕ, suc, _^_, _≤_, _<_}
+use native.Mathlib.Omega.{arith}
+use borrow.Author.Tests.{lt-ltb, le-ltb}
+use lib.Bits.{bitOr}
+use lib.Dec.{eqb}
+use lib.ListN.{length}
+use Rattle.history.specs.Letter.{nextSet}
+use Rattle.tree.specs.declared.rows.Row.{Row}
+use Rattle.step.specs.inner.Pass.{Level, written, sproutRow, levelsTo, sproutsTo, deepest, Pass, closedTo, metBy, metRow, readRow, passOver, settledRow, joinedIf, entered}
+use Rattle.step.specs.declared.pass.Met.{Met}
+
+-- a level and a pass by their parts
+abbrev pub level : ℕ → ℕ → Bool → Level
+level taken sprout named = record { taken = taken; sprout = sprout; named = named }
+
+abbrev pub pass : List Level → List Row → ℕ → ℕ → Pass
+pass levels rows accepting stable = record { levels = levels; rows = rows; accepting = accepting; stable = stable }
+
+-- CLOSING
+
+-- the rows left close a level that has c levels above it: the next one is no deeper than these, or there is none
+abbrev pub Closes : ℕ → List Row → Type 0
+Closes c [] = 0 < c
+Closes c (x ∷ rows) = x .depth < c
+
+-- the row that the closing of a level at depth d writes
+unfoldable pub sproutOfLevel : ℕ → Level → List Row
+sproutOfLevel d l = written (sproutRow d (l .sprout) (l .taken))
+
+-- a level deeper than d is closed
+closed-level : (d : ℕ) (l : Level) (levels : List Level) (rows : List Row) (accepting stable : ℕ) → d < length levels
+    → closedTo d (pass (l ∷ levels) rows accepting stable)
+    ≡ closedTo d (pass levels (rows ++ sproutOfLevel (length levels) l) accepting stable)
+unfolding closedTo levelsTo sproutsTo sproutOfLevel
+closed-level d l levels rows accepting stable h =
+    rw (lt-ltb d (length levels) h, append-assoc rows (written (sproutRow (length levels) (l .sprout) (l .taken))) (sproutsTo d levels))
+
+-- levels no deeper than d stay
+levels-stay : (d : ℕ) (levels : List Level) → length levels ≤ suc d → (levelsTo d levels ≡ levels) × (sproutsTo d levels ≡ [])
+unfolding levelsTo sproutsTo
+levels-stay d [] h = (refl, refl)
+levels-stay d (l ∷ levels) h = let e = le-ltb d (length levels) (omega arith) in (rw e, rw e)
+
+pub none-closed : (d : ℕ) (p : Pass) → length (p .levels) ≤ suc d → closedTo d p ≡ p
+unfolding closedTo
+none-closed d p h = let (same, none) = levels-stay d (p .levels) h in rw (same, none, append-nil (p .rows))
+
+-- READING
+
+module _ (E : ℕ → ℕ → ℕ) (k i : ℕ) where
+  -- the rows left close the deepest level
+  pub pass-closes : (l : Level) (levels : List Level) (rows : List Row) (accepting stable : ℕ) (left : List Row)
+      → Closes (length levels) left
+      → passOver E k i (pass (l ∷ levels) rows accepting stable) left
+      ≡ passOver E k i (pass levels (rows ++ sproutOfLevel (length levels) l) accepting stable) left
+  unfolding passOver
+  pass-closes l levels rows accepting stable [] h = closed-level 0 l levels rows accepting stable h
+  pass-closes l levels rows accepting stable (x ∷ left) h =
+      ap (λ (p : Pass). passOver E k (suc i) (readRow E k i x p) left) (closed-level (x .depth) l levels rows accepting stable h)
+
+  module _ (p : Pass) (x : Row) (left : List Row) where
+    -- a row deeper than the deepest level is passed over
+    pub pass-skips : length (p .levels) ≤ x .depth → passOver E k i p (x ∷ left) ≡ passOver E k (suc i) p left
+    unfolding passOver readRow
+    pass-skips h = rw (none-closed (x .depth) p (omega arith), le-ltb (x .depth) (length (p .levels)) h)
+
+    -- a row of the deepest level is met
+    pub pass-meets : length (p .levels) ≡ suc (x .depth)
+        → passOver E k i p (x ∷ left) ≡ passOver E k (suc i) (metRow k i x (metBy E x (deepest (p .levels) .taken)) p) left
+    unfolding passOver readRow
+    pass-meets h = rw (none-closed (x .depth) p (omega arith), lt-ltb (x .depth) (length (p .levels)) (omega arith))
+
+-- MEETING A ROW
+
+module _ (k i : ℕ) (x : Row) (m : Met) (l : Level) (levels : List Level) (rows : List Row) (accepting stable : ℕ) where
+  -- a node that is removed
+  pub met-removed : eqb (m .label) 0 ≡ true
+      → metRow k i x m (pass (l ∷ levels) rows accepting stable) ≡ pass (level (l .taken) (l .sprout) false ∷ levels) rows accepting stable
+  unfolding metRow entered
+  met-removed gone = rw gone
+
+  -- one that loses its descendants and accepts
+  pub met-accepting : eqb (m .label) 0 ≡ false → eqb (m .label) (m .kids) ≡ true
+      → metRow k i x m (pass (l ∷ levels) rows accepting stable)
+      ≡ pass (level (bitOr (l .taken) (m .label)) (l .sprout) (l .named) ∷ levels)
+      (rows ++ (record { depth = x .depth; label = m .label; kids = 0; active = nextSet k (x .active); old = i } ∷ []))
+      (bitOr accepting (2 ^ i)) (joinedIf stable i (l .named))
+  unfolding metRow entered settledRow joinedIf deepest
+  met-accepting stays full = rw (stays, full)
+
+  -- one that keeps its children
+  pub met-kept : eqb (m .label) 0 ≡ false → eqb (m .label) (m .kids) ≡ false
+      → metRow k i x m (pass (l ∷ levels) rows accepting stable)
+      ≡ pass (level (l .taken) (m .sprout) (l .named) ∷ level (bitOr (l .taken) (m .label)) (l .sprout) (l .named) ∷ levels)
+      (rows ++ (record { depth = x .depth; label = m .label; kids = m .kids; active = x .active; old = i } ∷ []))
+      accepting (joinedIf stable i (l .named))
+  unfolding metRow entered settledRow joinedIf deepest
+  met-kept stays other = rw (stays, other)

@@ -1,0 +1,4 @@
+-- What to believe: the outcome of the call.
+pub mod StepCall
+-- Inside: what the contracts of inner functions cite.
+pub mod inner

@@ -1,0 +1,3 @@
+-- What the contracts of inner functions cite.
+pub mod Pass
+pub mod Stepping

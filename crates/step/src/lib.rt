@@ -1,0 +1,3 @@
+// One letter: the next tree of a tree, and the call on records.
+pub mod call;
+pub mod pass;
