@@ -12,7 +12,7 @@ use Rattle.word.proofs.SameAlong.{along-spellings}
 use Rattle.spelling.specs.SameCall.{sameOutcome, SameAnswers}
 use Rattle.spelling.specs.declared.same.SameAnswer.{SameAnswer}
 use Rattle.history.specs.Finding.{Finding, yes-node, no-node}
-use Rattle.history.proofs.SameAlong.{found-along}
+use Rattle.history.proofs.walk.SameAlong.{found-along}
 use Rattle.treejudge.specs.JudgeCall.{treeAnswer, namesAfter, Judged}
 use Rattle.treejudge.specs.declared.judge.TreeAnswer.{TreeAnswer}
 use Rattle.treejudge.proofs.Examples.{rowTest, row-answers}

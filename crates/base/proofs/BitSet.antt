@@ -1,5 +1,5 @@
--- The laws of sets as bit maps (specs/BitSet.antt) and of the image of a set under a relation (specs/Rule.antt):
--- members of each operation's result, sets with the same members are the same number, a smaller set has fewer members.
+-- The laws of sets as bit maps and of the image of a set under a relation (specs/BitSet.antt): members of each operation's
+-- result, sets with the same members are the same number, a smaller set has fewer members.
 use mathlib.Core.Path.{_≡_, refl, sym, _∙_, ap, ap₂}
 use mathlib.Core.Logic.{_⊎_, inl, inr, ⊎-elim}
 use mathlib.Core.Bool.{Bool, true, false, not, _&&_, _||_, cond, or-assoc}

@@ -1,60 +1,16 @@
 -- The tree theorem, and what it rests on.
-pub mod TreeTheorem
-pub mod WitnessToLasso
-pub mod LassoToWitness
-pub mod WeakerVerdicts
--- The first repeat.
-pub mod RepeatExists
-pub mod FirstRepeats
-pub mod TreeCode
-pub mod Positional
--- Trees along a walk: positions, rounds, witnesses.
-pub mod Stretches
-pub mod RoundPositions
-pub mod TreesOfWalk
-pub mod WitnessByPosition
-pub mod SameSquares
-pub mod SameAlong
-pub mod AroundLoop
-pub mod StatesReached
-pub mod StatesOfTrees
-pub mod AnyRounds
-pub mod NameOrder
-pub mod FirstWitness
--- One node and one letter, paths between accepting letters, the descent into children, siblings.
-pub mod OneNode
-pub mod BranchFits
-pub mod BetweenBreakpoints
-pub mod Descent
-pub mod Siblings
--- One letter: the local form, and that it is document 01's steps.
-pub mod LocalStep
-pub mod LabelsOfStep
-pub mod StepsJoined
-pub mod Names
-pub mod NamesDistinct
-pub mod Origins
-pub mod StableNames
-pub mod AcceptingNames
--- Trees and their records.
-pub mod SetFacts
-pub mod Conditions
-pub mod TreesKept
-pub mod TreesOf
-pub mod Hosts
-pub mod HostLabels
-pub mod Members
-pub mod Tags
-pub mod RecordOfTree
-pub mod QuestionNine
-pub mod RecordChecks
--- For the loops of the tree judge: following names, finding the cycle, naming a node.
-pub mod OriginsDistinct
-pub mod OldNumberLaws
-pub mod FollowingLaws
-pub mod CycleVerdict
-pub mod CutCycle
-pub mod CycleFinding
-pub mod NamesByDepth
--- Verdicts by computation, and the examples of document 01.
-pub mod VerdictTest
+pub mod theorem
+-- Witnesses: the first one, following names through letters, verdicts by computation.
+pub mod verdict
+-- Trees along a walk: positions, rounds, states, and two rules along their walks.
+pub mod walk
+-- The first repeat of a sequence, its search, and that the trees of a walk repeat.
+pub mod repeat
+-- Records of trees, and question 9.
+pub mod records
+-- Names of nodes: their order, where a node comes from, stable and accepting names, old numbers.
+pub mod names
+-- One letter: the local form, that it is document 01's steps, one node, and the trees of a rule.
+pub mod step
+-- What a tree is: sets of states, conditions on nodes, hosts.
+pub mod tree

@@ -1,4 +1,4 @@
--- Rows changed one after the other (specs/Ways.antt).
+-- Rows changed one after the other (specs/inner/Ways.antt).
 use mathlib.Core.Path.{_≡_, refl, _∙_, ap}
 use mathlib.Core.List.{List}
 use Prim.Native.Nat.{ℕ, _+_, _<_}

@@ -1,4 +1,4 @@
--- The search for a loop (specs/Search.antt), as the code makes it.
+-- The search for a loop (specs/inner/Search.antt), as the code makes it.
 use mathlib.Core.Path.{_≡_, sym, _∙_, ap}
 use mathlib.Core.Logic.{inl, inr, ⊎-elim}
 use mathlib.Core.Bool.{true, _&&_, _||_}

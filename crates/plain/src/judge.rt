@@ -37,7 +37,7 @@ pub fn plain_refusal(number: u8) -> PlainAnswer
     }
 }
 
-// The verdict on a walk, right for every rule with these numbers and these tables of the walk's letters.
+// The verdict on a walk, right for every rule with these numbers and these look-ups of the walk's letters.
 fn walk_verdict<'a>(lookups: &Lookups, header: Header, u: &'a [u8], v: &'a [u8]) -> u8
     requires { ⌜ ((R : Rule) × Prepared R header (now lookups) (now u) (now v)) ⌝ }
     ensures { λ r. ⌜ ((R : Rule) → Prepared R header (now (lookups .entry)) (now (u .entry)) (now (v .entry))

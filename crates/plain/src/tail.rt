@@ -18,7 +18,7 @@ ghost use Rattle.rule.specs.Limits.{maxLetters};
 ghost use Rattle.plain.specs.inner.Ways.{Changed};
 ghost use Rattle.plain.specs.inner.Letters.{extended, onward, ownRow, rowAfter};
 
-// A row for each state that the ways come from; specs/Ways.antt says what stands in a row.
+// A row for each state that the ways come from; specs/inner/Ways.antt says what stands in a row.
 pub type Matrix = [u64; LANE_WIDTH];
 
 // Where any transition of a letter leads to from some states; from none nowhere.

@@ -1,4 +1,4 @@
--- The laws of one map of states for each relation, in one number (specs/Lanes.antt): unions, the map for one relation, and maps put into
+-- The laws of one map of states for each relation, in one number (specs/inner/Lanes.antt): unions, the map for one relation, and maps put into
 -- lanes.
 use mathlib.Core.Path.{_≡_, refl, sym, _∙_}
 use mathlib.Core.Bool.{Bool, true, false, _&&_, _||_, cond}

@@ -1,4 +1,4 @@
--- The laws of words of lanes (specs/Lanes.antt): the map in a lane, words made of maps, lanes chosen, and maps put into them.
+-- The laws of words of lanes (specs/inner/Lanes.antt): the map in a lane, words made of maps, lanes chosen, and maps put into them.
 use mathlib.Core.Path.{_≡_, refl, sym, _∙_, ap, ap₂}
 use mathlib.Core.Bool.{Bool, true, false, _&&_, cond}
 use Prim.Native.Nat.{ℕ, zero, suc, _+_, _*_, _/_, _%_, _^_, _≤_, _<_}

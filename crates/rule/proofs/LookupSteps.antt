@@ -1,5 +1,5 @@
--- The look-up that the code makes from the words of a letter's states is the letter's look-up (specs/Lookup.antt), and the steps by
--- which it makes it (specs/LookupSteps.antt).
+-- The look-up that the code makes from the words of a letter's states is the letter's look-up (specs/inner/Lookup.antt), and the steps by
+-- which it makes it (specs/inner/LookupSteps.antt).
 use mathlib.Core.Path.{_≡_, refl, sym, _∙_, ap, ap₂}
 use mathlib.Core.Logic.{_⊎_, inl, inr, ⊎-elim}
 use mathlib.Core.Bool.{Bool, true, false, not, _&&_, cond, and-false}

@@ -1,4 +1,4 @@
-// A word of lanes: some maps of states in one number, each in a lane of its own. This module and specs/Lanes.antt, which has the same
+// A word of lanes: some maps of states in one number, each in a lane of its own. This module and specs/inner/Lanes.antt, which has the same
 // numbers, alone say where a lane lies.
 ghost use mathlib.Core.Path.{_≡_};
 ghost use Prim.Native.Nat.{suc, _*_, _^_, _<_, _≤_};

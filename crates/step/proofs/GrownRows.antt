@@ -9,8 +9,8 @@ use Rattle.base.proofs.BitSet.{union-assoc}
 use Rattle.history.specs.Forest.{Forest, nil, node, change, listing, Named, namedFrom, named, sameNumbers}
 use Rattle.history.specs.Tree.{labels}
 use Rattle.history.specs.Letter.{Origin, was, Grown, kept, nextSet, isOld}
-use Rattle.history.proofs.StepsJoined.{plainNode, plain}
-use Rattle.history.proofs.Names.{same-self}
+use Rattle.history.proofs.step.StepsJoined.{plainNode, plain}
+use Rattle.history.proofs.names.Names.{same-self}
 use Rattle.tree.specs.inner.Rows.{rowsFrom, withoutOld}
 use Rattle.tree.specs.declared.rows.Row.{Row}
 use Rattle.step.specs.inner.Pass.{Pass}

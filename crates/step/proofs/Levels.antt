@@ -1,4 +1,4 @@
--- The levels of a pass as they stand in three arrays by depth: what a store changes, and that the stores at a met row
+-- The levels of a pass as they stand in three arrays by depth: what a store changes, and that the stores at a row that is read
 -- leave the levels that the pass has there.
 use mathlib.Core.Path.{_≡_, refl, ap}
 use mathlib.Core.Bool.{Bool, false}
@@ -12,7 +12,7 @@ use lib.ListN.{length, getD, set, length-set}
 use lib.Seq.{getD-set-same, getD-set-other}
 use Rattle.rule.specs.Limits.{maxStates}
 use Rattle.step.specs.inner.Pass.{levelsOf, ByDepth, entered, Entered}
-use Rattle.step.specs.declared.pass.Met.{Met}
+use Rattle.step.specs.declared.pass.NewLabels.{NewLabels}
 
 -- as many levels as asked for
 pub levels-length : (c : ℕ) (taken sprout : List ℕ) (named : List Bool) → length (levelsOf c taken sprout named) ≡ c
@@ -43,7 +43,7 @@ levels-named (suc c) d v taken sprout named h =
     rw (getD-set-other named d c v false (λ e. omega arith), levels-named c d v taken sprout named (omega arith))
 
 -- what `enter` leaves in the arrays
-module _ (m : Met) (top : ℕ) (taken sprout : List ℕ) (named : List Bool) (room : top < maxStates) (sizes : ByDepth taken sprout named) where
+module _ (m : NewLabels) (top : ℕ) (taken sprout : List ℕ) (named : List Bool) (room : top < maxStates) (sizes : ByDepth taken sprout named) where
   abbrev before : ℕ
   before = getD taken top 0
 

@@ -16,8 +16,8 @@ use Rattle.history.specs.Forest.{Forest, nil, node, size, listing, named, names
 use Rattle.history.specs.Tree.{Tree}
 use Rattle.history.specs.Letter.{Origin, was, sprouted, survivors, isOld, accepting, stable, byNumber, acceptingMap, stableMap}
 use Rattle.history.specs.inner.OldNumbers.{noNode, oldNumber}
-use Rattle.history.proofs.Conditions.{OneRoot}
-use Rattle.history.proofs.Names.{same-self, same-equal, any-node}
+use Rattle.history.proofs.tree.Conditions.{OneRoot}
+use Rattle.history.proofs.names.Names.{same-self, same-equal, any-node}
 use Rattle.step.proofs.GrownRows.{marked, keepsName, acceptingOf, stableIn}
 use Rattle.step.proofs.OldNumbers.{old-number}
 

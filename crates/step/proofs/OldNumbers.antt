@@ -14,10 +14,10 @@ use Rattle.history.specs.Forest.{nil, node, size, names, sameNumbers}
 use Rattle.history.specs.Tree.{Node, Tree}
 use Rattle.history.specs.Letter.{Origin, was, sprouted, isOld}
 use Rattle.history.specs.inner.OldNumbers.{noNode, numberFrom, oldNumber}
-use Rattle.history.proofs.Conditions.{OneRoot}
-use Rattle.history.proofs.Names.{same-self, same-equal}
-use Rattle.history.proofs.NamesDistinct.{names-distinct, length-names}
-use Rattle.history.proofs.NameOrder.{namesFrom, names-root}
+use Rattle.history.proofs.tree.Conditions.{OneRoot}
+use Rattle.history.proofs.names.Names.{same-self, same-equal}
+use Rattle.history.proofs.names.NamesDistinct.{names-distinct, length-names}
+use Rattle.history.proofs.names.NameOrder.{namesFrom, names-root}
 use Rattle.step.proofs.PassTree.{Numbered}
 
 -- the test of equality is symmetric

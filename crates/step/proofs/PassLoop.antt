@@ -20,11 +20,11 @@ use Rattle.tree.specs.inner.RecordRows.{places}
 use Rattle.tree.specs.inner.Sides.{TwoSides}
 use Rattle.tree.specs.declared.rows.Row.{Row}
 use Rattle.tree.proofs.PackedWords.{row-read, row-written, rows-many}
-use Rattle.step.specs.inner.Pass.{SetsFit, metBy, sproutRow, settledRow, written, joinedIf, Level, outermost, deepest, Pass, metRow, passOver, atStart, steppedRows, levelsOf, ByDepth, Entered}
+use Rattle.step.specs.inner.Pass.{SetsFit, newLabels, sproutRow, settledRow, written, joinedIf, Level, outermost, deepest, Pass, passedRow, passOver, atStart, steppedRows, levelsOf, ByDepth, Entered}
 use Rattle.step.specs.inner.Stepping.{rowsOn, Steppable, Stepping}
-use Rattle.step.specs.declared.pass.Met.{Met}
+use Rattle.step.specs.declared.pass.NewLabels.{NewLabels}
 use Rattle.step.proofs.Levels.{levels-length}
-use Rattle.step.proofs.PassSteps.{Closes, sproutOfLevel, none-closed, pass-closes, pass-skips, pass-meets}
+use Rattle.step.proofs.PassSteps.{Closes, sproutOfLevel, none-closed, pass-closes, pass-skips, pass-reads}
 
 -- ROWS IN AN ARRAY
 
@@ -177,18 +177,18 @@ module _ (lookup : Lookup) (k count : ℕ) (rows : List Row) where
             (rw (levels-length (suc top) taken sprout named) (omega arith))) ∙ opened);
       }
 
-      module _ (here : depth ≡ top) (m : Met) (met : m ≡ metBy (lookUp lookup) x (getD taken top 0))
+      module _ (here : depth ≡ top) (m : NewLabels) (made : m ≡ newLabels (lookUp lookup) x (getD taken top 0))
           {next : ℕ} {taken′ sprout′ : List ℕ} {named′ : List Bool}
           (in-arrays : Entered m top taken sprout named next taken′ sprout′ named′) where
-        -- a row of the deepest level is met,
-        met-pass : passOver (lookUp lookup) k (suc i) (metRow k i x m now) behind ≡ whole
-        met-pass = let d = depth-is in
-            rw (met, ← ap (λ (l : Level). l .taken) (deepest-is top taken sprout named))
-            (sym (pass-meets (lookUp lookup) k i now x behind (levels-length (suc top) taken sprout named ∙ omega arith)) ∙ opened)
+        -- a row of the deepest level is read,
+        passed-whole : passOver (lookUp lookup) k (suc i) (passedRow k i x m now) behind ≡ whole
+        passed-whole = let d = depth-is in
+            rw (made, ← ap (λ (l : Level). l .taken) (deepest-is top taken sprout named))
+            (sym (pass-reads (lookUp lookup) k i now x behind (levels-length (suc top) taken sprout named ∙ omega arith)) ∙ opened)
 
         -- and its node is removed,
         pub row-removed : m .label ≡ 0 → Reading out taken′ sprout′ named′ accepting stable next (i + 1) j
-        unfolding metRow
+        unfolding passedRow
         row-removed gone = record {
           few = v .few;
           long = v .long;
@@ -197,14 +197,14 @@ module _ (lookup : Lookup) (k count : ℕ) (rows : List Row) where
           fewer = omega (arith, v .fewer, in-arrays .deeper);
           by-depth = in-arrays .sizes;
           size = v .size;
-          rest = rw (add-one i, in-arrays .levels) (rw (eq-eqb (m .label) 0 gone) at met-pass);
+          rest = rw (add-one i, in-arrays .levels) (rw (eq-eqb (m .label) 0 gone) at passed-whole);
         }
 
         -- or written
         pub row-kept : (m .label ≡ 0 → ⊥) → (y : Row) → y ≡ settledRow k x m i → (accepting′ stable′ : ℕ)
             → accepting′ ≡ joinedIf accepting i (eqb (m .label) (m .kids)) → stable′ ≡ joinedIf stable i (getD named top false)
             → Reading (set out j y) taken′ sprout′ named′ accepting′ stable′ next (i + 1) (j + 1)
-        unfolding metRow
+        unfolding passedRow
         row-kept stays y settled accepting′ stable′ accepts keeps =
             let room : j < length out = omega (arith, v .fewer, v .few, v .size) in record {
               few = v .few;
@@ -215,7 +215,7 @@ module _ (lookup : Lookup) (k count : ℕ) (rows : List Row) where
               by-depth = in-arrays .sizes;
               size = length-set out j y ∙ v .size;
               rest = rw (add-one i, in-arrays .levels, row-behind out j y room, settled, accepts, keeps)
-                  (rw (ne-eqb (m .label) 0 stays, deepest-is top taken sprout named) at met-pass);
+                  (rw (ne-eqb (m .label) 0 stays, deepest-is top taken sprout named) at passed-whole);
             }
 
   -- where the loop ends the pass is over

@@ -14,14 +14,14 @@ use Rattle.rule.specs.Rule.{Rule, successors, successorsIn}
 use Rattle.history.specs.Forest.{Forest, nil, node, size}
 use Rattle.history.specs.Tree.{Node, Tree, labels}
 use Rattle.history.specs.Letter.{Origin, was, Grown, child}
-use Rattle.history.proofs.LocalStep.{newLabel, sproutOf, newBelow, accepts, step}
-use Rattle.history.proofs.LabelsOfStep.{labels-step}
-use Rattle.history.proofs.StepsJoined.{plain, heldNode, grown, advanced, grown-step, oldNode, begunFrom, held-begunFrom}
+use Rattle.history.proofs.step.LocalStep.{newLabel, sproutOf, newBelow, accepts, step}
+use Rattle.history.proofs.step.LabelsOfStep.{labels-step}
+use Rattle.history.proofs.step.StepsJoined.{plain, heldNode, grown, advanced, grown-step, oldNode, begunFrom, held-begunFrom}
 use Rattle.tree.specs.inner.Rows.{rowsFrom}
 use Rattle.tree.specs.declared.rows.Row.{Row}
-use Rattle.step.specs.inner.Pass.{metBy, Level, joinedIf, deepest, Pass, metRow, passOver}
-use Rattle.step.specs.declared.pass.Met.{Met}
-use Rattle.step.proofs.PassSteps.{level, pass, pass-skips, pass-meets, met-removed, met-accepting, met-kept}
+use Rattle.step.specs.inner.Pass.{newLabels, Level, joinedIf, deepest, Pass, passedRow, passOver}
+use Rattle.step.specs.declared.pass.NewLabels.{NewLabels}
+use Rattle.step.proofs.PassSteps.{level, pass, pass-skips, pass-reads, passed-removed, passed-accepting, passed-kept}
 use Rattle.step.proofs.GrownRows.{grownRows, acceptingOf, stableOf, rowsHere, acceptingHere, stableHere}
 
 -- the row of a node at depth d
@@ -100,13 +100,13 @@ module _ (R : Rule) (a : ℕ) (E : ℕ → ℕ → ℕ) (number : Origin → ℕ
     abbrev pub B : Forest Grown
     B = newKids R a older v x below
 
-    abbrev met : Met
-    met = record { label = newLabel R a older x; kids = labels (plain B); sprout = successorsIn R (x .active) a (x .label) }
+    abbrev made : NewLabels
+    made = record { label = newLabel R a older x; kids = labels (plain B); sprout = successorsIn R (x .active) a (x .label) }
 
     -- steps 1 to 3 at its row
-    met-node : (d : ℕ) → metBy E (rowAt d x below) older ≡ met
-    unfolding metBy newLabel child oldNode
-    met-node d = rw (
+    made-node : (d : ℕ) → newLabels E (rowAt d x below) older ≡ made
+    unfolding newLabels newLabel child oldNode
+    made-node d = rw (
       all (x .label),
       all (labels below),
       of (x .active) (x .label) low high,
@@ -134,21 +134,21 @@ module _ (R : Rule) (a : ℕ) (E : ℕ → ℕ → ℕ) (number : Origin → ℕ
         (bitOr stable (cond b (stableHere number (R .sets) v g f N B) 0))) left
     unfolding deepest rowsHere acceptingHere stableHere advanced child oldNode heldNode
     pass-branch i d sprout b levels rows accepting stable left deep own ih =
-        pass-meets E (R .sets) i now (rowAt d x below) (rowsFrom (suc d) below ++ left) (ap suc deep)
-        ∙ rw (met-node d) (go g f refl refl)
+        pass-reads E (R .sets) i now (rowAt d x below) (rowsFrom (suc d) below ++ left) (ap suc deep)
+        ∙ rw (made-node d) (go g f refl refl)
       where
         now : Pass
         now = pass (level older sprout b ∷ levels) rows accepting stable
 
         go : (g′ f′ : Bool) → g ≡ g′ → f ≡ f′
-            → passOver E (R .sets) (suc i) (metRow (R .sets) i (rowAt d x below) met now) (rowsFrom (suc d) below ++ left)
+            → passOver E (R .sets) (suc i) (passedRow (R .sets) i (rowAt d x below) made now) (rowsFrom (suc d) below ++ left)
             ≡ passOver E (R .sets) (suc i + size below) (pass (level (bitOr older (newLabel R a older x)) sprout (cond g′ false b) ∷ levels)
             (rows ++ rowsHere number (R .sets) d g′ f′ N B)
             (bitOr accepting (acceptingHere number (R .sets) g′ f′ N B))
             (bitOr stable (cond b (stableHere number (R .sets) v g′ f′ N B) 0))) left
         go true f′ e _ =
             rw (
-              met-removed (R .sets) i (rowAt d x below) met (level older sprout b) levels rows accepting stable e,
+              passed-removed (R .sets) i (rowAt d x below) made (level older sprout b) levels rows accepting stable e,
               eqb-true (newLabel R a older x) 0 e,
               or-zero-r older,
               append-nil rows,
@@ -159,13 +159,13 @@ module _ (R : Rule) (a : ℕ) (E : ℕ → ℕ → ℕ) (number : Origin → ℕ
             (pass-below E (R .sets) (suc i) _ (suc d) below left (omega arith))
         go false true e e′ =
             rw (
-              met-accepting (R .sets) i (rowAt d x below) met (level older sprout b) levels rows accepting stable e e′,
+              passed-accepting (R .sets) i (rowAt d x below) made (level older sprout b) levels rows accepting stable e e′,
               own,
               joined-or stable i b,
             )
             (pass-below E (R .sets) (suc i) _ (suc d) below left (omega arith))
         go false false e e′ =
-            rw (met-kept (R .sets) i (rowAt d x below) met (level older sprout b) levels rows accepting stable e e′, own)
+            rw (passed-kept (R .sets) i (rowAt d x below) made (level older sprout b) levels rows accepting stable e e′, own)
             (ih (level (bitOr older (newLabel R a older x)) sprout b ∷ levels) (rows ++ (_ ∷ [])) accepting (joinedIf stable i b)
             (ap suc deep)
             ∙ rw (append-assoc rows, joined-more stable i (stableOf number v 0 B) b))

@@ -1,4 +1,4 @@
--- The pass one move at a time: a level is closed, a row is passed over, or a row is met.
+-- The pass one move at a time: a level is closed, a row is passed over, or a row is read.
 use mathlib.Core.Path.{_≡_, refl, ap}
 use mathlib.Core.Bool.{Bool, true, false}
 use mathlib.Core.List.{List, [], _∷_, _++_, append-assoc, append-nil}
@@ -10,8 +10,8 @@ use lib.Dec.{eqb}
 use lib.ListN.{length}
 use Rattle.history.specs.Letter.{nextSet}
 use Rattle.tree.specs.declared.rows.Row.{Row}
-use Rattle.step.specs.inner.Pass.{Level, written, sproutRow, levelsTo, sproutsTo, deepest, Pass, closedTo, metBy, metRow, readRow, passOver, settledRow, joinedIf, entered}
-use Rattle.step.specs.declared.pass.Met.{Met}
+use Rattle.step.specs.inner.Pass.{Level, written, sproutRow, levelsTo, sproutsTo, deepest, Pass, closedTo, newLabels, passedRow, readRow, passOver, settledRow, joinedIf, entered}
+use Rattle.step.specs.declared.pass.NewLabels.{NewLabels}
 
 -- a level and a pass by their parts
 abbrev pub level : ℕ → ℕ → Bool → Level
@@ -68,35 +68,35 @@ module _ (E : ℕ → ℕ → ℕ) (k i : ℕ) where
     unfolding passOver readRow
     pass-skips h = rw (none-closed (x .depth) p (omega arith), le-ltb (x .depth) (length (p .levels)) h)
 
-    -- a row of the deepest level is met
-    pub pass-meets : length (p .levels) ≡ suc (x .depth)
-        → passOver E k i p (x ∷ left) ≡ passOver E k (suc i) (metRow k i x (metBy E x (deepest (p .levels) .taken)) p) left
+    -- a row of the deepest level is read
+    pub pass-reads : length (p .levels) ≡ suc (x .depth)
+        → passOver E k i p (x ∷ left) ≡ passOver E k (suc i) (passedRow k i x (newLabels E x (deepest (p .levels) .taken)) p) left
     unfolding passOver readRow
-    pass-meets h = rw (none-closed (x .depth) p (omega arith), lt-ltb (x .depth) (length (p .levels)) (omega arith))
+    pass-reads h = rw (none-closed (x .depth) p (omega arith), lt-ltb (x .depth) (length (p .levels)) (omega arith))
 
 -- MEETING A ROW
 
-module _ (k i : ℕ) (x : Row) (m : Met) (l : Level) (levels : List Level) (rows : List Row) (accepting stable : ℕ) where
+module _ (k i : ℕ) (x : Row) (m : NewLabels) (l : Level) (levels : List Level) (rows : List Row) (accepting stable : ℕ) where
   -- a node that is removed
-  pub met-removed : eqb (m .label) 0 ≡ true
-      → metRow k i x m (pass (l ∷ levels) rows accepting stable) ≡ pass (level (l .taken) (l .sprout) false ∷ levels) rows accepting stable
-  unfolding metRow entered
-  met-removed gone = rw gone
+  pub passed-removed : eqb (m .label) 0 ≡ true
+      → passedRow k i x m (pass (l ∷ levels) rows accepting stable) ≡ pass (level (l .taken) (l .sprout) false ∷ levels) rows accepting stable
+  unfolding passedRow entered
+  passed-removed gone = rw gone
 
   -- one that loses its descendants and accepts
-  pub met-accepting : eqb (m .label) 0 ≡ false → eqb (m .label) (m .kids) ≡ true
-      → metRow k i x m (pass (l ∷ levels) rows accepting stable)
+  pub passed-accepting : eqb (m .label) 0 ≡ false → eqb (m .label) (m .kids) ≡ true
+      → passedRow k i x m (pass (l ∷ levels) rows accepting stable)
       ≡ pass (level (bitOr (l .taken) (m .label)) (l .sprout) (l .named) ∷ levels)
       (rows ++ (record { depth = x .depth; label = m .label; kids = 0; active = nextSet k (x .active); old = i } ∷ []))
       (bitOr accepting (2 ^ i)) (joinedIf stable i (l .named))
-  unfolding metRow entered settledRow joinedIf deepest
-  met-accepting stays full = rw (stays, full)
+  unfolding passedRow entered settledRow joinedIf deepest
+  passed-accepting stays full = rw (stays, full)
 
   -- one that keeps its children
-  pub met-kept : eqb (m .label) 0 ≡ false → eqb (m .label) (m .kids) ≡ false
-      → metRow k i x m (pass (l ∷ levels) rows accepting stable)
+  pub passed-kept : eqb (m .label) 0 ≡ false → eqb (m .label) (m .kids) ≡ false
+      → passedRow k i x m (pass (l ∷ levels) rows accepting stable)
       ≡ pass (level (l .taken) (m .sprout) (l .named) ∷ level (bitOr (l .taken) (m .label)) (l .sprout) (l .named) ∷ levels)
       (rows ++ (record { depth = x .depth; label = m .label; kids = m .kids; active = x .active; old = i } ∷ []))
       accepting (joinedIf stable i (l .named))
-  unfolding metRow entered settledRow joinedIf deepest
-  met-kept stays other = rw (stays, other)
+  unfolding passedRow entered settledRow joinedIf deepest
+  passed-kept stays other = rw (stays, other)

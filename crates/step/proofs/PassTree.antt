@@ -15,10 +15,10 @@ use Rattle.history.specs.Forest.{Forest, nil, node, size, change, namedFrom, na
 use Rattle.history.specs.Tree.{Node, Tree, labels}
 use Rattle.history.specs.Letter.{Origin, was, sprouted, Grown, child, kept, fiveSteps}
 use Rattle.history.specs.inner.OldNumbers.{noNode}
-use Rattle.history.proofs.LocalStep.{newLabel}
-use Rattle.history.proofs.Conditions.{Fits}
-use Rattle.history.proofs.StepsJoined.{grown, advanced, grown-new, oldNode, begunFrom}
-use Rattle.history.proofs.Origins.{grownBranch, grown-begun, steps-dead, steps-root}
+use Rattle.history.proofs.step.LocalStep.{newLabel}
+use Rattle.history.proofs.tree.Conditions.{Fits}
+use Rattle.history.proofs.step.StepsJoined.{grown, advanced, grown-new, oldNode, begunFrom}
+use Rattle.history.proofs.names.Origins.{grownBranch, grown-begun, steps-dead, steps-root}
 use Rattle.tree.specs.inner.Rows.{rowsFrom, rowsOf}
 use Rattle.tree.specs.declared.rows.Row.{Row}
 use Rattle.step.specs.inner.Pass.{Level, sproutRow, written, Pass, closedTo, levelsTo, sproutsTo, passOver, atStart}

@@ -11,10 +11,10 @@ use Rattle.rule.specs.Rule.{Rule}
 use Rattle.history.specs.Forest.{Forest, nil, node, change, namedFrom, sameNumbers}
 use Rattle.history.specs.Tree.{Tree}
 use Rattle.history.specs.Letter.{Origin, was, sprouted, Grown, child, kept, isOld}
-use Rattle.history.proofs.LocalStep.{newLabel}
-use Rattle.history.proofs.StepsJoined.{grown, advanced, grown-new, oldNode, begunFrom}
-use Rattle.history.proofs.Names.{same-equal}
-use Rattle.history.proofs.Origins.{grownBranch, grown-begun}
+use Rattle.history.proofs.step.LocalStep.{newLabel}
+use Rattle.history.proofs.step.StepsJoined.{grown, advanced, grown-new, oldNode, begunFrom}
+use Rattle.history.proofs.names.Names.{same-equal}
+use Rattle.history.proofs.names.Origins.{grownBranch, grown-begun}
 use Rattle.step.proofs.GrownRows.{marked, keepsName, stableOf}
 
 -- names that are the same up to their last number, and in that

@@ -1,4 +1,4 @@
--- One letter on a record, under a rule and by the letter's table: what is answered, and what is left in the buffer, from the tree that was
+-- One letter on a record, under a rule and by the letter's look-up: what is answered, and what is left in the buffer, from the tree that was
 -- read and from what the letter has made of its rows.
 use mathlib.Core.Path.{_≡_, refl, sym, _∙_, ap}
 use mathlib.Core.List.{List}
@@ -18,8 +18,8 @@ use Rattle.table.specs.declared.header.Header.{Header}
 use Rattle.history.specs.Forest.{size}
 use Rattle.history.specs.Tree.{Tree}
 use Rattle.history.specs.Record.{readTree}
-use Rattle.history.proofs.QuestionNine.{record-accepted}
-use Rattle.history.proofs.TreesOf.{of-tree}
+use Rattle.history.proofs.records.QuestionNine.{record-accepted}
+use Rattle.history.proofs.step.TreesOf.{of-tree}
 use Rattle.tree.specs.inner.PackedRows.{countedRows}
 use Rattle.tree.specs.inner.RecordCode.{checkedTree, countAs, treeBeside, Checks}
 use Rattle.tree.specs.inner.Rows.{HoldsTree}
@@ -110,7 +110,7 @@ module _ {R : Rule} {header : Header} {a : ℕ} {lookup : Lookup} (p : PreparedL
         pub step-ready : Steppable sides 0 count
         step-ready = place-ready (p .limits) sides first here (laid .arrays, omega arith)
 
-        -- and its table is the rule's: so the next tree is on the second
+        -- and its look-up is the rule's: so the next tree is on the second
         module _ {r : Stepped} {after : List (List ℕ)}
             (step : Stepping (steppedRows lookup (header .sets) (rowsOn sides 0 count)) 0 sides r after) where
           sets : R .sets ≡ header .sets

@@ -21,9 +21,9 @@ use Rattle.history.specs.Forest.{nil, node, size}
 use Rattle.history.specs.Tree.{Tree, isTreeOf}
 use Rattle.history.specs.Letter.{sprouted, fiveSteps, survivors, nextTree}
 use Rattle.history.specs.inner.OldNumbers.{noNode, oldNumber, oldNumbers}
-use Rattle.history.proofs.Conditions.{Fits, Active, OneRoot}
-use Rattle.history.proofs.TreesOf.{of-out, of-root, of-few, of-nested, next-is-tree}
-use Rattle.history.proofs.StepsJoined.{plainNode, survivors-steps}
+use Rattle.history.proofs.tree.Conditions.{Fits, Active, OneRoot}
+use Rattle.history.proofs.step.TreesOf.{of-out, of-root, of-few, of-nested, next-is-tree}
+use Rattle.history.proofs.step.StepsJoined.{plainNode, survivors-steps}
 use Rattle.tree.specs.inner.PackedRows.{countedRows}
 use Rattle.tree.specs.inner.Rows.{rowsFrom, rowsOf, withoutOld, AreRows, HoldsTree, blankRow}
 use Rattle.tree.specs.inner.Sides.{treeOn, Stands}
@@ -32,7 +32,7 @@ use Rattle.tree.specs.declared.rows.Tree.{Tree as CodeTree}
 use Rattle.tree.specs.declared.sides.OnSide.{OnSide}
 use Rattle.tree.proofs.TreeRows.{rows-size, rows-are-nodes, tree-small}
 use Rattle.step.specs.inner.Stepping.{StepsTo, rowsOn, Steppable, Stepping}
-use Rattle.step.specs.inner.Pass.{metBy, joinedIf, settledRow, deepest, Pass, closedTo, metRow, readRow, passOver, atStart, SetsFit, steppedRows}
+use Rattle.step.specs.inner.Pass.{newLabels, joinedIf, settledRow, deepest, Pass, closedTo, passedRow, readRow, passOver, atStart, SetsFit, steppedRows}
 use Rattle.step.specs.declared.pass.Stepped.{Stepped}
 use Rattle.step.proofs.GrownRows.{Gives, grown-rows, grown-olds}
 use Rattle.step.proofs.PassTree.{pass-dead, pass-root}
@@ -43,7 +43,7 @@ use Rattle.step.proofs.MapsByNumber.{accepting-map, stable-map}
 
 -- the old numbers of the rows read do not count
 pass-without-old : (E : ℕ → ℕ → ℕ) (k i : ℕ) (p : Pass) (rows : List Row) → passOver E k i p (map withoutOld rows) ≡ passOver E k i p rows
-unfolding passOver readRow metRow metBy settledRow
+unfolding passOver readRow passedRow newLabels settledRow
 pass-without-old E k i p [] = refl
 pass-without-old E k i p (x ∷ rows) = pass-without-old E k (suc i) (readRow E k i x (closedTo (x .depth) p)) rows
 
@@ -61,11 +61,11 @@ either-below i true p q h k = h
 either-below i false p q h k = k
 
 read-below : (E : ℕ → ℕ → ℕ) (k i : ℕ) (x : Row) (p : Pass) → MapsBelow i p → MapsBelow (suc i) (readRow E k i x p)
-unfolding readRow metRow
+unfolding readRow passedRow
 read-below E k i x p (a, s) =
     let more : MapsBelow (suc i) p = (omega (arith, pow-suc 2 i), omega (arith, pow-suc 2 i)) in
     either-below (suc i) (ltb (x .depth) (length (p .levels))) _ p
-    (either-below (suc i) (eqb (metBy E x (deepest (p .levels) .taken) .label) 0) _ _ more
+    (either-below (suc i) (eqb (newLabels E x (deepest (p .levels) .taken) .label) 0) _ _ more
     (joined-below (p .accepting) i _ a, joined-below (p .stable) i _ s)) more
 
 pass-below : (E : ℕ → ℕ → ℕ) (k i : ℕ) (p : Pass) (rows : List Row) → MapsBelow i p → MapsBelow (i + length rows) (passOver E k i p rows)

@@ -38,7 +38,7 @@ fn step_refusal(number: u8) -> StepAnswer
     }
 }
 
-// Questions 9 and 10, then the letter, by its table and the numbers of a rule. It is right for every rule and letter that these are of.
+// Questions 9 and 10, then the letter, by its look-up and the numbers of a rule. It is right for every rule and letter that these are of.
 fn step_prepared(lookup: &Lookup, header: Header, bytes: &[u8], buffer: &mut [u8]) -> StepAnswer
     requires { ⌜ ((R : Rule) × (a : ℕ) × PreparedLetter R header a (now lookup)) ⌝ }
     ensures { λ r. ⌜ ((R : Rule) (a : ℕ) → PreparedLetter R header a (now (lookup .entry))

@@ -6,8 +6,8 @@ use rule::lookup::Lookup;
 use rule::lookup::look_up;
 use tree::packed::pack;
 use tree::packed::unpack;
+use tree::rows::DoubleBuffer;
 use tree::rows::Row;
-use tree::rows::Sides;
 use tree::rows::Tree;
 ghost use mathlib.Core.Path.{_≡_};
 ghost use mathlib.Core.Bool.{cond};
@@ -17,7 +17,7 @@ ghost use Rattle.base.specs.BitSet.{minus};
 ghost use Rattle.rule.specs.Limits.{maxStates, maxSets};
 ghost use Rattle.rule.specs.inner.Lookup.{lookUp};
 ghost use Rattle.history.specs.Letter.{nextSet};
-ghost use Rattle.step.specs.inner.Pass.{metBy, sproutRow, settledRow, joinedIf, ByDepth, Entered, steppedRows};
+ghost use Rattle.step.specs.inner.Pass.{newLabels, sproutRow, settledRow, joinedIf, ByDepth, Entered, steppedRows};
 ghost use Rattle.step.specs.inner.Stepping.{rowsOn, Steppable, Stepping};
 
 // The number of no node.
@@ -35,7 +35,7 @@ type ByDepth = [u16; Tree::NODES + 1];
 
 // What becomes of a row in steps 1 to 3: its label, the union of its children's labels, and the label that its sprouted
 // child is given in step 2.
-pub struct Met {
+pub struct NewLabels {
     pub label: u16,
     pub kids: u16,
     pub sprout: u16,
@@ -48,15 +48,15 @@ fn minus(a: u16, b: u16) -> u16
 }
 
 // Steps 1 to 3 at a row, where older siblings of its node and of its ancestors have taken the states `taken`.
-fn meet(lookup: &Lookup, x: Row, taken: u16) -> Met
+fn new_labels(lookup: &Lookup, x: Row, taken: u16) -> NewLabels
     requires { ⌜ x .active ≤ maxSets ⌝ }
-    ensures { λ r. ⌜ r ≡ metBy (lookUp (now (lookup .entry))) x taken ⌝ }
+    ensures { λ r. ⌜ r ≡ newLabels (lookUp (now (lookup .entry))) x taken ⌝ }
 {
     let images = look_up(lookup, x.label);
     let label = map_of(images, 0);
     let sprout = map_of(images, x.active as usize);
     let kids = map_of(look_up(lookup, x.kids), 0);
-    Met {
+    NewLabels {
         label: minus(label, taken),
         kids: minus(kids | sprout, taken),
         sprout: sprout,
@@ -85,15 +85,15 @@ fn next_set(k: u8, active: u8) -> u8
     if active < k { active + 1 } else { 1 }
 }
 
-// Step 4 at a row with a non-empty label: accepting and without descendants, or as it was met.
-fn settled_row(k: u8, x: Row, met: Met, old: usize) -> Row
+// Step 4 at a row with a non-empty label: accepting and without descendants, or with its new labels.
+fn settled_row(k: u8, x: Row, made: NewLabels, old: usize) -> Row
     requires { ⌜ (x .active ≤ maxSets) × (old < maxStates) ⌝ }
-    ensures { λ r. ⌜ r ≡ settledRow k x met old ⌝ }
+    ensures { λ r. ⌜ r ≡ settledRow k x made old ⌝ }
 {
-    if met.label == met.kids {
+    if made.label == made.kids {
         Row {
             depth: x.depth,
-            label: met.label,
+            label: made.label,
             kids: 0,
             active: next_set(k, x.active),
             old: old as u8,
@@ -101,8 +101,8 @@ fn settled_row(k: u8, x: Row, met: Met, old: usize) -> Row
     } else {
         Row {
             depth: x.depth,
-            label: met.label,
-            kids: met.kids,
+            label: made.label,
+            kids: made.kids,
             active: x.active,
             old: old as u8,
         }
@@ -124,32 +124,32 @@ fn next_depth(x: Row, i: usize, count: usize) -> usize
     if i < count { x.depth as usize } else { 0 }
 }
 
-// What is known by depth once a row at depth `top` is met, and the depth of the next rows. A removed node costs its younger
+// What is known by depth once a row at depth `top` is read, and the depth of the next rows. A removed node costs its younger
 // siblings their names (step 5); another takes its states from them (step 3); a kept one is followed by its children.
 fn enter(
     taken: &mut ByDepth,
     sprout: &mut ByDepth,
     named: &mut [bool; Tree::NODES + 1],
     top: usize,
-    met: Met,
+    made: NewLabels,
 ) -> usize
     requires { ⌜ (top < maxStates) × ByDepth (now taken) (now sprout) (now named) ⌝ }
-    ensures { λ r. ⌜ Entered met top (now (taken .entry)) (now (sprout .entry)) (now (named .entry))
+    ensures { λ r. ⌜ Entered made top (now (taken .entry)) (now (sprout .entry)) (now (named .entry))
         r (now (taken .exit)) (now (sprout .exit)) (now (named .exit)) ⌝ }
 {
-    if met.label == 0 {
+    if made.label == 0 {
         named[top] = false;
         return top;
     }
     let before = taken[top];
-    taken[top] = before | met.label;
-    if met.label == met.kids {
+    taken[top] = before | made.label;
+    if made.label == made.kids {
         return top;
     }
     let name = named[top];
     let below = top + 1;
     taken[below] = before;
-    sprout[below] = met.sprout;
+    sprout[below] = made.sprout;
     named[below] = name;
     below
 }
@@ -166,7 +166,13 @@ fn answered(count: usize, accepting: u16, stable: u16) -> Stepped
 
 // One letter over the first `count` rows of a side; there are k sets. By depth, as siblings are read from the oldest to the
 // youngest: the states taken from the younger ones, the states of the child that their parent sprouts, and whether names are kept.
-pub fn step_rows(lookup: &Lookup, k: u8, sides: &mut Sides, from: usize, count: usize) -> Stepped
+pub fn step_rows(
+    lookup: &Lookup,
+    k: u8,
+    sides: &mut DoubleBuffer,
+    from: usize,
+    count: usize,
+) -> Stepped
     requires { ⌜ Steppable (now sides) from count ⌝ }
     ensures { λ r. ⌜ Stepping (steppedRows (now (lookup .entry)) k (rowsOn (now (sides .entry)) from count))
         from (now (sides .entry)) r (now (sides .exit)) ⌝ }
@@ -197,13 +203,13 @@ pub fn step_rows(lookup: &Lookup, k: u8, sides: &mut Sides, from: usize, count: 
         i += 1;
         // A deeper row is below a node that was removed or that has lost its descendants (step 4).
         if depth == top {
-            let met = meet(lookup, x, taken[top]);
+            let made = new_labels(lookup, x, taken[top]);
             let name = named[top];
-            top = enter(&mut taken, &mut sprout, &mut named, top, met);
-            if met.label != 0 {
-                sides[to][j] = pack(settled_row(k, x, met, old));
+            top = enter(&mut taken, &mut sprout, &mut named, top, made);
+            if made.label != 0 {
+                sides[to][j] = pack(settled_row(k, x, made, old));
                 j += 1;
-                accepting = joined_if(accepting, old, met.label == met.kids);
+                accepting = joined_if(accepting, old, made.label == made.kids);
                 stable = joined_if(stable, old, name);
             }
         }

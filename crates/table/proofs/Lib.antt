@@ -4,7 +4,7 @@ pub mod RoundTrip
 pub mod Reading
 pub mod Parts
 pub mod LetterCells
--- Sets and questions.
+-- Numbers of refusals, and numbers in range.
 pub mod RefusalNumbers
 pub mod Ranges
 -- The reader.
@@ -15,10 +15,10 @@ pub mod PaddedReading
 pub mod RuleReading
 pub mod Asked
 pub mod GridReading
--- Output into lent buffers, and the writer.
+-- The writer.
 pub mod GridWriting
 pub mod RowWriting
 pub mod TableWriting
 pub mod WriteOutcome
--- The look-up.
+-- The questions to a table and a letter.
 pub mod LetterAsked

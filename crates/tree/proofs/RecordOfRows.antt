@@ -17,11 +17,11 @@ use Rattle.table.specs.inner.ReadRule.{WithinLimits}
 use Rattle.history.specs.Forest.{nil, node, size}
 use Rattle.history.specs.Tree.{Node, Tree, labels}
 use Rattle.history.specs.Record.{hostFrom, host, tags, recordOf}
-use Rattle.history.proofs.Conditions.{Nested, Active, NestedTree}
-use Rattle.history.proofs.Hosts.{held-here, held-younger, held-in, host-below, host-here, host-younger}
-use Rattle.history.proofs.Members.{map-members}
-use Rattle.history.proofs.RecordOfTree.{root-states}
-use Rattle.history.proofs.TreesOf.{of-few, of-nested}
+use Rattle.history.proofs.tree.Conditions.{Nested, Active, NestedTree}
+use Rattle.history.proofs.tree.Hosts.{held-here, held-younger, held-in, host-below, host-here, host-younger}
+use Rattle.history.proofs.records.Members.{map-members}
+use Rattle.history.proofs.records.RecordOfTree.{root-states}
+use Rattle.history.proofs.step.TreesOf.{of-few, of-nested}
 use Rattle.tree.specs.inner.PackedRows.{rowsIn, countedRows}
 use Rattle.tree.specs.inner.Rows.{rowsFrom, rowsOf, withoutOld, AreRows, HoldsTree, blankRow}
 use Rattle.tree.specs.inner.RecordRows.{hostRow, tagOf, hostBytes, tagBytes, rowsRecord, Recordable}

@@ -19,13 +19,13 @@ use Rattle.history.specs.Forest.{nil, node, size}
 use Rattle.history.specs.Tree.{Node, Tree, isTree}
 use Rattle.history.specs.Record.{host, members, tags, recordOf, hostedIn, decoded, readTree}
 use Rattle.history.specs.inner.RecordChecks.{recordChecks}
-use Rattle.history.proofs.HostLabels.{relabelled, ByNumber, labels-relabelled, labels-from-hosts}
-use Rattle.history.proofs.RecordOfTree.{Shallower, length-tags, hosted-law, root-states}
-use Rattle.history.proofs.Members.{length-members, map-at-rank}
-use Rattle.history.proofs.Conditions.{Active, NestedTree, tree-nested, tree-out}
-use Rattle.history.proofs.QuestionNine.{is-record-out}
-use Rattle.history.proofs.RecordChecks.{checks-exact, read-by-checks}
-use Rattle.history.proofs.TreesKept.{few-nodes}
+use Rattle.history.proofs.records.HostLabels.{relabelled, ByNumber, labels-relabelled, labels-from-hosts}
+use Rattle.history.proofs.records.RecordOfTree.{Shallower, length-tags, hosted-law, root-states}
+use Rattle.history.proofs.records.Members.{length-members, map-at-rank}
+use Rattle.history.proofs.tree.Conditions.{Active, NestedTree, tree-nested, tree-out}
+use Rattle.history.proofs.records.QuestionNine.{is-record-out}
+use Rattle.history.proofs.records.RecordChecks.{checks-exact, read-by-checks}
+use Rattle.history.proofs.step.TreesKept.{few-nodes}
 use Rattle.tree.specs.inner.Rows.{rowsFrom, rowsOf}
 use Rattle.tree.specs.inner.PackedRows.{rowsIn}
 use Rattle.tree.specs.inner.RecordRows.{blankBehind, deeper, rowsOfTags}

@@ -12,7 +12,7 @@ use Rattle.table.specs.Table.{readRule}
 use Rattle.table.specs.declared.header.Header.{Header}
 use Rattle.table.proofs.Asked.{RuleRead}
 use Rattle.history.specs.Tree.{labels, startTree}
-use Rattle.history.proofs.TreesOf.{start-is-tree}
+use Rattle.history.proofs.step.TreesOf.{start-is-tree}
 use Rattle.tree.specs.inner.PackedRows.{countedRows}
 use Rattle.tree.specs.inner.Rows.{rowsFrom, rowsOf, HoldsTree}
 use Rattle.tree.specs.inner.RecordRows.{startRows, HasRows, rowsRecord, Recordable}

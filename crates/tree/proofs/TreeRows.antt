@@ -11,19 +11,13 @@ use Rattle.rule.specs.Limits.{maxStates}
 use Rattle.rule.specs.Rule.{Rule}
 use Rattle.history.specs.Forest.{nil, node, size}
 use Rattle.history.specs.Tree.{Tree, isTreeOf}
-use Rattle.history.proofs.TreesOf.{of-few}
+use Rattle.history.proofs.step.TreesOf.{of-few}
 use Rattle.tree.specs.inner.Rows.{blankRow, rowsFrom, rowsOf, withoutOld, AreRows, HoldsTree}
 use Rattle.tree.specs.inner.PackedRows.{rowsIn, countedRows}
 use Rattle.tree.specs.inner.RecordRows.{places, blankBehind, HasRows}
 use Rattle.tree.specs.inner.Sides.{TwoSides}
 use Rattle.tree.specs.declared.rows.Row.{Row}
 use Rattle.tree.specs.declared.rows.Tree.{Tree as CodeTree}
-use Rattle.tree.proofs.PackedWords.{rows-many}
-use Rattle.rule.specs.Limits.{maxStates}
-use Rattle.tree.specs.inner.Rows.{blankRow}
-use Rattle.tree.specs.inner.PackedRows.{rowsIn}
-use Rattle.tree.specs.inner.RecordRows.{places}
-use Rattle.tree.specs.inner.Sides.{TwoSides}
 use Rattle.tree.proofs.PackedWords.{rows-many}
 
 -- THE ROWS OF A TREE

@@ -16,7 +16,7 @@ pub struct Row {
 pub type Rows = [u64; Tree::PLACES];
 
 // Two trees side by side: a letter reads the rows of one side and writes those of the other.
-pub type Sides = [Rows; 2];
+pub type DoubleBuffer = [Rows; 2];
 
 // A tree: its rows, and how many of them count. No other crate can make one but by the functions of this type: "Every tree comes
 // from the starting tree or from a checked record" (record.rt), or from one of these by letters (sides.rt).

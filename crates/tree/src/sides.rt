@@ -1,6 +1,6 @@
 // Trees in place, on one of two sides: a tree is laid there, letters are read from side to side, and the tree that they lead to is
 // taken up.
-use crate::rows::Sides;
+use crate::rows::DoubleBuffer;
 use crate::rows::Tree;
 ghost use mathlib.Core.Path.{_≡_};
 ghost use Rattle.tree.specs.inner.Sides.{treeOn, Laid, SomeTreeOn};
@@ -13,7 +13,7 @@ pub struct OnSide {
 
 impl Tree {
     // Its rows on side 0, and a blank side 1.
-    pub fn laid(self) -> Sides
+    pub fn laid(self) -> DoubleBuffer
         ensures { λ r. ⌜ Laid self r ⌝ }
     {
         let rows = self.rows;
@@ -33,7 +33,7 @@ impl Tree {
     }
 
     // The tree on a side. Only where its rows are proved to be those of some tree, so that no other tree can be made.
-    pub fn taken(sides: &Sides, on: OnSide) -> Tree
+    pub fn taken(sides: &DoubleBuffer, on: OnSide) -> Tree
         requires { ⌜ SomeTreeOn (now sides) on ⌝ }
         ensures { λ r. ⌜ r ≡ treeOn (now (sides .entry)) on ⌝ }
     {

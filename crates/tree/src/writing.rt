@@ -1,7 +1,7 @@
 // The record of a tree from its rows, stored into a lent buffer.
 use crate::packed::unpack;
+use crate::rows::DoubleBuffer;
 use crate::rows::Row;
-use crate::rows::Sides;
 use crate::rows::Tree;
 use crate::sides::OnSide;
 ghost use mathlib.Core.Path.{_≡_};
@@ -27,7 +27,7 @@ fn hosts_state(row: Row, state: usize) -> bool
 }
 
 // The number of a state's host.
-fn host_row(sides: &Sides, on: OnSide, state: usize) -> u8
+fn host_row(sides: &DoubleBuffer, on: OnSide, state: usize) -> u8
     requires { ⌜ ((on .count ≤ places) × (state < 16)) × Stands (now sides) on ⌝ }
     ensures { λ r. ⌜ r ≡ hostRow 0 (countedRows (treeOn (now (sides .entry)) on)) state ⌝ }
 {
@@ -45,7 +45,14 @@ fn host_row(sides: &Sides, on: OnSide, state: usize) -> u8
 }
 
 // "for each standing bit, lowest first, the number of its host", stored from a place on. Answers the place behind them.
-fn put_hosts(sides: &Sides, on: OnSide, states: u16, n: usize, out: &mut [u8], from: usize) -> usize
+fn put_hosts(
+    sides: &DoubleBuffer,
+    on: OnSide,
+    states: u16,
+    n: usize,
+    out: &mut [u8],
+    from: usize,
+) -> usize
     requires { ⌜ ((on .count ≤ places) × (n ≤ 16)) × Stands (now sides) on × (from + n ≤ length (now out)) ⌝ }
     ensures { λ r. ⌜ (r ≡ from + length (hostBytes (countedRows (treeOn (now (sides .entry)) on)) n states))
         × (now (out .exit) ≡ stored from (hostBytes (countedRows (treeOn (now (sides .entry)) on)) n states) (now (out .entry))) ⌝ }
@@ -66,7 +73,7 @@ fn put_hosts(sides: &Sides, on: OnSide, states: u16, n: usize, out: &mut [u8], f
 
 // "for each node in number order 16 times its depth plus its active set", stored from a place on. Answers the place
 // behind them.
-fn put_tags(sides: &Sides, on: OnSide, n: usize, out: &mut [u8], from: usize) -> usize
+fn put_tags(sides: &DoubleBuffer, on: OnSide, n: usize, out: &mut [u8], from: usize) -> usize
     requires { ⌜ Recordable n (treeOn (now sides) on) × Stands (now sides) on × (from + on .count ≤ length (now out)) ⌝ }
     ensures { λ r. ⌜ (r ≡ from + length (tagBytes (countedRows (treeOn (now (sides .entry)) on))))
         × (now (out .exit) ≡ stored from (tagBytes (countedRows (treeOn (now (sides .entry)) on))) (now (out .entry))) ⌝ }

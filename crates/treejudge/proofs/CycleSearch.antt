@@ -10,10 +10,10 @@ use Rattle.word.specs.Walk.{rounds}
 use Rattle.word.specs.inner.WalkLookups.{Lookups}
 use Rattle.word.proofs.Paths.{rounds-add, rounds-one}
 use Rattle.history.specs.Rounds.{readLetters, roundTree, FirstRepeat}
-use Rattle.history.proofs.TreesOfWalk.{round-next}
-use Rattle.history.proofs.RepeatExists.{repeat-exists}
-use Rattle.history.proofs.CycleVerdict.{read-rounds}
-use Rattle.history.proofs.CycleFinding.{BrentSoFar, Skips, brent-start, none-skips, brent-more, brent-reset, reset-skips, brent-found, lam-steps, power-doubles, brent-measure}
+use Rattle.history.proofs.walk.TreesOfWalk.{round-next}
+use Rattle.history.proofs.repeat.RepeatExists.{repeat-exists}
+use Rattle.history.proofs.verdict.CycleVerdict.{read-rounds}
+use Rattle.history.proofs.repeat.CycleFinding.{BrentSoFar, Skips, brent-start, none-skips, brent-more, brent-reset, reset-skips, brent-found, lam-steps, power-doubles, brent-measure}
 use Rattle.tree.specs.declared.rows.Tree.{Tree as CodeTree}
 use Rattle.treejudge.specs.inner.Names.{allKept, Follows, FollowsOn, FollowsTo}
 use Rattle.treejudge.specs.inner.SameRows.{sameTrees}
@@ -29,7 +29,7 @@ rounds-more r v = rounds-add r 1 v ∙ ap (rounds r v ++_) (rounds-one v)
 -- at the head of the loop: x is t(power − 1), y is t(half − 1), and lam rounds were followed from x on
 pub record Searching (R : Rule) (u v : List ℕ) (lookups : Lookups) (k : ℕ) (x y : CodeTree) (half power lam : ℕ)
     (now : CodeTree) (m : Maps) : Type 0 where
-  pub held : AtRound R u v lookups k (power - 1) x
+  pub saved : AtRound R u v lookups k (power - 1) x
   pub before : AtRound R u v lookups k (half - 1) y
   pub below : half < power
   pub doubles : 1 < power → power ≡ half + half
@@ -37,12 +37,12 @@ pub record Searching (R : Rule) (u v : List ℕ) (lookups : Lookups) (k : ℕ) (
   pub skips : Skips (roundTree R u v) half
   pub follows : Follows R (roundTree R u v (power - 1)) (rounds lam v) now m
 
--- t(0) is held first
+-- t(0) is saved first
 pub search-start : {R : Rule} {u v : List ℕ} {lookups : Lookups} {k : ℕ} {first : CodeTree}
     → AtRound R u v lookups k 0 first → Searching R u v lookups k first first 0 1 0 first (allKept (first .count))
 unfolding rounds
 search-start {R} {u} {v} A = record {
-  held = A;
+  saved = A;
   before = A;
   below = omega arith;
   doubles = λ h. omega arith;
@@ -55,11 +55,11 @@ module _ {R : Rule} {u v : List ℕ} {lookups : Lookups} {k : ℕ} {x y : CodeTr
     (S : Searching R u v lookups k x y half power lam now m) where
   -- a round is followed from there
   pub search-follows : FollowsOn R (roundTree R u v (power - 1)) (rounds lam v) lookups k v now m
-  search-follows = record { holds = S .held .holds; has-lookups = S .held .has-lookups; follows = S .follows }
+  search-follows = record { holds = S .saved .holds; has-lookups = S .saved .has-lookups; follows = S .follows }
 
   -- there are fewer than 2 ^ 63 trees
   repeat : (entry : ℕ) × (period : ℕ) × FirstRepeat (roundTree R u v) entry period × (entry + period < 2 ^ 63)
-  repeat = let H = S .held .holds in repeat-exists R (H .limits .well) (H .limits .some-set) (H .limits .states) (H .limits .sets) u v
+  repeat = let H = S .saved .holds in repeat-exists R (H .limits .well) (H .limits .some-set) (H .limits .states) (H .limits .sets) u v
 
   -- so lam fits, and the loop ends
   pub lam-fits : lam + 1 < 2 ^ 64
@@ -78,25 +78,25 @@ module _ {R : Rule} {u v : List ℕ} {lookups : Lookups} {k : ℕ} {x y : CodeTr
 
     pub search-next : AtRound R u v lookups k (power - 1 + (lam + 1)) next
     search-next = record {
-      holds = S .held .holds;
-      has-lookups = S .held .has-lookups;
+      holds = S .saved .holds;
+      has-lookups = S .saved .has-lookups;
       tree = rw (← read-rounds R u v (lam + 1) (power - 1)) (followed .tree);
     }
 
-    -- the held tree and the one reached can be compared
+    -- the saved tree and the one reached can be compared
     pub search-small : (x .count ≤ maxStates) × (next .count ≤ maxStates)
-    search-small = both-small (S .held) search-next
+    search-small = both-small (S .saved) search-next
 
     -- where they are the same, the cycle is found
     pub search-found : sameTrees x next ≡ true
         → (entry period : ℕ) → FirstRepeat (roundTree R u v) entry period
         → CycleOf R u v entry period
-        (record { held = x; before = y; half = half; power = power; period = lam + 1; witnesses = n .witnesses })
+        (record { saved = x; before = y; half = half; power = power; period = lam + 1; witnesses = n .witnesses })
     search-found same entry period F =
         let (back, late) = brent-found (roundTree R u v) (readLetters R v) (round-next R u v) entry period F power lam (S .brent)
-        (rows-same (S .held) search-next same) in
+        (rows-same (S .saved) search-next same) in
         record {
-          held = S .held .tree;
+          saved = S .saved .tree;
           before = S .before .tree;
           below = S .below;
           doubles = S .doubles;
@@ -108,12 +108,12 @@ module _ {R : Rule} {u v : List ℕ} {lookups : Lookups} {k : ℕ} {x y : CodeTr
 
     module _ (differ : sameTrees x next ≡ false) where
       apart : roundTree R u v (power - 1) ≡ roundTree R u v (power - 1 + (lam + 1)) → ⊥
-      apart = rows-differ (S .held) search-next differ
+      apart = rows-differ (S .saved) search-next differ
 
       -- otherwise the search goes on
       pub search-more : (lam + 1 ≡ power → ⊥) → Searching R u v lookups k x y half power (lam + 1) next n
       search-more more = record {
-        held = S .held;
+        saved = S .saved;
         before = S .before;
         below = S .below;
         doubles = S .doubles;
@@ -135,8 +135,8 @@ module _ {R : Rule} {u v : List ℕ} {lookups : Lookups} {k : ℕ} {x y : CodeTr
             let e : power - 1 + (lam + 1) ≡ power + power - 1 = omega (arith, S .below) in
             let A : AtRound R u v lookups k (power + power - 1) next = rw e at search-next in
             record {
-              held = A;
-              before = S .held;
+              saved = A;
+              before = S .saved;
               below = omega (arith, S .below);
               doubles = λ h. refl;
               brent = brent-reset (roundTree R u v) (readLetters R v) (round-next R u v) power lam (S .brent) apart full;

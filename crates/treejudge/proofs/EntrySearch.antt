@@ -8,8 +8,8 @@ use native.Mathlib.Decide.{ℕ-discrete}
 use Rattle.rule.specs.Rule.{Rule}
 use Rattle.word.specs.inner.WalkLookups.{Lookups}
 use Rattle.history.specs.Rounds.{readLetters, roundTree}
-use Rattle.history.proofs.TreesOfWalk.{round-next}
-use Rattle.history.proofs.FirstRepeats.{repeat-only}
+use Rattle.history.proofs.walk.TreesOfWalk.{round-next}
+use Rattle.history.proofs.repeat.FirstRepeats.{repeat-only}
 use Rattle.tree.specs.declared.rows.Tree.{Tree as CodeTree}
 use Rattle.treejudge.specs.inner.Reading.{ReadsTo}
 use Rattle.treejudge.specs.inner.SameRows.{sameTrees}
@@ -53,9 +53,9 @@ module _ {R : Rule} {u v : List ℕ} {lookups : Lookups} {k entry period place h
 
 module _ {R : Rule} {u v : List ℕ} {lookups : Lookups} {k entry period : ℕ} {first : CodeTree} {c : Cycle}
     (S : Searched R u v lookups k entry period first c) where
-  -- the tree that is held, and the one that was held before
-  pub held-place : AtRound R u v lookups k (c .power - 1) (c .held)
-  held-place = record { holds = S .place .holds; has-lookups = S .place .has-lookups; tree = S .cycle .held }
+  -- the tree that is saved, and the one that was saved before
+  pub saved-place : AtRound R u v lookups k (c .power - 1) (c .saved)
+  saved-place = record { holds = S .place .holds; has-lookups = S .place .has-lookups; tree = S .cycle .saved }
 
   pub before-place : AtRound R u v lookups k (c .half - 1) (c .before)
   before-place = record { holds = S .place .holds; has-lookups = S .place .has-lookups; tree = S .cycle .before }
@@ -73,11 +73,11 @@ module _ {R : Rule} {u v : List ℕ} {lookups : Lookups} {k entry period : ℕ} 
   }
 
   -- from t(0) on
-  pub bracket-first : {y : CodeTree} → ReadTo lookups k v (c .half - 1) (c .before) (c .power - 1) (c .held) (c .period) y
+  pub bracket-first : {y : CodeTree} → ReadTo lookups k v (c .half - 1) (c .before) (c .power - 1) (c .saved) (c .period) y
       → Bracket R u v lookups k entry (c .period) 0 (c .power - 1) first y
   unfolding ReadTo
   bracket-first on = let e : c .period ≡ 0 + c .period = omega arith in
-      bracket-from (omega arith) (S .place) (rw e at (on R u before-place held-place))
+      bracket-from (omega arith) (S .place) (rw e at (on R u before-place saved-place))
 
   module _ (short : c .period ≤ c .half) where
     -- a period no longer than `half` begins at t(half) or later
@@ -89,7 +89,7 @@ module _ {R : Rule} {u v : List ℕ} {lookups : Lookups} {k entry period : ℕ} 
       half-place = rounds-read before-place 1 read (omega (arith, S .repeat .positive, S .cycle .back))
 
       -- so the search may begin there
-      pub bracket-half : {y : CodeTree} → ReadTo lookups k v (c .half) x (c .power - 1) (c .held) (c .half + c .period) y
+      pub bracket-half : {y : CodeTree} → ReadTo lookups k v (c .half) x (c .power - 1) (c .saved) (c .half + c .period) y
           → Bracket R u v lookups k entry (c .period) (c .half) (c .power - 1) x y
       unfolding ReadTo
-      bracket-half on = bracket-from entry-from-half half-place (on R u half-place held-place)
+      bracket-half on = bracket-from entry-from-half half-place (on R u half-place saved-place)

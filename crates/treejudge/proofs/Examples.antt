@@ -23,7 +23,7 @@ use Rattle.history.specs.Tree.{labels, disjoint, strictlyInside, nodesFit, isTr
 use Rattle.history.specs.Letter.{byNumber, acceptingMap, stableMap}
 use Rattle.history.specs.Record.{hostFrom, host, membersFrom, members, tags, recordOf, rank, hostedIn, planted, decoded, isRecord, readTree}
 use Rattle.history.specs.Finding.{Finding}
-use Rattle.history.proofs.VerdictTest.{verdictTest, verdict-by-test, ruleTest, rule-by-test}
+use Rattle.history.proofs.verdict.VerdictTest.{verdictTest, verdict-by-test, ruleTest, rule-by-test}
 use Rattle.tree.specs.StartCall.{recordRoom, startOutcome}
 use Rattle.step.specs.StepCall.{stepUnder, stepOutcome}
 use Rattle.treejudge.specs.JudgeCall.{nameRoom, treeOutcome, treeAnswer, namesAfter, TreeAnswers}

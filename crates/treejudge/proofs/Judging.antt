@@ -21,7 +21,7 @@ use Rattle.history.specs.Tree.{startTree}
 use Rattle.history.specs.Rounds.{roundTree}
 use Rattle.history.specs.Verdict.{FirstWitness}
 use Rattle.history.specs.Finding.{yes-node, no-node}
-use Rattle.history.proofs.TreesOf.{of-few}
+use Rattle.history.proofs.step.TreesOf.{of-few}
 use Rattle.tree.specs.inner.RecordRows.{startRows, HasRows}
 use Rattle.tree.specs.declared.rows.Tree.{Tree as CodeTree}
 use Rattle.tree.proofs.StartCall.{start-holds}

@@ -13,7 +13,7 @@ use Rattle.word.specs.inner.WalkLookups.{Lookups, HasLookup}
 use Rattle.history.specs.Tree.{Tree}
 use Rattle.history.specs.Letter.{nextTree}
 use Rattle.history.specs.Rounds.{readLetters}
-use Rattle.history.proofs.TreesOfWalk.{read-append}
+use Rattle.history.proofs.walk.TreesOfWalk.{read-append}
 use Rattle.tree.specs.inner.Sides.{treeOn, Stands, Laid}
 use Rattle.tree.specs.inner.Rows.{HoldsTree}
 use Rattle.tree.specs.declared.rows.Tree.{Tree as CodeTree}
@@ -50,7 +50,7 @@ module _ (lookups : Lookups) (k : ℕ) (w : List ℕ) where
   upto-none sides from stands = record { upto = omega arith; stands = stands; tree = λ R T reads. reads .tree }
 
   module _ (x : CodeTree) where
-    -- each letter has its place in the tables
+    -- each letter has its place in the look-ups
     pub letter-small : Readable lookups k w x → (at : ℕ) → at < length w → getD w at 0 < maxLetters
     unfolding Readable
     letter-small (R, T, reads) at h =

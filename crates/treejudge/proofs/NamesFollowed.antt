@@ -14,8 +14,8 @@ use Rattle.word.specs.inner.WalkLookups.{Lookups, HasLookup}
 use Rattle.history.specs.Tree.{Tree}
 use Rattle.history.specs.Rounds.{readLetters}
 use Rattle.history.specs.inner.OldNumbers.{noNode}
-use Rattle.history.proofs.FollowingLaws.{follow-none, follow-kept, follow-accepted}
-use Rattle.history.proofs.TreesOfWalk.{read-append}
+use Rattle.history.proofs.verdict.FollowingLaws.{follow-none, follow-kept, follow-accepted}
+use Rattle.history.proofs.walk.TreesOfWalk.{read-append}
 use Rattle.tree.specs.inner.Sides.{treeOn, Stands}
 use Rattle.tree.specs.inner.Rows.{HoldsTree}
 use Rattle.tree.specs.declared.rows.Tree.{Tree as CodeTree}

@@ -15,9 +15,9 @@ use Rattle.rule.specs.Rule.{Rule}
 use Rattle.history.specs.Forest.{nil, node, size, names}
 use Rattle.history.specs.inner.NamesByDepth.{depthsFrom, depths, nameAfter}
 use Rattle.history.specs.Tree.{Tree}
-use Rattle.history.proofs.Conditions.{OneRoot}
-use Rattle.history.proofs.TreesOf.{of-root, of-few}
-use Rattle.history.proofs.NamesByDepth.{after-deeper, after-beside, name-root, name-next, name-depth, depth-next, name-small}
+use Rattle.history.proofs.tree.Conditions.{OneRoot}
+use Rattle.history.proofs.step.TreesOf.{of-root, of-few}
+use Rattle.history.proofs.names.NamesByDepth.{after-deeper, after-beside, name-root, name-next, name-depth, depth-next, name-small}
 use Rattle.tree.specs.inner.Rows.{rowsFrom, rowsOf, withoutOld, HoldsTree, blankRow}
 use Rattle.tree.specs.inner.PackedRows.{rowsIn}
 use Rattle.tree.specs.declared.rows.Row.{Row}

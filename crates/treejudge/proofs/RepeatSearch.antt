@@ -18,11 +18,11 @@ use Rattle.history.specs.Forest.{size}
 use Rattle.history.specs.Tree.{Tree}
 use Rattle.history.specs.Rounds.{roundTree, FirstRepeat}
 use Rattle.history.specs.inner.Following.{witnessMap}
-use Rattle.history.proofs.TreesOfWalk.{round-next}
-use Rattle.history.proofs.RepeatExists.{repeat-exists}
-use Rattle.history.proofs.CycleVerdict.{member-node, verdict-yes, verdict-no}
-use Rattle.history.proofs.FirstRepeats.{repeat-at-once}
-use Rattle.history.proofs.CutCycle.{cut-round, cut-rest, repeat-second, cut-first, cut-none}
+use Rattle.history.proofs.walk.TreesOfWalk.{round-next}
+use Rattle.history.proofs.repeat.RepeatExists.{repeat-exists}
+use Rattle.history.proofs.verdict.CycleVerdict.{member-node, verdict-yes, verdict-no}
+use Rattle.history.proofs.repeat.FirstRepeats.{repeat-at-once}
+use Rattle.history.proofs.verdict.CutCycle.{cut-round, cut-rest, repeat-second, cut-first, cut-none}
 use Rattle.tree.specs.inner.Rows.{HoldsTree}
 use Rattle.tree.specs.declared.rows.Tree.{Tree as CodeTree}
 use Rattle.treejudge.specs.inner.Reading.{Reads, ReadsTo}
@@ -53,9 +53,9 @@ module _ (R : Rule) (u v : List ℕ) (lookups : Lookups) (k e p : ℕ) (first : 
   node-of : (j : ℕ) → member (cycle .witnesses) j ≡ true → j < size (roundTree R u v (cycle .power - 1))
   node-of j m = member-node R u v e p (S .repeat) (cycle .power - 1) (S .cycle .late) j (rw (S .cycle .witnesses) at m)
 
-  -- the tree that was held has the witnesses in the map
+  -- the tree that was saved has the witnesses in the map
   pub repeat-searched : (entry : ℕ) → EntryFound lookups k v first cycle entry
-      → RepeatOf R u v (record { tree = cycle .held; witnesses = cycle .witnesses; entry = entry; period = cycle .period })
+      → RepeatOf R u v (record { tree = cycle .saved; witnesses = cycle .witnesses; entry = entry; period = cycle .period })
   unfolding EntryFound
   repeat-searched entry entered =
       let C = S .cycle in
@@ -64,7 +64,7 @@ module _ (R : Rule) (u v : List ℕ) (lookups : Lookups) (k e p : ℕ) (first : 
       record {
         repeat = rw (is, C .back) (S .repeat);
         tree = roundTree R u v (cycle .power - 1);
-        holds = C .held;
+        holds = C .saved;
         node = node-of;
         lowest = λ j m low. rw (is, C .back) (verdict-yes R u v e p (S .repeat) (cycle .power - 1) (C .late) (t .limits .well) (t .limits .some-set)
             j (node-of j m) (rw (C .witnesses) at m) (rw (C .witnesses) at low));
@@ -89,7 +89,7 @@ module _ (R : Rule) (u head rest : List ℕ) (lookups : Lookups) (k : ℕ) (firs
   abbrev s : ℕ → Tree
   s = roundTree R (u ++ head) (rest ++ head)
 
-  -- the tables are those of the letters on both sides of the cut
+  -- the look-ups are those of the letters on both sides of the cut
   parts : Every (HasLookup R lookups) head × Every (HasLookup R lookups) rest
   parts = append-every (HasLookup R lookups) head rest (A .has-lookups)
 
@@ -131,15 +131,15 @@ module _ (R : Rule) (u head rest : List ℕ) (lookups : Lookups) (k : ℕ) (firs
         witnesses-are = at-again .witnesses ∙ ap (witnessMap R (s 0)) (sym (rounds-one (rest ++ head)))
 
         -- where the two trees at the cut are the same, the repeat is that of t(0) or of t(1)
-        module _ (met : sameTrees cut again ≡ true) where
-          meet : s 0 ≡ s 1
-          meet = same-rows-same R (s 0) (s 1) cut again (A .holds .limits .sets) cut-holds again-holds met
+        module _ (same : sameTrees cut again ≡ true) where
+          joins : s 0 ≡ s 1
+          joins = same-rows-same R (s 0) (s 1) cut again (A .holds .limits .sets) cut-holds again-holds same
 
           repeat-at : (entry : ℕ) → FirstRepeat t entry 1 → entry ≤ 1
               → RepeatOf R u (head ++ rest) (record { tree = cut; witnesses = n .witnesses; entry = entry; period = 1 })
           repeat-at entry F late =
               let h = A .holds in
-              let G = repeat-at-once s meet in
+              let G = repeat-at-once s joins in
               let node : (j : ℕ) → member (n .witnesses) j ≡ true → j < size (s 0) =
               λ j w. member-node R (u ++ head) (rest ++ head) 0 1 G 0 (omega arith) j (rw witnesses-are at w) in
               record {
@@ -147,10 +147,10 @@ module _ (R : Rule) (u head rest : List ℕ) (lookups : Lookups) (k : ℕ) (firs
                 tree = s 0;
                 holds = cut-holds;
                 node = node;
-                lowest = λ j w low. cut-first R u head rest meet entry F late _
+                lowest = λ j w low. cut-first R u head rest joins entry F late _
                     (verdict-yes R (u ++ head) (rest ++ head) 0 1 G 0 (omega arith) (h .limits .well) (h .limits .some-set) j (node j w)
                     (rw witnesses-are at w) (rw witnesses-are at low));
-                none = λ empty. cut-none R u head rest meet entry F late
+                none = λ empty. cut-none R u head rest joins entry F late
                     (verdict-no R (u ++ head) (rest ++ head) 0 1 G 0 (omega arith) (h .limits .well) (h .limits .some-set) (sym witnesses-are ∙ empty));
               }
 
@@ -162,5 +162,5 @@ module _ (R : Rule) (u head rest : List ℕ) (lookups : Lookups) (k : ℕ) (firs
 
           pub repeat-moved : sameTrees first second ≡ false
               → RepeatOf R u (head ++ rest) (record { tree = cut; witnesses = n .witnesses; entry = 1; period = 1 })
-          repeat-moved differ = repeat-at 1 (repeat-second R u head rest meet
+          repeat-moved differ = repeat-at 1 (repeat-second R u head rest joins
               (λ e. clash differ (same-trees-same R (t 1) first second (rw e at (A .tree)) second-holds))) (omega arith)

@@ -9,7 +9,7 @@ use Rattle.rule.specs.Limits.{maxStates}
 use Rattle.rule.specs.Rule.{Rule}
 use Rattle.word.specs.inner.WalkLookups.{Lookups}
 use Rattle.history.specs.Rounds.{roundTree}
-use Rattle.history.proofs.TreesOfWalk.{round-next}
+use Rattle.history.proofs.walk.TreesOfWalk.{round-next}
 use Rattle.tree.specs.declared.rows.Tree.{Tree as CodeTree}
 use Rattle.tree.proofs.TreeRows.{tree-small}
 use Rattle.treejudge.specs.inner.Reading.{Reads, ReadsTo}

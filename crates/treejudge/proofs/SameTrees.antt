@@ -14,8 +14,8 @@ use Rattle.base.proofs.Logic.{never, clash, and-both, and-in, bool-ext}
 use Rattle.rule.specs.Limits.{maxStates, maxSets}
 use Rattle.rule.specs.Rule.{Rule}
 use Rattle.history.specs.Tree.{Tree}
-use Rattle.history.proofs.QuestionNine.{record-injective}
-use Rattle.history.proofs.TreesOf.{of-nested}
+use Rattle.history.proofs.records.QuestionNine.{record-injective}
+use Rattle.history.proofs.step.TreesOf.{of-nested}
 use Rattle.tree.specs.inner.Rows.{withoutOld, HoldsTree, blankRow}
 use Rattle.tree.specs.inner.RecordRows.{places}
 use Rattle.tree.specs.inner.PackedRows.{unpacked, countedRows}

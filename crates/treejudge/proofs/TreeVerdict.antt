@@ -14,10 +14,10 @@ use Rattle.word.proofs.RefusalNumbers.{judge-tells}
 use Rattle.word.proofs.SameAlong.{SameAlong}
 use Rattle.history.specs.Rounds.{roundTree}
 use Rattle.history.specs.Finding.{Finding, yes-node, no-node, Found, WalkJudged}
-use Rattle.history.proofs.FirstRepeats.{repeat-unique}
-use Rattle.history.proofs.FirstWitness.{first-unique}
-use Rattle.history.proofs.SameAlong.{found-along, repeat-along}
-use Rattle.history.proofs.TreeTheorem.{tree-theorem}
+use Rattle.history.proofs.repeat.FirstRepeats.{repeat-unique}
+use Rattle.history.proofs.verdict.FirstWitness.{first-unique}
+use Rattle.history.proofs.walk.SameAlong.{found-along, repeat-along}
+use Rattle.history.proofs.theorem.TreeTheorem.{tree-theorem}
 use Rattle.treejudge.specs.JudgeCall.{nameRoom, treeOutcome, treeAnswer, namesAfter, Judged, TreeAnswers, TreeNumber}
 use Rattle.treejudge.specs.declared.judge.TreeAnswer.{TreeAnswer}
 

@@ -1,5 +1,5 @@
-// The period, by Brent's search: one tree is held, t(power − 1), and rounds are read from it until it comes back. If it has not
-// come back after `power` rounds, the tree reached is held instead, and the power doubled. The nodes of the held tree are followed
+// The period, by Brent's search: one tree is saved, t(power − 1), and rounds are read from it until it comes back. If it has not
+// come back after `power` rounds, the tree reached is saved instead, and the power doubled. The nodes of the saved tree are followed
 // on the way: where it comes back, its rounds were one cycle, and the verdict is known.
 use crate::follow::begin;
 use crate::follow::follow_letters;
@@ -9,9 +9,9 @@ use word::lookups::Lookups;
 ghost use Rattle.treejudge.specs.inner.Cycles.{FirstRound, CycleFound};
 
 // What the search has found: the tree t(power − 1), to which `period` rounds lead back; the map of its nodes that keep their names in
-// these rounds and are accepting once; and the tree that was held before it, t(half − 1), where it was not the first.
+// these rounds and are accepting once; and the tree that was saved before it, t(half − 1), where it was not the first.
 pub struct Cycle {
-    pub held: Tree,
+    pub saved: Tree,
     pub before: Tree,
     pub half: u64,
     pub power: u64,
@@ -24,7 +24,7 @@ pub fn find_cycle(lookups: &Lookups, k: u8, v: &[u8], first: Tree) -> Cycle
     requires { ⌜ FirstRound (now lookups) k (now v) first ⌝ }
     ensures { λ r. ⌜ CycleFound (now (lookups .entry)) k (now (v .entry)) first r ⌝ }
 {
-    let mut held = first;
+    let mut saved = first;
     let mut before = first;
     let mut half = 0u64;
     let mut power = 1u64;
@@ -34,9 +34,9 @@ pub fn find_cycle(lookups: &Lookups, k: u8, v: &[u8], first: Tree) -> Cycle
     loop {
         let next = follow_letters(lookups, k, v, &mut sides, now);
         lam += 1;
-        if same_tree(held, &sides, next.tree) {
+        if same_tree(saved, &sides, next.tree) {
             return Cycle {
-                held: held,
+                saved: saved,
                 before: before,
                 half: half,
                 power: power,
@@ -45,8 +45,8 @@ pub fn find_cycle(lookups: &Lookups, k: u8, v: &[u8], first: Tree) -> Cycle
             };
         }
         if lam == power {
-            before = held;
-            held = Tree::taken(&sides, next.tree);
+            before = saved;
+            saved = Tree::taken(&sides, next.tree);
             half = power;
             power = power + power;
             lam = 0;

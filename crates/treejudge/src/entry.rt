@@ -55,7 +55,7 @@ fn entry_between(
     high
 }
 
-// The tree t(place): from the tree that is held, t(high), where that is no later, else from an earlier one, t(from).
+// The tree t(place): from the tree that is saved, t(high), where that is no later, else from an earlier one, t(from).
 fn read_to(
     lookups: &Lookups,
     k: u8,
@@ -64,19 +64,19 @@ fn read_to(
     from: u64,
     earlier: Tree,
     high: u64,
-    held: Tree,
+    saved: Tree,
 ) -> Tree
-    requires { ⌜ (from ≤ place) × TwoRounds (now lookups) k (now v) from earlier high held ⌝ }
-    ensures { λ r. ⌜ ReadTo (now (lookups .entry)) k (now (v .entry)) from earlier high held place r ⌝ }
+    requires { ⌜ (from ≤ place) × TwoRounds (now lookups) k (now v) from earlier high saved ⌝ }
+    ensures { λ r. ⌜ ReadTo (now (lookups .entry)) k (now (v .entry)) from earlier high saved place r ⌝ }
 {
     if high <= place {
-        return read_rounds(lookups, k, v, place - high, held);
+        return read_rounds(lookups, k, v, place - high, saved);
     }
     read_rounds(lookups, k, v, place - from, earlier)
 }
 
-// The entry of the cycle that was found from t(0) on; it is no later than the tree that is held, t(power − 1). A period longer than
-// `half` reaches past the tree that was held before, t(half − 1), so t(period) can be read from there. A shorter one begins at
+// The entry of the cycle that was found from t(0) on; it is no later than the tree that is saved, t(power − 1). A period longer than
+// `half` reaches past the tree that was saved before, t(half − 1), so t(period) can be read from there. A shorter one begins at
 // t(half) or later, since t(half − 1) has not come back.
 pub fn find_entry(lookups: &Lookups, k: u8, v: &[u8], first: Tree, cycle: Cycle) -> u64
     requires { ⌜ SearchDone (now lookups) k (now v) first cycle ⌝ }
@@ -90,13 +90,13 @@ pub fn find_entry(lookups: &Lookups, k: u8, v: &[u8], first: Tree, cycle: Cycle)
     }
     if half < period {
         let from = half - 1;
-        let there = read_to(lookups, k, v, period, from, cycle.before, high, cycle.held);
+        let there = read_to(lookups, k, v, period, from, cycle.before, high, cycle.saved);
         return entry_between(lookups, k, v, 0, high, first, there);
     }
     if half == high {
         return high;
     }
     let here = read_rounds(lookups, k, v, 1, cycle.before);
-    let there = read_to(lookups, k, v, half + period, half, here, high, cycle.held);
+    let there = read_to(lookups, k, v, half + period, half, here, high, cycle.saved);
     entry_between(lookups, k, v, half, high, here, there)
 }

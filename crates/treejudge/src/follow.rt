@@ -2,7 +2,7 @@
 // the present numbers, and each letter carries them from the old numbers to the new ones.
 use step::pass::step_rows;
 use tree::packed::unpack;
-use tree::rows::Sides;
+use tree::rows::DoubleBuffer;
 use tree::sides::OnSide;
 use word::lookups::Lookups;
 ghost use mathlib.Core.Path.{_≡_};
@@ -32,7 +32,7 @@ fn shift_of(old: u8) -> u8
 
 // Both maps of old numbers carried to the numbers of a tree's rows. They lie in one word, 32 bits apart, and a row takes its bit of
 // each at once.
-fn carry(sides: &Sides, on: OnSide, maps: Maps) -> Maps
+fn carry(sides: &DoubleBuffer, on: OnSide, maps: Maps) -> Maps
     requires { ⌜ (on .count ≤ maxStates) × Stands (now sides) on ⌝ }
     ensures { λ r. ⌜ r ≡ carriedMaps (treeOn (now (sides .entry)) on) maps ⌝ }
 {
@@ -73,7 +73,7 @@ pub fn follow_letters(
     lookups: &Lookups,
     k: u8,
     w: &[u8],
-    sides: &mut Sides,
+    sides: &mut DoubleBuffer,
     from: Followed,
 ) -> Followed
     requires { ⌜ Stands (now sides) (from .tree)

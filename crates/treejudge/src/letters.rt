@@ -1,13 +1,19 @@
 // Reading letters: a letter is one step over the rows of a tree.
 use step::pass::step_rows;
-use tree::rows::Sides;
+use tree::rows::DoubleBuffer;
 use tree::sides::OnSide;
 use word::lookups::Lookups;
 ghost use Rattle.tree.specs.inner.Sides.{treeOn, Stands};
 ghost use Rattle.treejudge.specs.inner.Reading.{Readable, ReadsTo};
 
 // The tree after the letters w, which are read from the tree `from`.
-pub fn read_letters(lookups: &Lookups, k: u8, w: &[u8], sides: &mut Sides, from: OnSide) -> OnSide
+pub fn read_letters(
+    lookups: &Lookups,
+    k: u8,
+    w: &[u8],
+    sides: &mut DoubleBuffer,
+    from: OnSide,
+) -> OnSide
     requires { ⌜ Stands (now sides) from × Readable (now lookups) k (now w) (treeOn (now sides) from) ⌝ }
     ensures { λ r. ⌜ Stands (now (sides .exit)) r
         × ReadsTo (now (lookups .entry)) k (now (w .entry)) (treeOn (now (sides .entry)) from) (treeOn (now (sides .exit)) r) ⌝ }

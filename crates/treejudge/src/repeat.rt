@@ -98,9 +98,9 @@ pub fn find_repeat<'a>(lookups: &Lookups, k: u8, u: &'a [u8], v: &'a [u8], first
     let tail = letters_left(u, v, true, 0);
     let cycle = find_cycle(lookups, k, tail, first);
     let entry = find_entry(lookups, k, tail, first, cycle);
-    let held = cycle.held;
+    let saved = cycle.saved;
     Repeat {
-        tree: held,
+        tree: saved,
         witnesses: cycle.witnesses,
         entry: entry,
         period: cycle.period,

@@ -1,6 +1,6 @@
 // Are two trees the same? Their rows tell, but for the old numbers.
+use tree::rows::DoubleBuffer;
 use tree::rows::Rows;
-use tree::rows::Sides;
 use tree::rows::Tree;
 use tree::sides::OnSide;
 ghost use mathlib.Core.Path.{_≡_};
@@ -35,7 +35,7 @@ fn same_rows(rows: &Rows, others: &Rows, count: usize) -> bool
 }
 
 // A tree, and one in place.
-pub fn same_tree(tree: Tree, sides: &Sides, on: OnSide) -> bool
+pub fn same_tree(tree: Tree, sides: &DoubleBuffer, on: OnSide) -> bool
     requires { ⌜ ((tree .count ≤ maxStates) × (on .count ≤ maxStates)) × Stands (now sides) on ⌝ }
     ensures { λ r. ⌜ r ≡ sameTrees tree (treeOn (now (sides .entry)) on) ⌝ }
 {
@@ -48,7 +48,7 @@ pub fn same_tree(tree: Tree, sides: &Sides, on: OnSide) -> bool
 }
 
 // Two trees in place.
-pub fn same_on(a: &Sides, on: OnSide, b: &Sides, other: OnSide) -> bool
+pub fn same_on(a: &DoubleBuffer, on: OnSide, b: &DoubleBuffer, other: OnSide) -> bool
     requires { ⌜ ((on .count ≤ maxStates) × (other .count ≤ maxStates)) × (Stands (now a) on × Stands (now b) other) ⌝ }
     ensures { λ r. ⌜ r ≡ sameTrees (treeOn (now (a .entry)) on) (treeOn (now (b .entry)) other) ⌝ }
 {

@@ -50,7 +50,7 @@ module _ (table u v : List ℕ) where
     pub walk-yes : number ≡ 0 → walkQuestions table u v ≡ accepted (r .rule)
     walk-yes none = behind ∙ walk-next (header .letters) u v (accepted (r .rule)) (sym e ∙ none)
 
-    -- then the walk is prepared, once its letters have their tables
+    -- then the walk is prepared, once its letters have their look-ups
     pub walk-ready : number ≡ 0 → (before : Lookups) {lookups : Lookups} → lookups ≡ lookupsAfter words u v before → Prepared (r .rule) header lookups u v
     walk-ready none before {lookups} made =
         let (_, _, _, below, below′) = walk-accepted (header .letters) u v (sym e ∙ none) in

@@ -137,7 +137,7 @@ accepting-same R u v u′ v′ same A = record { run = run; often = often }
     often i h k p = let (q, l, t) = A .often i h k p in (q, l, rw (same q) t)
 
 -- a loop makes an accepting run, whether or not the rule is well-formed: the lead is a prefix of the same walk, and
--- the loop a cycle of it
+-- the loop a tail of it
 pub lasso-run : (R : Rule) (u v : List ℕ) → WellFormed R → (v ≡ [] → ⊥) → Lasso R u v → AcceptingRun R u v
 lasso-run R u v _ nonempty L =
     accepting-same R (u ++ rounds (L .lead) v) (rounds (L .turns) v) u v

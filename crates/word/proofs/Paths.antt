@@ -22,7 +22,7 @@ unfolding rounds
 rounds-add zero j v = rw zero-add
 rounds-add (suc i) j v = rw (suc-add, append-assoc, rounds-add i j v)
 
--- one round is the cycle
+-- one round is the tail
 pub rounds-one : (v : List ℕ) → rounds 1 v ≡ v
 unfolding rounds
 rounds-one v = append-nil v

@@ -1,5 +1,5 @@
 -- The letters of a walk by position (document 01, "Walks and verdicts"): u first, then v over and over. A walk stays
--- the same if rounds of its cycle are moved into its prefix, and if several rounds are taken for one.
+-- the same if rounds of its tail are moved into its prefix, and if several rounds are taken for one.
 use mathlib.Core.Path.{_≡_, refl, sym, ap, _∙_}
 use mathlib.Core.List.{List, [], _∷_, _++_}
 use Prim.Native.Nat.{ℕ, zero, suc, _+_, _-_, _*_, _%_, _≤_, _<_}
@@ -20,7 +20,7 @@ pub letter-prefix : (u v : List ℕ) (p : ℕ) → p < length u → letterAt u v
 unfolding letterAt
 letter-prefix u v p h = rw (lt-ltb p (length u) h)
 
--- p letters behind the prefix: the cycle's letter at p modulo its length
+-- p letters behind the prefix: the tail's letter at p modulo its length
 pub letter-behind : (u v : List ℕ) (p : ℕ) → letterAt u v (length u + p) ≡ getD v (p % length v) 0
 unfolding letterAt
 letter-behind u v p =
@@ -64,7 +64,7 @@ every-letter P u v filled lead tail p = go (decLt p (length u))
 
 -- ROUNDS
 
--- a cycle that is not empty has a letter
+-- a tail that is not empty has a letter
 pub filled : (v : List ℕ) → (v ≡ [] → ⊥) → 1 ≤ length v
 filled [] nonempty = absurd (nonempty refl)
 filled (a ∷ v) nonempty = omega arith
@@ -92,7 +92,7 @@ getD-rounds (suc r) v q h = go (getD-rounds r v) (decLt q (length v))
 
 -- THE SAME WALK
 
--- the walk u v v v … is also the walk with prefix u and i rounds of v, and with j rounds of v for its cycle
+-- the walk u v v v … is also the walk with prefix u and i rounds of v, and with j rounds of v for its tail
 pub letter-unrolled : (u v : List ℕ) (i j : ℕ) → 1 ≤ j → 1 ≤ length v → (p : ℕ)
     → letterAt (u ++ rounds i v) (rounds j v) p ≡ letterAt u v p
 letter-unrolled u v i j turns filled p = go (decLt p (length u))

@@ -1,5 +1,5 @@
 -- Walks (document 01, "Walks and verdicts"): ultimately periodic words u v v v …, a prefix u (the lead-in) and a
--- cycle v (the tail) that repeats for ever.
+-- tail v that repeats for ever.
 use mathlib.Core.Path.{_≡_}
 use mathlib.Core.Bool.{Bool, _&&_, cond}
 use mathlib.Core.List.{List, [], _++_}
@@ -41,7 +41,7 @@ letterAt u v p = cond (ltb p (length u)) (getD u p 0) (getD v ((p - length u) % 
 abbrev pub SameLetters : List ℕ → List ℕ → List ℕ → List ℕ → Type 0
 SameLetters u v u′ v′ = (p : ℕ) → letterAt u v p ≡ letterAt u′ v′ p
 
--- r rounds: the cycle v, r times
+-- r rounds: the tail v, r times
 unfoldable pub rounds : ℕ → List ℕ → List ℕ
 rounds zero v = []
 rounds (suc r) v = v ++ rounds r v

@@ -1,4 +1,4 @@
-// The questions to a table and a walk, and the look-up tables of the walk's letters. Both judges begin so.
+// The questions to a table and a walk, and the look-ups of the walk's letters. Both judges begin so.
 use crate::lookups::Lookups;
 use crate::lookups::walk_lookups;
 use crate::walk::walk_number;
@@ -14,7 +14,7 @@ ghost use Rattle.table.specs.inner.Preparing.{Prepares};
 ghost use Rattle.word.specs.Judging.{walkQuestions};
 ghost use Rattle.word.specs.inner.Prepared.{Prepared};
 
-// Questions 1 to 6 to a table, 7 and 8 to a walk. On yes the look-up tables of the walk's letters are made in place.
+// Questions 1 to 6 to a table, 7 and 8 to a walk. On yes the look-ups of the walk's letters are made in place.
 pub fn walk_questions(table: &[u8], u: &[u8], v: &[u8], lookups: &mut Lookups) -> Reading
     requires { ⌜ length (now lookups) ≡ maxLetters ⌝ }
     ensures { λ r. ⌜ Prepares (walkQuestions (now (table .entry)) (now (u .entry)) (now (v .entry)))

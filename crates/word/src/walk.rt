@@ -46,7 +46,7 @@ fn letters_from(w: &[u8], at: usize) -> &[u8]
     }
 }
 
-// "At each place the letters still to be read are the rest of whichever of u and v is being read": of v in the cycle,
+// "At each place the letters still to be read are the rest of whichever of u and v is being read": of v in the tail,
 // of u before it.
 pub fn letters_left<'a>(u: &'a [u8], v: &'a [u8], in_tail: bool, at: usize) -> &'a [u8]
     ensures { λ r. ⌜ now r ≡ lettersLeft in_tail (now (u .entry)) (now (v .entry)) at ⌝ }

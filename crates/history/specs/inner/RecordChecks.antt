@@ -1,4 +1,4 @@
--- Question 9 as checks that are made byte by byte (document 01, "Trees"). proofs/RecordChecks.antt shows that they say yes exactly
+-- Question 9 as checks that are made byte by byte (document 01, "Trees"). proofs/records/RecordChecks.antt shows that they say yes exactly
 -- where `isRecord` does.
 use mathlib.Core.Bool.{Bool, true, false, _&&_, cond}
 use mathlib.Core.List.{List, [], _∷_}

@@ -14,7 +14,7 @@ use Rattle.history.specs.Letter.{nextSet}
 use Rattle.history.specs.inner.OldNumbers.{noNode}
 use Rattle.tree.specs.inner.Rows.{blankRow}
 use Rattle.tree.specs.declared.rows.Row.{Row}
-use Rattle.step.specs.declared.pass.Met.{Met}
+use Rattle.step.specs.declared.pass.NewLabels.{NewLabels}
 
 -- a letter's look-up has images for each row's active set
 abbrev pub SetsFit : List Row → Type 0
@@ -23,15 +23,15 @@ SetsFit rows = (i : ℕ) → getD rows i blankRow .active ≤ maxSets
 -- STEPS 1 TO 3 AT A ROW
 
 -- the states of a row's node that older nodes have not taken, those of its children, and those of its sprouted child
-unfoldable pub metBy : (ℕ → ℕ → ℕ) → Row → ℕ → Met
-metBy E x taken =
+unfoldable pub newLabels : (ℕ → ℕ → ℕ) → Row → ℕ → NewLabels
+newLabels E x taken =
     record {
       label = minus (E 0 (x .label)) taken;
       kids = minus (bitOr (E 0 (x .kids)) (E (x .active) (x .label))) taken;
       sprout = E (x .active) (x .label);
     }
 
--- the siblings at one depth, as the pass meets them from the oldest to the youngest: the states that older nodes have
+-- the siblings at one depth, as the pass reads them from the oldest to the youngest: the states that older nodes have
 -- taken, the states of the child that their parent sprouts, and whether the names are kept up to here
 pub record Level : Type 0 where
   pub taken : ℕ
@@ -42,14 +42,14 @@ pub record Level : Type 0 where
 abbrev pub outermost : Level
 outermost = record { taken = 0; sprout = 0; named = true }
 
--- a sprouted child at depth d, once its older siblings are met
+-- a sprouted child at depth d, once its older siblings are read
 unfoldable pub sproutRow : ℕ → ℕ → ℕ → Row
 sproutRow d sprout taken = record { depth = d; label = minus sprout taken; kids = 0; active = 1; old = noNode }
 
 -- STEP 4 AT A ROW
 
 -- the row of a node with a non-empty label: it accepts where its label is the union of its children's
-unfoldable pub settledRow : ℕ → Row → Met → ℕ → Row
+unfoldable pub settledRow : ℕ → Row → NewLabels → ℕ → Row
 settledRow k x m i =
     cond (eqb (m .label) (m .kids))
     (record { depth = x .depth; label = m .label; kids = 0; active = nextSet k (x .active); old = i })
@@ -65,9 +65,9 @@ joinedIf map i b = cond b (bitOr map (2 ^ i)) map
 
 -- THE DEPTHS
 
--- the levels, the deepest first, once a row of the deepest is met: a removed node costs its younger siblings their names;
+-- the levels, the deepest first, once a row of the deepest is read: a removed node costs its younger siblings their names;
 -- another one takes its states; and where it keeps its children their level is opened
-unfoldable pub entered : Met → List Level → List Level
+unfoldable pub entered : NewLabels → List Level → List Level
 entered m [] = []
 entered m (l ∷ levels) =
     cond (eqb (m .label) 0)
@@ -111,9 +111,9 @@ closedTo d p =
       stable = p .stable;
     }
 
--- the row numbered i, of the deepest level, is met
-unfoldable pub metRow : ℕ → ℕ → Row → Met → Pass → Pass
-metRow k i x m p =
+-- the row numbered i, of the deepest level, is read
+unfoldable pub passedRow : ℕ → ℕ → Row → NewLabels → Pass → Pass
+passedRow k i x m p =
     cond (eqb (m .label) 0)
     (record { levels = entered m (p .levels); rows = p .rows; accepting = p .accepting; stable = p .stable })
     (record {
@@ -126,7 +126,7 @@ metRow k i x m p =
 -- a row below a node that was removed, or that has lost its descendants, is passed over
 unfoldable pub readRow : (ℕ → ℕ → ℕ) → ℕ → ℕ → Row → Pass → Pass
 readRow E k i x p =
-    cond (ltb (x .depth) (length (p .levels))) (metRow k i x (metBy E x (deepest (p .levels) .taken)) p) p
+    cond (ltb (x .depth) (length (p .levels))) (passedRow k i x (newLabels E x (deepest (p .levels) .taken)) p) p
 
 -- rows numbered from i on: a row closes the deeper levels, and so does the end
 unfoldable pub passOver : (ℕ → ℕ → ℕ) → ℕ → ℕ → Pass → List Row → Pass
@@ -154,8 +154,8 @@ abbrev pub ByDepth : List ℕ → List ℕ → List Bool → Type 0
 ByDepth taken sprout named =
     (length taken ≡ suc maxStates) × ((length sprout ≡ suc maxStates) × (length named ≡ suc maxStates))
 
--- the arrays, and the depth of the deepest level, once a row at depth `top` is met
-pub record Entered (m : Met) (top : ℕ) (taken sprout : List ℕ) (named : List Bool)
+-- the arrays, and the depth of the deepest level, once a row at depth `top` is read
+pub record Entered (m : NewLabels) (top : ℕ) (taken sprout : List ℕ) (named : List Bool)
     (next : ℕ) (taken′ sprout′ : List ℕ) (named′ : List Bool) : Type 0 where
   pub deeper : next ≤ suc top
   pub sizes : ByDepth taken′ sprout′ named′

@@ -45,7 +45,7 @@ FirstRound lookups k v first = (R : Rule) × (u : List ℕ) × AtRound R u v loo
 
 -- what is known of a found cycle, where entry and period are those of the first repeat
 pub record CycleOf (R : Rule) (u v : List ℕ) (entry period : ℕ) (c : Cycle) : Type 0 where
-  pub held : HoldsTree R (roundTree R u v (c .power - 1)) (c .held)
+  pub saved : HoldsTree R (roundTree R u v (c .power - 1)) (c .saved)
   pub before : HoldsTree R (roundTree R u v (c .half - 1)) (c .before)
   pub below : c .half < c .power
   pub doubles : 1 < c .power → c .power ≡ c .half + c .half

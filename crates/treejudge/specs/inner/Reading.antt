@@ -1,4 +1,4 @@
--- Reading letters: what the contracts of the tree judge's own functions say of tables and rows.
+-- Reading letters: what the contracts of the tree judge's own functions say of look-ups and rows.
 use mathlib.Core.Path.{_≡_}
 use mathlib.Core.List.{List}
 use Prim.Native.Nat.{ℕ}

@@ -7,7 +7,7 @@ use Rattle.table.specs.inner.ReadRule.{WithinLimits, NumbersOf}
 use Rattle.table.specs.declared.header.Header.{Header}
 use Rattle.word.specs.inner.WalkLookups.{Lookups, HasLookup}
 
--- the rule R is within the limits and has these numbers, and each letter of the walk has its table
+-- the rule R is within the limits and has these numbers, and each letter of the walk has its look-up
 pub record Prepared (R : Rule) (header : Header) (lookups : Lookups) (u v : List ℕ) : Type 0 where
   pub numbers : NumbersOf R header
   pub limits : WithinLimits R

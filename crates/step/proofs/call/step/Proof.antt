@@ -1,4 +1,4 @@
--- One letter on a record: the questions to the table and the letter, then the step by the letter's table.
+-- One letter on a record: the questions to the table and the letter, then the step by the letter's look-up.
 use borrow.Author.Needs.{needs}
 use mathlib.Core.Path.{refl}
 use Rattle.table.proofs.Asked.{asked-no, asked-yes}

@@ -1,4 +1,4 @@
--- One letter on a record, under a rule and by the letter's table: the laws of StepCall.
+-- One letter on a record, under a rule and by the letter's look-up: the laws of StepCall.
 use borrow.Author.Needs.{needs}
 use native.Mathlib.Omega.{arith}
 use mathlib.Core.List.{[]}

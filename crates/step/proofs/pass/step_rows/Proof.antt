@@ -19,7 +19,7 @@ use Rattle.step.proofs.pass.step_rows.Reads as reads
 use Rattle.step.proofs.pass.step_rows.Lts as lts
 use Rattle.step.proofs.pass.enter.Reads as enter-reads
 use Rattle.step.proofs.pass.joined_if.Reads as joined-if-reads
-use Rattle.step.proofs.pass.meet.Reads as meet-reads
+use Rattle.step.proofs.pass.new_labels.Reads as new-labels-reads
 use Rattle.step.proofs.pass.next_depth.Reads as next-depth-reads
 use Rattle.step.proofs.pass.settled_row.Reads as settled-row-reads
 use Rattle.step.proofs.pass.sprout_row.Reads as sprout-row-reads
@@ -43,8 +43,8 @@ row : (c : lts.After-unpack (
   sprout-row-reads.Learnt,
   pack-reads.Asked,
   pack-reads.Learnt,
-  meet-reads.Asked,
-  meet-reads.Learnt,
+  new-labels-reads.Asked,
+  new-labels-reads.Learnt,
   enter-reads.Asked,
   enter-reads.Learnt,
   settled-row-reads.Asked,
@@ -68,8 +68,8 @@ less : (c : lts.Else3 (
   sprout-row-reads.Learnt,
   pack-reads.Asked,
   pack-reads.Learnt,
-  meet-reads.Asked,
-  meet-reads.Learnt,
+  new-labels-reads.Asked,
+  new-labels-reads.Learnt,
   enter-reads.Asked,
   enter-reads.Learnt,
   settled-row-reads.Asked,
@@ -171,14 +171,14 @@ loop-again-2 c =
 add-i : tie.Need-add-i Inv-loop μ-loop
 add-i c = search needs
 
-mul-meet : tie.Need-mul-meet Inv-loop μ-loop
-mul-meet c = search needs
+mul-new-labels : tie.Need-mul-new-labels Inv-loop μ-loop
+mul-new-labels c = search needs
 
-array-read-meet : tie.Need-array-read-meet Inv-loop μ-loop
-array-read-meet c = search needs
+array-read-new-labels : tie.Need-array-read-new-labels Inv-loop μ-loop
+array-read-new-labels c = search needs
 
-meet-requires : tie.Need-meet-requires Inv-loop μ-loop
-meet-requires c κs =
+new-labels-requires : tie.Need-new-labels-requires Inv-loop μ-loop
+new-labels-requires c κs =
     let u = c .before .before .before in
     rw (row u) (set-fits _ _ _ (u .before .before .before .before .pre .fits) (less (c .before)))
 
@@ -249,7 +249,7 @@ loop-again-3 c =
     let w = c .before .before .before in
     sides-written _ _ _ _ _ v _ _ (w .pack2 .ensures)
     (row-kept _ _ _ _ (v .reading) _ (rw x at (d .next-depth .ensures)) (less (m .before .before)) (m .before .if5 .taken)
-    _ (rw x at (m .meet .ensures)) (e .enter .ensures) (w .before .before .if6 .taken)
+    _ (rw x at (m .new-labels .ensures)) (e .enter .ensures) (w .before .before .if6 .taken)
     _ (rw x at (w .before .settled-row .ensures)) _ _ (c .before .joined-if .ensures) (c .joined-if2 .ensures))
 
 loop-less-4 : tie.Need-loop-less-4 Inv-loop μ-loop
@@ -266,7 +266,7 @@ loop-again-4 c =
     let v = d .before .before .before .before .loop .inv in
     sides-kept _ _ _ _ _ v
     (row-removed _ _ _ _ (v .reading) _ (rw x at (d .next-depth .ensures)) (less (m .before .before)) (m .before .if5 .taken)
-    _ (rw x at (m .meet .ensures)) (e .enter .ensures) (c .if6 .left))
+    _ (rw x at (m .new-labels .ensures)) (e .enter .ensures) (c .if6 .left))
 
 loop-less-5 : tie.Need-loop-less-5 Inv-loop μ-loop
 loop-less-5 c = omega (arith, less (c .before))
@@ -318,9 +318,9 @@ step-rows-spec =
     loop-less-2
     loop-again-2
     add-i
-    mul-meet
-    array-read-meet
-    meet-requires
+    mul-new-labels
+    array-read-new-labels
+    new-labels-requires
     array-read-name
     enter-requires
     settled-row-requires

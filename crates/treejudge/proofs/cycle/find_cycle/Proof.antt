@@ -15,16 +15,16 @@ use Rattle.treejudge.proofs.cycle.find_cycle.Statement.{statement}
 use Rattle.treejudge.proofs.cycle.find_cycle.Tie as tie
 
 abbrev Inv-loop : tie.InvT-loop
-Inv-loop lookups k v held₀ before₀ half₀ power₀ lam₀ sides₀ now₀ held before half power lam sides now =
-    Stands sides (now .tree) × ((R : Rule) (u : List ℕ) → AtRound R u v lookups k 0 held₀
-    → Searching R u v lookups k held before half power lam (treeOn sides (now .tree)) (now .maps))
+Inv-loop lookups k v saved₀ before₀ half₀ power₀ lam₀ sides₀ now₀ saved before half power lam sides now =
+    Stands sides (now .tree) × ((R : Rule) (u : List ℕ) → AtRound R u v lookups k 0 saved₀
+    → Searching R u v lookups k saved before half power lam (treeOn sides (now .tree)) (now .maps))
 
 abbrev μ-loop : tie.MeasureT-loop
-μ-loop lookups k v held₀ before₀ half₀ power₀ lam₀ sides₀ now₀ held before half power lam sides now = 2 ^ 65 - (power + lam)
+μ-loop lookups k v saved₀ before₀ half₀ power₀ lam₀ sides₀ now₀ saved before half power lam sides now = 2 ^ 65 - (power + lam)
 
 -- the search over the rule and the lead-in that are known
 search-known : (c : tie.At-loop Inv-loop μ-loop) → let args = c .before .before .before .before .before .args in (R : Rule) × (u : List ℕ)
-    × Searching R u (args .v .now) (args .lookups .now) (args .k) (c .loop .held) (c .loop .before) (c .loop .half) (c .loop .power)
+    × Searching R u (args .v .now) (args .lookups .now) (args .k) (c .loop .saved) (c .loop .before) (c .loop .half) (c .loop .power)
     (c .loop .lam) (treeOn (c .loop .sides) (c .loop .now .tree)) (c .loop .now .maps)
 unfolding FirstRound
 search-known c = let (R, u, A) = c .before .before .before .before .before .pre in (R, u, c .loop .inv .1 R u A)

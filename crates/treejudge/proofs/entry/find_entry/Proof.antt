@@ -1,7 +1,7 @@
 -- `find_entry` meets its contract: the search for the entry begins at t(0), or at t(half) for a period no longer than `half`.
 use native.Mathlib.Omega.{arith}
 use Rattle.treejudge.specs.inner.Cycles.{SomeRound, TwoRounds, Bracketed, EntryBetween, SearchDone, EntryFound}
-use Rattle.treejudge.proofs.EntrySearch.{held-place, before-place, bracket-first, entry-from-half, half-place, bracket-half}
+use Rattle.treejudge.proofs.EntrySearch.{saved-place, before-place, bracket-first, entry-from-half, half-place, bracket-half}
 use Rattle.treejudge.proofs.entry.find_entry.Statement.{statement}
 use Rattle.treejudge.proofs.entry.find_entry.Tie as tie
 
@@ -23,7 +23,7 @@ read-to-requires : tie.Need-read-to-requires
 unfolding SearchDone TwoRounds
 read-to-requires c κs =
     let (R, u, entry, period, S) = c .before .before .before .before .pre in
-    (omega (arith, c .if2 .taken), (R, u, before-place S, held-place S))
+    (omega (arith, c .if2 .taken), (R, u, before-place S, saved-place S))
 
 entry-between-requires : tie.Need-entry-between-requires
 unfolding SearchDone Bracketed
@@ -58,7 +58,7 @@ unfolding SearchDone TwoRounds
 read-to-requires-2 c κs =
     let short = c .before .before in
     let (R, u, entry, period, S) = short .before .before .before .before .pre in
-    (omega arith, (R, u, half-place S (short .if2 .left) (c .read-rounds .ensures), held-place S))
+    (omega arith, (R, u, half-place S (short .if2 .left) (c .read-rounds .ensures), saved-place S))
 
 entry-between-requires-2 : tie.Need-entry-between-requires-2
 unfolding SearchDone Bracketed

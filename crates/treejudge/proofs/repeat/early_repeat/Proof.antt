@@ -120,9 +120,9 @@ returns-2 c R u A =
     let second = joined .before .before .before in
     let cut = to-cut (second .before .before .before) in
     let back = again .follow-letters2 .ensures .1 in
-    let met = told-yes (c .before .same-tree2 .ensures) (c .if2 .left) in
-    ⊎-elim (λ w. rw (w .1) (repeat-still R u _ _ _ _ _ A _ cut _ _ (to-second second) _ _ back met (still ∙ w .0 .taken)))
-    (λ w. rw (w .1) (repeat-moved R u _ _ _ _ _ A _ cut _ _ (to-second second) _ _ back met (still ∙ w .0 .left))) (joined .if1 .came)
+    let same = told-yes (c .before .same-tree2 .ensures) (c .if2 .left) in
+    ⊎-elim (λ w. rw (w .1) (repeat-still R u _ _ _ _ _ A _ cut _ _ (to-second second) _ _ back same (still ∙ w .0 .taken)))
+    (λ w. rw (w .1) (repeat-moved R u _ _ _ _ _ A _ cut _ _ (to-second second) _ _ back same (still ∙ w .0 .left))) (joined .if1 .came)
 
 returns : tie.Need-returns
 returns c = tt
