@@ -28,8 +28,8 @@ fn main() {
         return;
     }
     if let Ok(folder) = env::var("SUTHRELDO_LIB") {
-        println!("cargo:rerun-if-changed={folder}/libcapi.a");
+        println!("cargo:rerun-if-changed={folder}/libsuthreldo.a");
         println!("cargo:rustc-link-search=native={folder}");
     }
-    println!("cargo:rustc-link-lib=static=capi");
+    println!("cargo:rustc-link-lib=static=suthreldo");
 }

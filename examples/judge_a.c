@@ -1,7 +1,7 @@
 /* Judges table A of the specification, lead-in empty, tail 1, with both judges.
  *
- *     rt staticlib capi
- *     cc -Iinclude examples/judge_a.c target/staticlib/libcapi.a -o target/judge_a && target/judge_a
+ *     rt staticlib suthreldo
+ *     cc -Iinclude examples/judge_a.c target/staticlib/libsuthreldo.a -o target/judge_a && target/judge_a
  */
 #include <stdio.h>
 #include "suthreldo.h"

@@ -1,4 +1,4 @@
-/* Suthreldo for C: the public calls of the rule judge (libcapi.a, made by `rt staticlib capi`).
+/* Suthreldo for C: the public calls of the rule judge (libsuthreldo.a, made by `rt staticlib suthreldo`).
  *
  * What a call promises. It ends, reads and writes nothing but what it is lent, and answers for all inputs as its comment says.
  * `number` is 0 (SUTHRELDO_ACCEPTED) where the call is accepted. Else it is the number of the first question of the specification that
