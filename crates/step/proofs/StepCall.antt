@@ -20,10 +20,9 @@ use Rattle.history.specs.Tree.{Tree}
 use Rattle.history.specs.Record.{readTree}
 use Rattle.history.proofs.records.QuestionNine.{record-accepted}
 use Rattle.history.proofs.step.TreesOf.{of-tree}
-use Rattle.tree.specs.inner.PackedRows.{countedRows}
 use Rattle.tree.specs.inner.RecordCode.{checkedTree, countAs, treeBeside, Checks}
 use Rattle.tree.specs.inner.Rows.{HoldsTree}
-use Rattle.tree.specs.inner.Sides.{treeOn, Laid, SomeTreeOn}
+use Rattle.tree.specs.inner.Sides.{treeOn, Laid}
 use Rattle.tree.specs.inner.RecordRows.{rowsRecord, Recordable}
 use Rattle.tree.specs.StartCall.{recordRoom}
 use Rattle.tree.specs.declared.record.Count.the-variants.{Nodes, Refused}
@@ -119,21 +118,16 @@ module _ {R : Rule} {header : Header} {a : ℕ} {lookup : Lookup} (p : PreparedL
           steps : StepsTo R a (w .tree) (treeOn after (record { side = 1; count = r .count })) r
           steps = place-steps (p .limits) sides first here lookup (header .sets) a sets (p .is-lookup .entries) r after step
 
-          -- so that it can be taken up
-          pub step-next : SomeTreeOn after (record { side = 1; count = r .count })
-          step-next = record { stands = (step .arrays, omega arith); rule = R; tree = _; holds = steps .next }
+          -- it can be recorded
+          pub step-recordable : Recordable (header .states) (treeOn after (record { side = 1; count = r .count }))
+          step-recordable = rw (p .numbers) (held-recordable (steps .next) (p .limits))
 
-          module _ {y : CodeTree} (up : y ≡ treeOn after (record { side = 1; count = r .count })) where
-            -- and recorded
-            pub step-recordable : Recordable (header .states) y
-            step-recordable = rw (up, p .numbers) (held-recordable (steps .next) (p .limits))
-
-            -- all questions are answered yes
-            pub step-done : recordRoom ≤ length before → (written : ℕ) (buffer : List ℕ)
-                → written ≡ length (rowsRecord (header .states) (countedRows y))
-                → buffer ≡ stored 0 (rowsRecord (header .states) (countedRows y)) before
-                → StepDone (stepUnder R a bytes before) before
-                (record { number = 0; written = written; accepting = r .accepting; stable = r .stable }) buffer
-            unfolding stepUnder stepAnswer stepAfter
-            step-done h written buffer e f = rw (e, f, up, p .numbers, held-record (steps .next), steps .accepting, steps .stable)
-                (rw (w .reads, le-leb _ _ h) (refl, refl))
+          -- all questions are answered yes
+          pub step-done : recordRoom ≤ length before → (written : ℕ) (buffer : List ℕ)
+              → written ≡ length (rowsRecord (header .states) (rowsOn after 1 (r .count)))
+              → buffer ≡ stored 0 (rowsRecord (header .states) (rowsOn after 1 (r .count))) before
+              → StepDone (stepUnder R a bytes before) before
+              (record { number = 0; written = written; accepting = r .accepting; stable = r .stable }) buffer
+          unfolding stepUnder stepAnswer stepAfter
+          step-done h written buffer e f = rw (e, f, p .numbers, held-record (steps .next), steps .accepting, steps .stable)
+              (rw (w .reads, le-leb _ _ h) (refl, refl))

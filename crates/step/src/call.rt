@@ -59,7 +59,7 @@ fn step_prepared(lookup: &Lookup, header: Header, bytes: &[u8], buffer: &mut [u8
         side: 1,
         count: next.count,
     };
-    let written = put_record(Tree::taken(&sides, after), header.states, buffer);
+    let written = put_record(&sides, after, header.states, buffer);
     StepAnswer {
         number: 0,
         written: written,

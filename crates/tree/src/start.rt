@@ -41,7 +41,8 @@ pub fn start(table: &[u8], buffer: &mut [u8]) -> StartAnswer
                 return start_refusal(10);
             }
             let tree = Tree::start(header.start);
-            let written = put_record(tree, header.states, buffer);
+            let sides = tree.laid();
+            let written = put_record(&sides, tree.on_first_side(), header.states, buffer);
             StartAnswer {
                 number: 0,
                 written: written,
@@ -49,5 +50,3 @@ pub fn start(table: &[u8], buffer: &mut [u8]) -> StartAnswer
         }
     }
 }
-
-// A refusal: its number and zero for all else.

@@ -1,8 +1,7 @@
-// The record of a tree from its rows, stored into a lent buffer.
+// The record of a tree in place, stored into a lent buffer.
 use crate::packed::unpack;
 use crate::rows::DoubleBuffer;
 use crate::rows::Row;
-use crate::rows::Tree;
 use crate::sides::OnSide;
 ghost use mathlib.Core.Path.{_≡_};
 ghost use mathlib.Core.Bool.{not, _&&_};
@@ -91,21 +90,19 @@ fn put_tags(sides: &DoubleBuffer, on: OnSide, n: usize, out: &mut [u8], from: us
     at
 }
 
-// A tree's record, stored in front; answers its length. "The dead tree's record is the byte 0." The tree is laid, so that its rows
-// can be lent.
-pub fn put_record(tree: Tree, n: usize, out: &mut [u8]) -> usize
-    requires { ⌜ Recordable n tree × (recordRoom ≤ length (now out)) ⌝ }
-    ensures { λ r. ⌜ (r ≡ length (rowsRecord n (countedRows tree)))
-        × (now (out .exit) ≡ stored 0 (rowsRecord n (countedRows tree)) (now (out .entry))) ⌝ }
+// The record of a tree in place, stored in front; answers its length. "The dead tree's record is the byte 0."
+pub fn put_record(sides: &DoubleBuffer, on: OnSide, n: usize, out: &mut [u8]) -> usize
+    requires { ⌜ Recordable n (treeOn (now sides) on) × Stands (now sides) on × (recordRoom ≤ length (now out)) ⌝ }
+    ensures { λ r. ⌜ (r ≡ length (rowsRecord n (countedRows (treeOn (now (sides .entry)) on))))
+        × (now (out .exit) ≡ stored 0 (rowsRecord n (countedRows (treeOn (now (sides .entry)) on))) (now (out .entry))) ⌝ }
 {
-    if tree.count == 0 {
+    if on.count == 0 {
         out[0] = 0;
         return 1;
     }
-    let sides = tree.laid();
-    let on = tree.on_first_side();
-    let root = unpack(sides[0][0]);
+    let side = on.side;
+    let root = unpack(sides[side][0]);
     out[0] = root.label as u8;
-    let at = put_hosts(&sides, on, root.label, n, out, 1);
-    put_tags(&sides, on, n, out, at)
+    let at = put_hosts(sides, on, root.label, n, out, 1);
+    put_tags(sides, on, n, out, at)
 }

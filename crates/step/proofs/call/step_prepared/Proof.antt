@@ -5,7 +5,7 @@ use mathlib.Core.List.{[]}
 use Prim.Native.Nat.{ℕ}
 use Rattle.rule.specs.Rule.{Rule}
 use Rattle.table.specs.inner.Preparing.{PreparedLetter}
-use Rattle.step.proofs.StepCall.{TreeRead, tree-read, numbers-fit, step-no-tree, step-no-room, step-ready, step-next, step-recordable, step-done}
+use Rattle.step.proofs.StepCall.{TreeRead, tree-read, numbers-fit, step-no-tree, step-no-room, step-ready, step-recordable, step-done}
 use Rattle.step.proofs.call.step_prepared.Statement.{statement}
 use Rattle.step.proofs.call.step_prepared.Tie as tie
 
@@ -54,23 +54,17 @@ step-rows-requires c κs =
     let (R, a, p) = begun n .pre in
     step-ready p _ [] (tree n R a p) (laid .laid .ensures)
 
-taken-requires : tie.Need-taken-requires
-taken-requires c κs =
-    let s = c .before in
-    let laid = s .before .before .before in
-    let n = laid .before .before .before in
-    let (R, a, p) = begun n .pre in
-    step-next p _ [] (tree n R a p) (laid .laid .ensures) (s .step-rows .ensures)
-
 put-record-requires : tie.Need-put-record-requires
 put-record-requires c κs =
-    let up = c .before in
-    let s = up .before .before in
+    let s = c .before .before in
     let laid = s .before .before .before in
     let room = laid .before in
     let n = room .before .before in
-    let (R, a, p) = begun n .pre in
-    (step-recordable p _ [] (tree n R a p) (laid .laid .ensures) (s .step-rows .ensures) (up .taken .ensures), room .if1 .left)
+    let (R, a, p) = begun n .pre in (
+      step-recordable p _ [] (tree n R a p) (laid .laid .ensures) (s .step-rows .ensures),
+      (s .step-rows .ensures .arrays, omega arith),
+      room .if1 .left,
+    )
 
 same-length : tie.Need-same-length
 same-length c = search needs
@@ -78,11 +72,10 @@ same-length c = search needs
 returns-3 : tie.Need-returns-3
 returns-3 c R a p =
     let put = c .before .before in
-    let up = put .before .before in
-    let s = up .before .before in
+    let s = put .before .before .before in
     let laid = s .before .before .before in
     let room = laid .before in
-    step-done p _ _ (tree (room .before .before) R a p) (laid .laid .ensures) (s .step-rows .ensures) (up .taken .ensures) (room .if1 .left) _ _
+    step-done p _ _ (tree (room .before .before) R a p) (laid .laid .ensures) (s .step-rows .ensures) (room .if1 .left) _ _
     (put .put-record .ensures .0) (put .put-record .ensures .1)
 
 pub step-prepared-spec : {M : Type 1} → statement M
@@ -99,7 +92,6 @@ step-prepared-spec =
     laid-requires
     cast-step-rows
     step-rows-requires
-    taken-requires
     put-record-requires
     same-length
     returns-3)

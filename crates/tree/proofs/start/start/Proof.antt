@@ -1,5 +1,6 @@
 -- The starting record, by the laws of StartCall.
 use borrow.Author.Needs.{needs}
+use native.Mathlib.Omega.{arith}
 use Rattle.table.proofs.Asked.{arrays-blank, RuleRead, read-no, read-yes}
 use Rattle.tree.proofs.StartCall.{start-refused, start-no-room, start-recordable, start-done}
 use Rattle.tree.proofs.start.start.Statement.{statement}
@@ -31,10 +32,21 @@ returns c = start-no-room (rule (c .before .before .before)) _ (c .before .if1 .
 start-requires : tie.Need-start-requires
 start-requires c κs = search needs
 
+laid-requires : tie.Need-laid-requires
+laid-requires c κs = search needs
+
+on-first-side-requires : tie.Need-on-first-side-requires
+on-first-side-requires c κs = search needs
+
 put-record-requires : tie.Need-put-record-requires
 put-record-requires c κs =
-    let made = c .before in
-    (start-recordable (rule (made .before .before .before)) _ (made .start .ensures), made .before .if1 .left)
+    let laid = c .before .before .before in
+    let made = laid .before in
+    rw (c .before .on-first-side .ensures) (
+      rw (laid .laid .ensures .are) (start-recordable (rule (made .before .before .before)) _ (made .start .ensures)),
+      (laid .laid .ensures .arrays, omega arith),
+      made .before .if1 .left,
+    )
 
 returns-2 : tie.Need-returns-2
 returns-2 c =
@@ -47,8 +59,10 @@ same-length c = search needs
 returns-3 : tie.Need-returns-3
 returns-3 c =
     let put = c .before .before in
-    let made = put .before .before in
-    let (length, bytes) = put .put-record .ensures in
+    let placed = put .before .before in
+    let laid = placed .before .before in
+    let made = laid .before in
+    let (length, bytes) = rw (placed .on-first-side .ensures, laid .laid .ensures .are) at (put .put-record .ensures) in
     start-done (rule (made .before .before .before)) _ (made .start .ensures) _ (made .before .if1 .left) _ _ length bytes
 
 pub start-spec : {M : Type 1} → statement M
@@ -62,6 +76,8 @@ start-spec =
     start-refusal-requires-2
     returns
     start-requires
+    laid-requires
+    on-first-side-requires
     put-record-requires
     returns-2
     same-length
