@@ -1,4 +1,4 @@
--- Demand 3, from the two contracts: the tree theorem for the one judge, the loop theorem for the other. And what the contract of both
+-- Demand 3, from the two contracts: the tree theorem for the one judge, the lasso theorem for the other. And what the contract of both
 -- judges says beside it.
 use mathlib.Core.Path.{_≡_, refl, sym, _∙_, subst}
 use mathlib.Core.List.{List}

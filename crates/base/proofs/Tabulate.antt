@@ -1,4 +1,4 @@
--- The laws of `tabulate` (specs/inner/Tabulate.antt), and of an array that a loop fills from the front with the values of a function.
+-- The laws of `tabulate` (specs/Lists.antt), and of an array that a loop fills from the front with the values of a function.
 use mathlib.Core.Path.{_≡_, refl, sym, _∙_, ap, ap₂}
 use mathlib.Core.List.{List, [], _∷_, _++_}
 use Prim.Native.Nat.{ℕ, zero, suc, _+_, _≤_, _<_}

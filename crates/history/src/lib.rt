@@ -1,1 +1,1 @@
-// Definitions and mathematics of history trees; the code is in the crate `tree`.
+// Definitions and mathematics of history trees; the code is in the crates `tree` and `step`.

@@ -1,4 +1,4 @@
--- What the printed text of a job says: the tree theorem for its first line, the loop theorem for its last.
+-- What the printed text of a job says: the tree theorem for its first line, the lasso theorem for its last.
 use mathlib.Core.Path.{_≡_, refl, sym, _∙_, ap}
 use mathlib.Core.Logic.{_⊎_, inl, inr, ⊎-elim, _↔_}
 use mathlib.Core.List.{List, _++_, append-assoc}
@@ -31,7 +31,7 @@ module _ (R : Rule) (table u v : List ℕ) (a : Accepted table v R) (text : Text
   unfolding findingVerdict
   first-decides = walk-decides R u v (J .walk) (a .well) (a .sets) (a .nonempty) findingVerdict (λ w. refl) refl
 
-  -- the last line's, by the loop theorem
+  -- the last line's, by the lasso theorem
   last-decides : Decides (J .plain) (Keeps R u v)
   last-decides = plain-decides R u v (record { number = 0; verdict = J .plain }) (refl, J .decides) (a .well) (a .nonempty)
 

@@ -5,7 +5,7 @@ use crate::split::Split;
 use crate::split::split_job;
 use agree::both::judge_both;
 use plain::limits::SCRATCH_LENGTH;
-use tree::rows::Tree;
+use tree::nodes::Tree;
 ghost use Rattle.word.specs.Judging.{walkQuestions};
 ghost use Rattle.job.specs.JobCall.{JobAnswer, PartsAnswers};
 

@@ -4,7 +4,7 @@ use crate::call::Text;
 use crate::text::append;
 use crate::text::append_name;
 use crate::text::append_number;
-use tree::rows::Tree;
+use tree::nodes::Tree;
 use treejudge::judge::TreeAnswer;
 ghost use mathlib.Core.Path.{_≡_};
 ghost use Prim.Native.Nat.{_+_, _≤_};

@@ -1,6 +1,6 @@
 // A text that grows at its end: bytes, numbers in decimal, names.
 use crate::call::Text;
-use tree::rows::Tree;
+use tree::nodes::Tree;
 ghost use mathlib.Core.Path.{_≡_};
 ghost use Prim.Native.Nat.{_+_, _≤_};
 ghost use lib.ListN.{length, take};

@@ -9,7 +9,7 @@ use lib.ListN.{length, take, drop, length-append}
 use lib.Seq.{take-append-seam}
 use Rattle.notation.specs.Hexadecimal.{bytesOf, noLonger, longest, byteString, zeros, bytesAnswer, Within}
 use Rattle.notation.specs.Testing.{Tests}
-use Rattle.notation.specs.Putting.{Puts}
+use Rattle.notation.specs.inner.Putting.{Puts}
 use Rattle.notation.specs.declared.hexadecimal.Put.{Put}
 use Rattle.notation.specs.declared.hexadecimal.Bytes.{Bytes}
 use Rattle.notation.proofs.Testing.{both-true, and-yes}

@@ -12,7 +12,7 @@ use lib.ListN.{length, take, drop, getD, set, replicate, length-append, length-d
 use lib.Seq.{drop-cons, drop-drop, set-at, take-suc, take-length, length-take-le}
 use Rattle.notation.specs.Decimal.{digitValue, decimal, noLarger, numberAnswer}
 use Rattle.notation.specs.Hexadecimal.{arePair, pairByte, arePairs, pairBytes, hexadecimal, times, bytesOf, noLonger}
-use Rattle.notation.specs.Putting.{byteFrom, Puts}
+use Rattle.notation.specs.inner.Putting.{byteFrom, Puts}
 use Rattle.notation.specs.declared.decimal.Number.{Number}
 use Rattle.notation.proofs.Testing.{both-true}
 

@@ -11,7 +11,7 @@ use lib.Dec.{eqb}
 use lib.ListN.{length, take, drop, getD, length-append, take-append-drop, drop-of-length-le}
 use lib.Seq.{drop-cons, take-suc, take-all}
 use Rattle.notation.specs.OneLine.{written, onOneLine}
-use Rattle.notation.specs.LineFront.{Fronts}
+use Rattle.notation.specs.inner.LineFront.{Fronts}
 use Rattle.notation.specs.Testing.{Tests}
 
 -- ONE LETTER

@@ -4,6 +4,5 @@ pub mod Decimal
 pub mod Hexadecimal
 pub mod OneLine
 pub mod Testing
--- Inside: bytes that are put in a lent buffer, and the letters at the front of a line.
-pub mod Putting
-pub mod LineFront
+-- Inside: what the contracts of inner functions cite.
+pub mod inner

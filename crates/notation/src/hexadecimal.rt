@@ -11,7 +11,7 @@ ghost use lib.Dec.{ltb};
 ghost use lib.ListN.{drop, length, replicate};
 ghost use Rattle.notation.specs.Decimal.{decimal};
 ghost use Rattle.notation.specs.Hexadecimal.{Within, byteString, bytesAnswer, bytesOf, hexadecimal, noLonger, times, zeros};
-ghost use Rattle.notation.specs.Putting.{Puts, byteFrom};
+ghost use Rattle.notation.specs.inner.Putting.{Puts, byteFrom};
 ghost use Rattle.notation.specs.Testing.{Tests};
 
 // Where the bytes in a buffer end, and whether all is right: the text was a byte string, and the buffer had room for it.

@@ -2,7 +2,7 @@
 use crate::lines::NEWLINE;
 ghost use mathlib.Core.Path.{_≡_};
 ghost use Rattle.notation.specs.OneLine.{onOneLine, written};
-ghost use Rattle.notation.specs.LineFront.{Fronts};
+ghost use Rattle.notation.specs.inner.LineFront.{Fronts};
 ghost use Rattle.notation.specs.Testing.{Tests};
 
 // How many letters at the front of a line stand for this one: two, `\n`, for a newline; 0 where others stand there.

@@ -1,4 +1,4 @@
--- The levels of a pass as they stand in three arrays by depth: what a store changes, and that the stores at a row that is read
+-- The levels of a pass as they stand in three arrays by depth: what a store changes, and that the stores at a node that is read
 -- leave the levels that the pass has there.
 use mathlib.Core.Path.{_≡_, refl, ap}
 use mathlib.Core.Bool.{Bool, false}

@@ -1,14 +1,14 @@
 -- The call.
 pub mod StepCall
 pub mod CallNumbers
--- One letter in one pass over the rows of a tree.
-pub mod StepOfRows
+-- One letter in one pass over the nodes of a tree.
+pub mod StepOfNodes
 pub mod Levels
 pub mod PassSteps
 pub mod PassLoop
 pub mod PassNode
 pub mod PassTree
-pub mod GrownRows
+pub mod GrownNodes
 pub mod Renamed
 pub mod OldNumbers
 pub mod MapsByNumber

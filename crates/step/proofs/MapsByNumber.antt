@@ -18,7 +18,7 @@ use Rattle.history.specs.Letter.{Origin, was, sprouted, survivors, isOld, accep
 use Rattle.history.specs.inner.OldNumbers.{noNode, oldNumber}
 use Rattle.history.proofs.tree.Conditions.{OneRoot}
 use Rattle.history.proofs.names.Names.{same-self, same-equal, any-node}
-use Rattle.step.proofs.GrownRows.{marked, keepsName, acceptingOf, stableIn}
+use Rattle.step.proofs.GrownNodes.{marked, keepsName, acceptingOf, stableIn}
 use Rattle.step.proofs.OldNumbers.{old-number}
 
 -- the same test on a list

@@ -1,4 +1,4 @@
--- The pass over the rows of one node and of all below it, given the pass over the rows of its children.
+-- The pass over one node and all below it, given the pass over its children.
 use mathlib.Core.Path.{_≡_, refl, sym, _∙_, ap}
 use mathlib.Core.Bool.{Bool, true, false, not, _&&_, cond}
 use mathlib.Core.List.{List, [], _∷_, _++_, append-assoc, append-nil}
@@ -16,17 +16,17 @@ use Rattle.history.specs.Tree.{Node, Tree, labels}
 use Rattle.history.specs.Letter.{Origin, was, Grown, child}
 use Rattle.history.proofs.step.LocalStep.{newLabel, sproutOf, newBelow, accepts, step}
 use Rattle.history.proofs.step.LabelsOfStep.{labels-step}
-use Rattle.history.proofs.step.StepsJoined.{plain, heldNode, grown, advanced, grown-step, oldNode, begunFrom, held-begunFrom}
-use Rattle.tree.specs.inner.Rows.{rowsFrom}
-use Rattle.tree.specs.declared.rows.Row.{Row}
-use Rattle.step.specs.inner.Pass.{newLabels, Level, joinedIf, deepest, Pass, passedRow, passOver}
+use Rattle.history.proofs.step.StepsJoined.{plain, earlierNode, grown, advanced, grown-step, oldNode, begunFrom, earlier-begunFrom}
+use Rattle.tree.specs.inner.Nodes.{nodesFrom}
+use Rattle.tree.specs.declared.nodes.Node.{Node as CodeNode}
+use Rattle.step.specs.inner.Pass.{newLabels, Level, joinedIf, deepest, Pass, passedNode, passOver}
 use Rattle.step.specs.declared.pass.NewLabels.{NewLabels}
 use Rattle.step.proofs.PassSteps.{level, pass, pass-skips, pass-reads, passed-removed, passed-accepting, passed-kept}
-use Rattle.step.proofs.GrownRows.{grownRows, acceptingOf, stableOf, rowsHere, acceptingHere, stableHere}
+use Rattle.step.proofs.GrownNodes.{grownNodes, acceptingOf, stableOf, nodesHere, acceptingHere, stableHere}
 
--- the row of a node at depth d
-abbrev pub rowAt : ℕ → Node → Tree → Row
-rowAt d x below = record { depth = d; label = x .label; kids = labels below; active = x .active; old = 0 }
+-- a node at depth d, as the code has it
+abbrev pub nodeAt : ℕ → Node → Tree → CodeNode
+nodeAt d x below = record { depth = d; label = x .label; kids = labels below; active = x .active; old = 0 }
 
 -- the union of the new children's labels is known from the old ones
 labels-below : (R : Rule) (a older sprout : ℕ) (F : Tree)
@@ -35,15 +35,15 @@ labels-below R a older sprout F = set-ext _ _ (λ q. labels-step R a older sprou
     ∙ sym (member-minus (bitOr (successors R a (labels F)) sprout) older q ∙ ap (λ (b : Bool). b && not (member older q))
     (member-union (successors R a (labels F)) sprout q)))
 
--- a pass goes over the rows of nodes that are deeper than its levels
-pass-below : (E : ℕ → ℕ → ℕ) (k i : ℕ) (p : Pass) (d : ℕ) (F : Tree) (left : List Row) → length (p .levels) ≤ d
-    → passOver E k i p (rowsFrom d F ++ left) ≡ passOver E k (i + size F) p left
-unfolding rowsFrom size
+-- a pass goes over nodes that are deeper than its levels
+pass-below : (E : ℕ → ℕ → ℕ) (k i : ℕ) (p : Pass) (d : ℕ) (F : Tree) (left : List CodeNode) → length (p .levels) ≤ d
+    → passOver E k i p (nodesFrom d F ++ left) ≡ passOver E k (i + size F) p left
+unfolding nodesFrom size
 pass-below E k i p d nil left h = let e : i ≡ i + 0 = omega arith in ap (λ (n : ℕ). passOver E k n p left) e
 pass-below E k i p d (node x below younger) left h =
-    pass-skips E k i p (rowAt d x below) ((rowsFrom (suc d) below ++ rowsFrom d younger) ++ left) h
-    ∙ rw (append-assoc (rowsFrom (suc d) below) (rowsFrom d younger) left)
-    (pass-below E k (suc i) p (suc d) below (rowsFrom d younger ++ left) (omega arith)
+    pass-skips E k i p (nodeAt d x below) ((nodesFrom (suc d) below ++ nodesFrom d younger) ++ left) h
+    ∙ rw (append-assoc (nodesFrom (suc d) below) (nodesFrom d younger) left)
+    (pass-below E k (suc i) p (suc d) below (nodesFrom d younger ++ left) (omega arith)
     ∙ pass-below E k (suc i + size below) p d younger left h
     ∙ (let e : suc i + size below + size younger ≡ i + suc (size below + size younger) = omega arith in
     ap (λ (n : ℕ). passOver E k n p left) e))
@@ -79,14 +79,14 @@ module _ (R : Rule) (a older : ℕ) (v : List ℕ) (x : Node) (below : Tree) whe
 
   pub full-is : accepts R a older (record { top = x; below = below }) ≡ full
   unfolding accepts newBelow child oldNode sproutOf
-  full-is = rw (grown-step R a older (child R a (oldNode v x)) (begunFrom v 0 below) refl, held-begunFrom v 0 below)
+  full-is = rw (grown-step R a older (child R a (oldNode v x)) (begunFrom v 0 below) refl, earlier-begunFrom v 0 below)
 
 module _ (R : Rule) (a : ℕ) (E : ℕ → ℕ → ℕ) (number : Origin → ℕ) where
-  -- the pass over the rows of siblings at depth d, and of all below them, with some rows behind: their level is closed
-  abbrev pub Passes : Tree → List ℕ → ℕ → ℕ → ℕ → ℕ → Grown → Bool → List Level → List Row → ℕ → ℕ → List Row → Type 0
-  Passes F p c i d older y b levels rows accepting stable left =
-      passOver E (R .sets) i (pass (level older (child R a y .label) b ∷ levels) rows accepting stable) (rowsFrom d F ++ left)
-      ≡ passOver E (R .sets) (i + size F) (pass levels (rows ++ grownRows number d (grown R a older (child R a y) (begunFrom p c F)))
+  -- the pass over siblings at depth d, and over all below them, with some nodes behind: their level is closed
+  abbrev pub Passes : Tree → List ℕ → ℕ → ℕ → ℕ → ℕ → Grown → Bool → List Level → List CodeNode → ℕ → ℕ → List CodeNode → Type 0
+  Passes F p c i d older y b levels nodes accepting stable left =
+      passOver E (R .sets) i (pass (level older (child R a y .label) b ∷ levels) nodes accepting stable) (nodesFrom d F ++ left)
+      ≡ passOver E (R .sets) (i + size F) (pass levels (nodes ++ grownNodes number d (grown R a older (child R a y) (begunFrom p c F)))
       (bitOr accepting (acceptingOf number (grown R a older (child R a y) (begunFrom p c F))))
       (bitOr stable (cond b (stableOf number p c (grown R a older (child R a y) (begunFrom p c F))) 0))) left
 
@@ -103,15 +103,15 @@ module _ (R : Rule) (a : ℕ) (E : ℕ → ℕ → ℕ) (number : Origin → ℕ
     abbrev made : NewLabels
     made = record { label = newLabel R a older x; kids = labels (plain B); sprout = successorsIn R (x .active) a (x .label) }
 
-    -- steps 1 to 3 at its row
-    made-node : (d : ℕ) → newLabels E (rowAt d x below) older ≡ made
+    -- steps 1 to 3 at it
+    made-node : (d : ℕ) → newLabels E (nodeAt d x below) older ≡ made
     unfolding newLabels newLabel child oldNode
     made-node d = rw (
       all (x .label),
       all (labels below),
       of (x .active) (x .label) low high,
       grown-step R a older (child R a (oldNode v x)) (begunFrom v 0 below) refl,
-      held-begunFrom v 0 below,
+      earlier-begunFrom v 0 below,
       labels-below R a older (successorsIn R (x .active) a (x .label)) below,
     )
 
@@ -121,37 +121,37 @@ module _ (R : Rule) (a : ℕ) (E : ℕ → ℕ → ℕ) (number : Origin → ℕ
     abbrev pub f : Bool
     f = full R a older v x below
 
-    -- the pass over its rows, given the pass over those of its children
-    pub pass-branch : (i d sprout : ℕ) (b : Bool) (levels : List Level) (rows : List Row) (accepting stable : ℕ) (left : List Row)
+    -- the pass over it and all below it, given the pass over its children
+    pub pass-branch : (i d sprout : ℕ) (b : Bool) (levels : List Level) (nodes : List CodeNode) (accepting stable : ℕ) (left : List CodeNode)
         → length levels ≡ d → number (was v) ≡ i
-        → ((inner : List Level) (rows : List Row) (accepting stable : ℕ) → length inner ≡ suc d
-        → Passes R a E number below v 0 (suc i) (suc d) older (oldNode v x) b inner rows accepting stable left)
-        → passOver E (R .sets) i (pass (level older sprout b ∷ levels) rows accepting stable)
-        (rowAt d x below ∷ (rowsFrom (suc d) below ++ left))
+        → ((inner : List Level) (nodes : List CodeNode) (accepting stable : ℕ) → length inner ≡ suc d
+        → Passes R a E number below v 0 (suc i) (suc d) older (oldNode v x) b inner nodes accepting stable left)
+        → passOver E (R .sets) i (pass (level older sprout b ∷ levels) nodes accepting stable)
+        (nodeAt d x below ∷ (nodesFrom (suc d) below ++ left))
         ≡ passOver E (R .sets) (suc i + size below) (pass (level (bitOr older (newLabel R a older x)) sprout (cond g false b) ∷ levels)
-        (rows ++ rowsHere number (R .sets) d g f N B)
+        (nodes ++ nodesHere number (R .sets) d g f N B)
         (bitOr accepting (acceptingHere number (R .sets) g f N B))
         (bitOr stable (cond b (stableHere number (R .sets) v g f N B) 0))) left
-    unfolding deepest rowsHere acceptingHere stableHere advanced child oldNode heldNode
-    pass-branch i d sprout b levels rows accepting stable left deep own ih =
-        pass-reads E (R .sets) i now (rowAt d x below) (rowsFrom (suc d) below ++ left) (ap suc deep)
+    unfolding deepest nodesHere acceptingHere stableHere advanced child oldNode earlierNode
+    pass-branch i d sprout b levels nodes accepting stable left deep own ih =
+        pass-reads E (R .sets) i now (nodeAt d x below) (nodesFrom (suc d) below ++ left) (ap suc deep)
         ∙ rw (made-node d) (go g f refl refl)
       where
         now : Pass
-        now = pass (level older sprout b ∷ levels) rows accepting stable
+        now = pass (level older sprout b ∷ levels) nodes accepting stable
 
         go : (g′ f′ : Bool) → g ≡ g′ → f ≡ f′
-            → passOver E (R .sets) (suc i) (passedRow (R .sets) i (rowAt d x below) made now) (rowsFrom (suc d) below ++ left)
+            → passOver E (R .sets) (suc i) (passedNode (R .sets) i (nodeAt d x below) made now) (nodesFrom (suc d) below ++ left)
             ≡ passOver E (R .sets) (suc i + size below) (pass (level (bitOr older (newLabel R a older x)) sprout (cond g′ false b) ∷ levels)
-            (rows ++ rowsHere number (R .sets) d g′ f′ N B)
+            (nodes ++ nodesHere number (R .sets) d g′ f′ N B)
             (bitOr accepting (acceptingHere number (R .sets) g′ f′ N B))
             (bitOr stable (cond b (stableHere number (R .sets) v g′ f′ N B) 0))) left
         go true f′ e _ =
             rw (
-              passed-removed (R .sets) i (rowAt d x below) made (level older sprout b) levels rows accepting stable e,
+              passed-removed (R .sets) i (nodeAt d x below) made (level older sprout b) levels nodes accepting stable e,
               eqb-true (newLabel R a older x) 0 e,
               or-zero-r older,
-              append-nil rows,
+              append-nil nodes,
               or-zero-r accepting,
               cond-none b,
               or-zero-r stable,
@@ -159,13 +159,13 @@ module _ (R : Rule) (a : ℕ) (E : ℕ → ℕ → ℕ) (number : Origin → ℕ
             (pass-below E (R .sets) (suc i) _ (suc d) below left (omega arith))
         go false true e e′ =
             rw (
-              passed-accepting (R .sets) i (rowAt d x below) made (level older sprout b) levels rows accepting stable e e′,
+              passed-accepting (R .sets) i (nodeAt d x below) made (level older sprout b) levels nodes accepting stable e e′,
               own,
               joined-or stable i b,
             )
             (pass-below E (R .sets) (suc i) _ (suc d) below left (omega arith))
         go false false e e′ =
-            rw (passed-kept (R .sets) i (rowAt d x below) made (level older sprout b) levels rows accepting stable e e′, own)
-            (ih (level (bitOr older (newLabel R a older x)) sprout b ∷ levels) (rows ++ (_ ∷ [])) accepting (joinedIf stable i b)
+            rw (passed-kept (R .sets) i (nodeAt d x below) made (level older sprout b) levels nodes accepting stable e e′, own)
+            (ih (level (bitOr older (newLabel R a older x)) sprout b ∷ levels) (nodes ++ (_ ∷ [])) accepting (joinedIf stable i b)
             (ap suc deep)
-            ∙ rw (append-assoc rows, joined-more stable i (stableOf number v 0 B) b))
+            ∙ rw (append-assoc nodes, joined-more stable i (stableOf number v 0 B) b))

@@ -1,4 +1,4 @@
--- The pass over the rows of siblings and of all below them: it writes the rows of what the letter makes of them, and joins
+-- The pass over siblings and all below them: it writes what the letter makes of them, and joins
 -- to the maps those of them that accept and those that keep their names. So does the pass over a whole tree.
 use mathlib.Core.Path.{_≡_, refl, sym, _∙_, ap}
 use mathlib.Core.Bool.{Bool, true, false, cond}
@@ -19,13 +19,13 @@ use Rattle.history.proofs.step.LocalStep.{newLabel}
 use Rattle.history.proofs.tree.Conditions.{Fits}
 use Rattle.history.proofs.step.StepsJoined.{grown, advanced, grown-new, oldNode, begunFrom}
 use Rattle.history.proofs.names.Origins.{grownBranch, grown-begun, steps-dead, steps-root}
-use Rattle.tree.specs.inner.Rows.{rowsFrom, rowsOf}
-use Rattle.tree.specs.declared.rows.Row.{Row}
-use Rattle.step.specs.inner.Pass.{Level, sproutRow, written, Pass, closedTo, levelsTo, sproutsTo, passOver, atStart}
+use Rattle.tree.specs.inner.Nodes.{nodesFrom, nodesOf}
+use Rattle.tree.specs.declared.nodes.Node.{Node as CodeNode}
+use Rattle.step.specs.inner.Pass.{Level, sproutNode, written, Pass, closedTo, levelsTo, sproutsTo, passOver, atStart}
 use Rattle.step.proofs.PassSteps.{level, pass, Closes, sproutOfLevel, none-closed, pass-closes}
-use Rattle.step.proofs.GrownRows.{marked, grownRows, acceptingOf, stableOf, stableIn, Gives, rowsHere, acceptingHere, stableHere, rows-kept, accepting-kept, stable-kept, stable-root}
+use Rattle.step.proofs.GrownNodes.{marked, grownNodes, acceptingOf, stableOf, stableIn, Gives, nodesHere, acceptingHere, stableHere, nodes-kept, accepting-kept, stable-kept, stable-root}
 use Rattle.step.proofs.Renamed.{new-none, renamed}
-use Rattle.step.proofs.PassNode.{rowAt, cond-none, here, newKids, gone, full, full-is, Passes, pass-branch}
+use Rattle.step.proofs.PassNode.{nodeAt, cond-none, here, newKids, gone, full, full-is, Passes, pass-branch}
 
 -- siblings with child numbers from c on below the node named p, and all below them, are numbered from i on
 abbrev pub Numbered : (Origin → ℕ) → List ℕ → ℕ → ℕ → Tree → Type 0
@@ -34,9 +34,9 @@ Numbered number p c i (node x below younger) =
     (number (was (p ++ (c ∷ []))) ≡ i) × Numbered number (p ++ (c ∷ [])) 0 (suc i) below
     × Numbered number p (suc c) (suc i + size below) younger
 
--- rows behind siblings at depth d close the level below them
-closes-below : (d : ℕ) (F : Tree) (left : List Row) → Closes d left → Closes (suc d) (rowsFrom d F ++ left)
-unfolding rowsFrom
+-- nodes behind siblings at depth d close the level below them
+closes-below : (d : ℕ) (F : Tree) (left : List CodeNode) → Closes d left → Closes (suc d) (nodesFrom d F ++ left)
+unfolding nodesFrom
 closes-below d nil [] h = omega arith
 closes-below d nil (x ∷ left) h = omega arith
 closes-below d (node x below younger) left h = omega arith
@@ -45,13 +45,13 @@ module _ (R : Rule) (a : ℕ) (E : ℕ → ℕ → ℕ) (number : Origin → ℕ
     (all : (s : ℕ) → E 0 s ≡ successors R a s)
     (of : (i s : ℕ) → 1 ≤ i → i ≤ R .sets → E i s ≡ successorsIn R i a s) where
   -- a node that the letter has sprouted, unless nothing is left for it
-  new-rows : (k d : ℕ) (x : Grown) → x .origin ≡ sprouted → x .active ≡ 1
-      → grownRows number d (kept k (eqb (x .label) 0) (eqb (x .label) 0) x nil nil)
+  new-nodes : (k d : ℕ) (x : Grown) → x .origin ≡ sprouted → x .active ≡ 1
+      → grownNodes number d (kept k (eqb (x .label) 0) (eqb (x .label) 0) x nil nil)
       ≡ written (record { depth = d; label = x .label; kids = 0; active = 1; old = noNode })
-  unfolding kept grownRows written labels change
-  new-rows k d x e one = go (eqb (x .label) 0)
+  unfolding kept grownNodes written labels change
+  new-nodes k d x e one = go (eqb (x .label) 0)
     where
-      go : (b : Bool) → grownRows number d (kept k b b x nil nil)
+      go : (b : Bool) → grownNodes number d (kept k b b x nil nil)
           ≡ cond b [] (record { depth = d; label = x .label; kids = 0; active = 1; old = noNode } ∷ [])
       go true = refl
       go false = rw (e, none, one)
@@ -65,23 +65,23 @@ module _ (R : Rule) (a : ℕ) (E : ℕ → ℕ → ℕ) (number : Origin → ℕ
   abbrev lastChild : ℕ → Grown → Grown
   lastChild older y = record { origin = sprouted; before = 0; label = minus (child R a y .label) older; active = 1; accepting = false }
 
-  pass-last : (p : List ℕ) (c i d older : ℕ) (y : Grown) (b : Bool) (levels : List Level) (rows : List Row) (accepting stable : ℕ)
-      (left : List Row) → length levels ≡ d → Closes d left
-      → Passes R a E number nil p c i d older y b levels rows accepting stable left
-  unfolding rowsFrom size begunFrom namedFrom change sproutOfLevel sproutRow child
-  pass-last p c i d older y b levels rows accepting stable left deep h =
+  pass-last : (p : List ℕ) (c i d older : ℕ) (y : Grown) (b : Bool) (levels : List Level) (nodes : List CodeNode) (accepting stable : ℕ)
+      (left : List CodeNode) → length levels ≡ d → Closes d left
+      → Passes R a E number nil p c i d older y b levels nodes accepting stable left
+  unfolding nodesFrom size begunFrom namedFrom change sproutOfLevel sproutNode child
+  pass-last p c i d older y b levels nodes accepting stable left deep h =
       let same : i + 0 ≡ i = omega arith in
       rw (
         same,
         grown-new R a older (child R a y),
-        new-rows (R .sets) d (lastChild older y) refl refl,
+        new-nodes (R .sets) d (lastChild older y) refl refl,
         new-accepting (R .sets) (eqb (lastChild older y .label) 0) (lastChild older y) refl,
         new-none number (R .sets) p c (eqb (lastChild older y .label) 0) (eqb (lastChild older y .label) 0) (lastChild older y) refl,
         or-zero-r accepting,
         cond-none b,
         or-zero-r stable,
       )
-      (pass-closes E (R .sets) i (level older (child R a y .label) b) levels rows accepting stable left (rw deep h) ∙ rw deep)
+      (pass-closes E (R .sets) i (level older (child R a y .label) b) levels nodes accepting stable left (rw deep h) ∙ rw deep)
 
   child-new : (y : Grown) → child R a y .origin ≡ sprouted
   unfolding child
@@ -97,31 +97,31 @@ module _ (R : Rule) (a : ℕ) (E : ℕ → ℕ → ℕ) (number : Origin → ℕ
 
   -- a node and its younger siblings
   pass-first : (x : Node) (below younger : Tree) (p : List ℕ) (c i d older : ℕ) (y : Grown) (b : Bool)
-      (levels : List Level) (rows : List Row) (accepting stable : ℕ) (left : List Row)
+      (levels : List Level) (nodes : List CodeNode) (accepting stable : ℕ) (left : List CodeNode)
       (low : 1 ≤ x .active) (high : x .active ≤ R .sets) → number (was (p ++ (c ∷ []))) ≡ i → length levels ≡ d
-      → ((inner : List Level) (rows : List Row) (accepting stable : ℕ) → length inner ≡ suc d
-      → Passes R a E number below (p ++ (c ∷ [])) 0 (suc i) (suc d) older (oldNode (p ++ (c ∷ [])) x) b inner rows accepting stable
-      (rowsFrom d younger ++ left))
-      → ((b : Bool) (rows : List Row) (accepting stable : ℕ)
+      → ((inner : List Level) (nodes : List CodeNode) (accepting stable : ℕ) → length inner ≡ suc d
+      → Passes R a E number below (p ++ (c ∷ [])) 0 (suc i) (suc d) older (oldNode (p ++ (c ∷ [])) x) b inner nodes accepting stable
+      (nodesFrom d younger ++ left))
+      → ((b : Bool) (nodes : List CodeNode) (accepting stable : ℕ)
       → Passes R a E number younger p (suc c) (suc i + size below) d (bitOr older (newLabel R a older x)) y b levels
-      rows accepting stable left)
-      → Passes R a E number (node x below younger) p c i d older y b levels rows accepting stable left
-  unfolding rowsFrom size grownBranch advanced oldNode
-  pass-first x below younger p c i d older y b levels rows accepting stable left low high own deep down on =
+      nodes accepting stable left)
+      → Passes R a E number (node x below younger) p c i d older y b levels nodes accepting stable left
+  unfolding nodesFrom size grownBranch advanced oldNode
+  pass-first x below younger p c i d older y b levels nodes accepting stable left low high own deep down on =
       rw (
-        append-assoc (rowsFrom (suc d) below) (rowsFrom d younger) left,
+        append-assoc (nodesFrom (suc d) below) (nodesFrom d younger) left,
         grown-begun R a older (child R a y) p c x below younger,
         full-is R a older v x below,
-        rows-kept number (R .sets) d g f N B Y,
+        nodes-kept number (R .sets) d g f N B Y,
         accepting-kept number (R .sets) g f N B Y refl,
         stable-kept number (R .sets) p c g f N B Y refl,
       )
-      (pass-branch R a E number all of v x below low high older i d (child R a y .label) b levels rows accepting stable
-      (rowsFrom d younger ++ left) deep own down
-      ∙ on (cond g false b) (rows ++ rowsHere number (R .sets) d g f N B) (bitOr accepting (acceptingHere number (R .sets) g f N B))
+      (pass-branch R a E number all of v x below low high older i d (child R a y .label) b levels nodes accepting stable
+      (nodesFrom d younger ++ left) deep own down
+      ∙ on (cond g false b) (nodes ++ nodesHere number (R .sets) d g f N B) (bitOr accepting (acceptingHere number (R .sets) g f N B))
       (bitOr stable (cond b (stableHere number (R .sets) v g f N B) 0))
       ∙ rw (
-        append-assoc rows (rowsHere number (R .sets) d g f N B) (grownRows number d Y),
+        append-assoc nodes (nodesHere number (R .sets) d g f N B) (grownNodes number d Y),
         ← union-assoc accepting (acceptingHere number (R .sets) g f N B) (acceptingOf number Y),
         joined-both stable (stableHere number (R .sets) v g f N B) (stableOf number p (suc c) Y) (stableOf number p c Y) g b lost,
         count,
@@ -153,32 +153,32 @@ module _ (R : Rule) (a : ℕ) (E : ℕ → ℕ → ℕ) (number : Origin → ℕ
       count = omega arith
 
   pass-siblings : (F : Tree) (p : List ℕ) (c i d older : ℕ) (y : Grown) (b : Bool)
-      (levels : List Level) (rows : List Row) (accepting stable : ℕ) (left : List Row)
+      (levels : List Level) (nodes : List CodeNode) (accepting stable : ℕ) (left : List CodeNode)
       → Fits (R .sets) F → Numbered number p c i F → length levels ≡ d → Closes d left
-      → Passes R a E number F p c i d older y b levels rows accepting stable left
-  pass-siblings nil p c i d older y b levels rows accepting stable left fits numbered deep h =
-      pass-last p c i d older y b levels rows accepting stable left deep h
-  pass-siblings (node x below younger) p c i d older y b levels rows accepting stable left (own, down, on) (is, inner, after) deep h =
-      pass-first x below younger p c i d older y b levels rows accepting stable left (own .from-one) (own .up-to) is deep
-      (λ inside rows accepting stable deeper. pass-siblings below (p ++ (c ∷ [])) 0 (suc i) (suc d) older (oldNode (p ++ (c ∷ [])) x) b
-      inside rows accepting stable (rowsFrom d younger ++ left) down inner deeper (closes-below d younger left h))
-      (λ b rows accepting stable. pass-siblings younger p (suc c) (suc i + size below) d (bitOr older (newLabel R a older x)) y b
-      levels rows accepting stable left on after deep h)
+      → Passes R a E number F p c i d older y b levels nodes accepting stable left
+  pass-siblings nil p c i d older y b levels nodes accepting stable left fits numbered deep h =
+      pass-last p c i d older y b levels nodes accepting stable left deep h
+  pass-siblings (node x below younger) p c i d older y b levels nodes accepting stable left (own, down, on) (is, inner, after) deep h =
+      pass-first x below younger p c i d older y b levels nodes accepting stable left (own .from-one) (own .up-to) is deep
+      (λ inside nodes accepting stable deeper. pass-siblings below (p ++ (c ∷ [])) 0 (suc i) (suc d) older (oldNode (p ++ (c ∷ [])) x) b
+      inside nodes accepting stable (nodesFrom d younger ++ left) down inner deeper (closes-below d younger left h))
+      (λ b nodes accepting stable. pass-siblings younger p (suc c) (suc i + size below) d (bitOr older (newLabel R a older x)) y b
+      levels nodes accepting stable left on after deep h)
 
   -- A WHOLE TREE
 
   -- the dead tree
-  pub pass-dead : Gives number (passOver E (R .sets) 0 atStart (rowsOf nil)) (fiveSteps R a nil)
-  unfolding passOver rowsOf rowsFrom closedTo levelsTo sproutsTo grownRows acceptingOf stableIn marked named
-  pass-dead = rw (steps-dead R a) (record { rows = refl; accepting = refl; stable = refl })
+  pub pass-dead : Gives number (passOver E (R .sets) 0 atStart (nodesOf nil)) (fiveSteps R a nil)
+  unfolding passOver nodesOf nodesFrom closedTo levelsTo sproutsTo grownNodes acceptingOf stableIn marked named
+  pass-dead = rw (steps-dead R a) (record { nodes = refl; accepting = refl; stable = refl })
 
   -- one root with all below it
   pub pass-root : (x : Node) (below : Tree) → Fits (R .sets) (node x below nil) → number (was []) ≡ 0 → Numbered number [] 0 1 below
-      → Gives number (passOver E (R .sets) 0 atStart (rowsOf (node x below nil))) (fiveSteps R a (node x below nil))
-  unfolding rowsOf rowsFrom passOver grownBranch advanced oldNode grownRows acceptingOf marked
+      → Gives number (passOver E (R .sets) 0 atStart (nodesOf (node x below nil))) (fiveSteps R a (node x below nil))
+  unfolding nodesOf nodesFrom passOver grownBranch advanced oldNode grownNodes acceptingOf marked
   pass-root x below (own, down, on) is inner = record {
-    rows = ap (λ (p : Pass). p .rows) read
-        ∙ sym (ap (grownRows number 0) root ∙ rows-kept number (R .sets) 0 g f N B nil ∙ append-nil (rowsHere number (R .sets) 0 g f N B));
+    nodes = ap (λ (p : Pass). p .nodes) read
+        ∙ sym (ap (grownNodes number 0) root ∙ nodes-kept number (R .sets) 0 g f N B nil ∙ append-nil (nodesHere number (R .sets) 0 g f N B));
     accepting = ap (λ (p : Pass). p .accepting) read ∙ or-zero-l (acceptingHere number (R .sets) g f N B)
         ∙ sym (ap (acceptingOf number) root ∙ accepting-kept number (R .sets) g f N B nil refl
         ∙ or-zero-r (acceptingHere number (R .sets) g f N B));
@@ -201,10 +201,10 @@ module _ (R : Rule) (a : ℕ) (E : ℕ → ℕ → ℕ) (number : Origin → ℕ
       root : fiveSteps R a (node x below nil) ≡ kept (R .sets) g f N B nil
       root = steps-root R a x below ∙ rw (full-is R a 0 [] x below)
 
-      read : passOver E (R .sets) 0 atStart (rowAt 0 x below ∷ (rowsFrom 1 below ++ []))
-          ≡ pass (level (bitOr 0 (newLabel R a 0 x)) 0 (cond g false true) ∷ []) (rowsHere number (R .sets) 0 g f N B)
+      read : passOver E (R .sets) 0 atStart (nodeAt 0 x below ∷ (nodesFrom 1 below ++ []))
+          ≡ pass (level (bitOr 0 (newLabel R a 0 x)) 0 (cond g false true) ∷ []) (nodesHere number (R .sets) 0 g f N B)
           (bitOr 0 (acceptingHere number (R .sets) g f N B)) (bitOr 0 (stableHere number (R .sets) [] g f N B))
       read = pass-branch R a E number all of [] x below (own .from-one) (own .up-to) 0 0 0 0 true [] [] 0 0 [] refl is
-          (λ inside rows accepting stable deeper. pass-siblings below [] 0 1 1 0 (oldNode [] x) true inside rows accepting stable []
+          (λ inside nodes accepting stable deeper. pass-siblings below [] 0 1 1 0 (oldNode [] x) true inside nodes accepting stable []
           down inner deeper (omega arith))
           ∙ none-closed 0 _ (omega arith)

@@ -15,7 +15,7 @@ use Rattle.history.proofs.step.LocalStep.{newLabel}
 use Rattle.history.proofs.step.StepsJoined.{grown, advanced, grown-new, oldNode, begunFrom}
 use Rattle.history.proofs.names.Names.{same-equal}
 use Rattle.history.proofs.names.Origins.{grownBranch, grown-begun}
-use Rattle.step.proofs.GrownRows.{marked, keepsName, stableOf}
+use Rattle.step.proofs.GrownNodes.{marked, keepsName, stableOf}
 
 -- names that are the same up to their last number, and in that
 not-last : (q : List ℕ) (d : ℕ) → [] ≡ q ++ (d ∷ []) → ⊥

@@ -1,5 +1,5 @@
 -- One letter on a record, under a rule and by the letter's look-up: what is answered, and what is left in the buffer, from the tree that was
--- read and from what the letter has made of its rows.
+-- read and from what the letter has made of its nodes.
 use mathlib.Core.Path.{_≡_, refl, sym, _∙_, ap}
 use mathlib.Core.List.{List}
 use Prim.Native.Nat.{ℕ, _≤_, _<_}
@@ -21,23 +21,23 @@ use Rattle.history.specs.Record.{readTree}
 use Rattle.history.proofs.records.QuestionNine.{record-accepted}
 use Rattle.history.proofs.step.TreesOf.{of-tree}
 use Rattle.tree.specs.inner.RecordCode.{checkedTree, countAs, treeBeside, Checks}
-use Rattle.tree.specs.inner.Rows.{HoldsTree}
+use Rattle.tree.specs.inner.Nodes.{HoldsTree}
 use Rattle.tree.specs.inner.Sides.{treeOn, Laid}
-use Rattle.tree.specs.inner.RecordRows.{rowsRecord, Recordable}
+use Rattle.tree.specs.inner.RecordNodes.{nodesRecord, Recordable}
 use Rattle.tree.specs.StartCall.{recordRoom}
 use Rattle.tree.specs.declared.record.Count.the-variants.{Nodes, Refused}
 use Rattle.tree.specs.declared.record.Checked.{Checked}
-use Rattle.tree.specs.declared.rows.Tree.{Tree as CodeTree}
+use Rattle.tree.specs.declared.nodes.Tree.{Tree as CodeTree}
 use Rattle.tree.specs.declared.sides.OnSide.{OnSide}
-use Rattle.tree.proofs.TreeRows.{has-holds}
-use Rattle.tree.proofs.RowsOfRecord.{limits-yes}
-use Rattle.tree.proofs.RecordOfRows.{held-record, held-recordable}
-use Rattle.step.specs.inner.Stepping.{StepsTo, rowsOn, Steppable, Stepping}
-use Rattle.step.specs.inner.Pass.{steppedRows}
+use Rattle.tree.proofs.TreeNodes.{has-holds}
+use Rattle.tree.proofs.NodesOfRecord.{limits-yes}
+use Rattle.tree.proofs.RecordOfNodes.{held-record, held-recordable}
+use Rattle.step.specs.inner.Stepping.{StepsTo, nodesOn, Steppable, Stepping}
+use Rattle.step.specs.inner.Pass.{steppedNodes}
 use Rattle.step.specs.StepCall.{stepUnder, stepAnswer, stepAfter, StepDone}
 use Rattle.step.specs.declared.call.StepAnswer.{StepAnswer}
 use Rattle.step.specs.declared.pass.Stepped.{Stepped}
-use Rattle.step.proofs.StepOfRows.{place-ready, place-steps}
+use Rattle.step.proofs.StepOfNodes.{place-ready, place-steps}
 
 -- the tree behind a check's answer yes: it is held, and its nodes are counted
 pub record TreeRead (R : Rule) (bytes : List ℕ) (count : ℕ) (x : CodeTree) : Type 0 where
@@ -87,9 +87,9 @@ module _ {R : Rule} {header : Header} {a : ℕ} {lookup : Lookup} (p : PreparedL
               let z : _≡_ {A = ℕ} 0 1 = cc in absurd (omega arith)
           go (accepted T) is h =
               let e : accepted count ≡ accepted (size T) = rw some at (h .count) in
-              let nodes : count ≡ size T = cc in
+              let counted : count ≡ size T = cc in
               let held = has-holds R T (checked .tree) (of-tree R T ∙ record-accepted (R .states) (R .sets) bytes T is .0) (h .tree) in
-              record { tree = T; reads = is; holds = held; counts = nodes ∙ sym (held .nodes) }
+              record { tree = T; reads = is; holds = held; counts = counted ∙ sym (held .counts) }
 
     module _ {count : ℕ} {x : CodeTree} (w : TreeRead R bytes count x) where
       -- question 10
@@ -111,7 +111,7 @@ module _ {R : Rule} {header : Header} {a : ℕ} {lookup : Lookup} (p : PreparedL
 
         -- and its look-up is the rule's: so the next tree is on the second
         module _ {r : Stepped} {after : List (List ℕ)}
-            (step : Stepping (steppedRows lookup (header .sets) (rowsOn sides 0 count)) 0 sides r after) where
+            (step : Stepping (steppedNodes lookup (header .sets) (nodesOn sides 0 count)) 0 sides r after) where
           sets : R .sets ≡ header .sets
           sets = ap (λ (x : Header). x .sets) (sym (p .numbers))
 
@@ -124,8 +124,8 @@ module _ {R : Rule} {header : Header} {a : ℕ} {lookup : Lookup} (p : PreparedL
 
           -- all questions are answered yes
           pub step-done : recordRoom ≤ length before → (written : ℕ) (buffer : List ℕ)
-              → written ≡ length (rowsRecord (header .states) (rowsOn after 1 (r .count)))
-              → buffer ≡ stored 0 (rowsRecord (header .states) (rowsOn after 1 (r .count))) before
+              → written ≡ length (nodesRecord (header .states) (nodesOn after 1 (r .count)))
+              → buffer ≡ stored 0 (nodesRecord (header .states) (nodesOn after 1 (r .count))) before
               → StepDone (stepUnder R a bytes before) before
               (record { number = 0; written = written; accepting = r .accepting; stable = r .stable }) buffer
           unfolding stepUnder stepAnswer stepAfter

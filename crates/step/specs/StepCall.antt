@@ -48,6 +48,7 @@ StepDone o buffer answer after = (answer ≡ stepAnswer o) × (after ≡ stepAft
 abbrev pub StepCall : List ℕ → ℕ → List ℕ → List ℕ → StepAnswer → List ℕ → Type 0
 StepCall table letter bytes buffer answer after = StepDone (stepOutcome table letter bytes buffer) buffer answer after
 
+-- the number that a caller sees tells whether the call is accepted
 abbrev pub StepNumber : Type 0
 StepNumber =
     (table : List ℕ) (a : ℕ) (bytes buffer : List ℕ)

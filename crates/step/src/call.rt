@@ -1,12 +1,12 @@
 // One letter on a record.
-use crate::pass::step_rows;
+use crate::pass::step_nodes;
 use rule::lookup::ENTRIES;
 use rule::lookup::Lookup;
 use table::header::Header;
 use table::letter::letter_questions;
 use table::reader::Reading;
+use tree::nodes::Tree;
 use tree::record::Count;
-use tree::rows::Tree;
 use tree::sides::OnSide;
 use tree::writing::put_record;
 ghost use mathlib.Core.Path.{_≡_};
@@ -54,7 +54,7 @@ fn step_prepared(lookup: &Lookup, header: Header, bytes: &[u8], buffer: &mut [u8
         return step_refusal(10);
     }
     let mut sides = tree.laid();
-    let next = step_rows(lookup, header.sets as u8, &mut sides, 0, count);
+    let next = step_nodes(lookup, header.sets as u8, &mut sides, 0, count);
     let after = OnSide {
         side: 1,
         count: next.count,

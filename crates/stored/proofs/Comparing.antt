@@ -15,7 +15,7 @@ use Rattle.notation.specs.declared.decimal.Number.{Number}
 use Rattle.notation.proofs.Testing.{both-true, four-true, and-yes}
 use Rattle.notation.proofs.DecimalDigits.{number-found, number-only}
 use Rattle.stored.specs.Calls.{largestSize, largestMap, RuleText, successorsNumbers, Gives}
-use Rattle.stored.specs.Comparing.{Compared, RuleIs}
+use Rattle.stored.specs.inner.Comparing.{Compared, RuleIs}
 use Rattle.stored.specs.declared.calls.Call.{Call}
 use Rattle.stored.specs.declared.rules.Rule.{Rule}
 use Rattle.stored.proofs.Determined.{gives-one}

@@ -18,7 +18,7 @@ use Rattle.notation.proofs.Testing.{both-true, and-yes}
 use Rattle.notation.proofs.ByteAnswers.{Holds}
 use Rattle.stored.specs.Calls.{nameOf, arguments, BytesAt, Answered, CallRight}
 use Rattle.stored.specs.Jobs.{shown, SaysAnswer, JobRight}
-use Rattle.stored.specs.Comparing.{Names, Compared}
+use Rattle.stored.specs.inner.Comparing.{Names, Compared}
 use Rattle.stored.specs.declared.calls.Call.{Call}
 use Rattle.stored.specs.declared.calls.Named.{Named}
 use Rattle.stored.specs.declared.calls.Named.the-variants.{Known, Unknown}

@@ -10,7 +10,7 @@ use lib.Seq.{take-all}
 use Rattle.notation.specs.Parts.{newline, parts, partAt}
 use Rattle.notation.proofs.TextParts.{some-part, next-parts, last-part, first-between}
 use Rattle.stored.specs.Tallies.{withoutEnd, linesOf, hasCase, Tallied, no-line, no-case, is-right, differs}
-use Rattle.stored.specs.Comparing.{LineTallied, not-counted, found-right, found-different}
+use Rattle.stored.specs.inner.Comparing.{LineTallied, not-counted, found-right, found-different}
 use Rattle.stored.specs.declared.files.Kind.{Kind}
 use Rattle.stored.specs.declared.files.Tally.{Tally}
 

@@ -2,5 +2,5 @@
 pub mod Calls
 pub mod Jobs
 pub mod Tallies
--- Inside: the name of a call, the numbers of the writer, one call's answer compared, one line counted.
-pub mod Comparing
+-- Inside: what the contracts of inner functions cite.
+pub mod inner

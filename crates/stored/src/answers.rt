@@ -16,7 +16,7 @@ use tree::start::start;
 use treejudge::judge::tree_judge;
 ghost use mathlib.Core.Path.{_≡_};
 ghost use Rattle.stored.specs.Calls.{successorsNumbers};
-ghost use Rattle.stored.specs.Comparing.{Compared};
+ghost use Rattle.stored.specs.inner.Comparing.{Compared};
 ghost use Rattle.stored.specs.declared.calls.Call.the-variants.{Plain, Read, Same, Start, Step, Successors, Tree, Write};
 
 // The reader: number n m k start.

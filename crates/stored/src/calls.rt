@@ -24,7 +24,7 @@ ghost use mathlib.Core.Path.{_≡_};
 ghost use Prim.Native.Nat.{_≤_};
 ghost use Rattle.notation.specs.Testing.{Tests};
 ghost use Rattle.stored.specs.Calls.{Answered, CallRight, arguments};
-ghost use Rattle.stored.specs.Comparing.{Compared, Names};
+ghost use Rattle.stored.specs.inner.Comparing.{Compared, Names};
 
 // The library's calls.
 pub enum Call {

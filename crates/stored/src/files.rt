@@ -9,7 +9,7 @@ ghost use Prim.Native.Nat.{_<_, _≤_};
 ghost use lib.ListN.{length};
 ghost use Rattle.notation.specs.Testing.{Tests};
 ghost use Rattle.stored.specs.Tallies.{LineRight, Tallied, hasCase, linesOf};
-ghost use Rattle.stored.specs.Comparing.{LineTallied};
+ghost use Rattle.stored.specs.inner.Comparing.{LineTallied};
 
 // What the lines of a file have.
 pub enum Kind {

@@ -3,7 +3,7 @@ use notation::decimal::LARGEST;
 use notation::decimal::number_of;
 use notation::lines::part;
 use notation::lines::separators;
-ghost use Rattle.stored.specs.Comparing.{RuleIs};
+ghost use Rattle.stored.specs.inner.Comparing.{RuleIs};
 
 // n, m, k and the starting map, and whether the text had them.
 pub struct Rule {

@@ -1,4 +1,4 @@
--- One letter of a table: how its questions go, what is known of one that they accept, and that its table is made.
+-- One letter of a table: how its questions go, what is known of one that they accept, and that its look-up is made.
 use mathlib.Core.Path.{_≡_}
 use mathlib.Core.List.{List, []}
 use Prim.Native.Nat.{ℕ, _≤_, _<_}
@@ -43,7 +43,7 @@ module _ {table : List ℕ} {header : Header} {cells : Grid} {words : List (List
     pub letter-inside : a < maxLetters
     letter-inside = omega (arith, below, v .holds .limits .letters)
 
-    -- and the table that its states' words give is its table
+    -- and the look-up that its states' words give is its own
     pub letter-prepared : {lookup : Lookup} → lookup ≡ joinedLookup (getD words a []) → PreparedLetter (v .rule) header a lookup
     letter-prepared made = record {
       numbers = v .holds .numbers;

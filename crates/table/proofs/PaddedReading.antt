@@ -110,7 +110,7 @@ unfolding readSquare paddedSquare paddedRow
 square-padded n k bytes le =
     padded-many paddedRow (readCell n k n) (readCell n k maxStates) maxStates blankRow (λ b. read-cell-wide n k maxStates b le) n bytes
 
--- what is read is the held grid
+-- what is read is the padded grid
 pub grid-padded : (n m k : ℕ) (bytes : List ℕ) → n ≤ maxStates
     → readPadded n m k bytes ≡ (readGrid n m k bytes then λ x. accepted (padded (x .0), x .1))
 unfolding readPadded readGrid padded

@@ -1,4 +1,4 @@
--- The reader's calls: what they answer, and what they leave in the lent bytes, for all inputs.
+-- The reader's call: what it answers, and what it leaves in the lent bytes, for all inputs.
 use mathlib.Core.Path.{_≡_}
 use mathlib.Core.List.{List}
 use Prim.Native.Nat.{ℕ, _*_}
@@ -9,8 +9,6 @@ use Rattle.base.specs.LentBuffer.{stored}
 use Rattle.rule.specs.Rule.{Rule}
 use Rattle.table.specs.Table.{readRule, gridBytes}
 use Rattle.table.specs.declared.reader.ReadAnswer.{ReadAnswer}
-
--- THE PUBLIC CALL `read`
 
 -- questions 1 to 6, then 10: m·n·n bytes for the grid, "longer is fine"
 unfoldable pub readOutcome : List ℕ → List ℕ → Outcome Rule

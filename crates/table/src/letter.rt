@@ -1,4 +1,4 @@
-// One letter of a table: its questions, and its look-up table.
+// One letter of a table: its questions, and its look-up.
 use crate::reader::Reading;
 use crate::reader::read_rule;
 use rule::limits::LETTERS;
@@ -9,7 +9,7 @@ use rule::lookup::fill_lookup;
 ghost use Rattle.table.specs.LetterQuestions.{letterQuestions};
 ghost use Rattle.table.specs.inner.Preparing.{PreparedLetter, Prepares};
 
-// Questions 1 to 6 to a table, and 8 to a letter. On yes the letter's look-up table is made in place.
+// Questions 1 to 6 to a table, and 8 to a letter. On yes the letter's look-up is made in place.
 pub fn letter_questions(table: &[u8], letter: u8, lookup: &mut Lookup) -> Reading
     ensures { λ r. ⌜ Prepares (letterQuestions (now (table .entry)) letter)
         (λ R header. PreparedLetter R header letter (now (lookup .exit))) r ⌝ }

@@ -1,4 +1,4 @@
-// Rule tables: reader, writer, the read table as arrays of arrays, and the look-up of successors.
+// Rule tables: reader, writer, a table read into arrays of arrays; the questions to a table and a letter.
 mod byte_reader;
 mod cells;
 mod cursor;

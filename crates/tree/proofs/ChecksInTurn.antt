@@ -19,7 +19,7 @@ pub all-from : (left : ℕ) (hosts : List ℕ) → 0 < left → allHost left hos
 unfolding allHost
 all-from left hosts h = let e : left ≡ suc (left - 1) = omega arith in ap (λ (c : ℕ). allHost c hosts) e
 
--- MARKS
+-- TAGS
 
 -- the tags from a place on, behind one of depth `before`
 pub record TagsAhead (k : ℕ) (tags : List ℕ) (before at : ℕ) : Type 0 where

@@ -1,12 +1,12 @@
 -- The call.
 pub mod StartCall
 pub mod CallNumbers
--- The rows as words, and a tree's rows in the code.
+-- The nodes as words, and a tree's nodes in the code.
 pub mod PackedWords
-pub mod TreeRows
+pub mod TreeNodes
 -- Records: the check, reading and writing.
 pub mod ChecksInTurn
 pub mod ReadingInTurn
-pub mod RowsOfRecord
+pub mod NodesOfRecord
 pub mod WritingInTurn
-pub mod RecordOfRows
+pub mod RecordOfNodes

@@ -1,4 +1,4 @@
--- The loops that make rows from a record: how many tags are deeper, the states hosted in a range, and a row for each tag.
+-- The loops that make nodes from a record: how many tags are deeper, the states hosted in a range, and a node for each tag.
 use mathlib.Core.Path.{_≡_, refl, sym, _∙_, ap, ap₂}
 use mathlib.Core.Bool.{Bool, true, false, _&&_, cond}
 use mathlib.Core.List.{List, [], _∷_, _++_, append-nil}
@@ -16,11 +16,11 @@ use Rattle.base.specs.Lists.{pad}
 use Rattle.base.proofs.BitSet.{collect-more}
 use Rattle.history.specs.Record.{rank, hostedIn}
 use Rattle.history.proofs.records.Members.{rank-all, rank-lt}
-use Rattle.tree.specs.inner.Rows.{blankRow}
-use Rattle.tree.specs.inner.RecordRows.{places, blankBehind, deeper, rowsOfTags}
-use Rattle.tree.specs.declared.rows.Row.{Row}
+use Rattle.tree.specs.inner.Nodes.{blankNode}
+use Rattle.tree.specs.inner.RecordNodes.{places, blankBehind, deeper, nodesOfTags}
+use Rattle.tree.specs.declared.nodes.Node.{Node as CodeNode}
 
--- DEEPER MARKS
+-- DEEPER TAGS
 
 -- `count` tags are deeper, and the answer is that many more than for the tags from there on
 pub record DeeperSoFar (d : ℕ) (tags : List ℕ) (count : ℕ) : Type 0 where
@@ -115,48 +115,48 @@ module _ {n s : ℕ} {hosts : List ℕ} {lo hi states at state : ℕ} (v : Hoste
   unfolding hostedIn
   hosted-done h = let e : state ≡ n = omega (arith, v .upto) in v .sofar ∙ ap (λ (c : ℕ). collect c (Within s hosts lo hi)) e
 
--- ROWS
+-- NODES
 
--- the rows of the tags in front of `node` are made
-pub record RowsSoFar (label : ℕ → ℕ → ℕ) (tags : List ℕ) (rows : List Row) (node : ℕ) : Type 0 where
-  pub upto : node ≤ length tags
-  pub held : length rows ≡ places
+-- the nodes of the tags in front of `number` are made
+pub record NodesSoFar (label : ℕ → ℕ → ℕ) (tags : List ℕ) (nodes : List CodeNode) (number : ℕ) : Type 0 where
+  pub upto : number ≤ length tags
+  pub held : length nodes ≡ places
   pub few : length tags ≤ places
-  pub whole : take node rows ++ rowsOfTags label node (drop node tags) ≡ rowsOfTags label 0 tags
-  pub blank : drop node rows ≡ replicate (places - node) blankRow
+  pub whole : take number nodes ++ nodesOfTags label number (drop number tags) ≡ nodesOfTags label 0 tags
+  pub blank : drop number nodes ≡ replicate (places - number) blankNode
 
-pub rows-start : (label : ℕ → ℕ → ℕ) (tags : List ℕ) (rows : List Row) → rows ≡ replicate places blankRow → length tags ≤ places
-    → RowsSoFar label tags rows 0
-rows-start label tags rows is few =
-    record { upto = omega arith; held = ap length is ∙ length-replicate {A = Row} places blankRow; few = few; whole = refl; blank = is }
+pub nodes-start : (label : ℕ → ℕ → ℕ) (tags : List ℕ) (nodes : List CodeNode) → nodes ≡ replicate places blankNode → length tags ≤ places
+    → NodesSoFar label tags nodes 0
+nodes-start label tags nodes is few =
+    record { upto = omega arith; held = ap length is ∙ length-replicate {A = CodeNode} places blankNode; few = few; whole = refl; blank = is }
 
-module _ {label : ℕ → ℕ → ℕ} {tags : List ℕ} {rows : List Row} {node : ℕ} (v : RowsSoFar label tags rows node) where
-  pub rows-next : node < length tags → (own kids count : ℕ) (behind : List ℕ) → behind ≡ drop (node + 1) tags
-      → count ≡ deeper (getD tags node 0 / 16) behind → own ≡ label node (node + 1 + count) → kids ≡ label (node + 1) (node + 1 + count)
-      → (after : List Row) → after ≡ set rows node
-      (record { depth = getD tags node 0 / 16; label = own; kids = kids; active = getD tags node 0 % 16; old = 0 })
-      → RowsSoFar label tags after (node + 1)
-  unfolding rowsOfTags
-  rows-next h own kids count behind b e f g after made = rw (made, add-one node) (record {
+module _ {label : ℕ → ℕ → ℕ} {tags : List ℕ} {nodes : List CodeNode} {number : ℕ} (v : NodesSoFar label tags nodes number) where
+  pub nodes-next : number < length tags → (own kids count : ℕ) (behind : List ℕ) → behind ≡ drop (number + 1) tags
+      → count ≡ deeper (getD tags number 0 / 16) behind → own ≡ label number (number + 1 + count) → kids ≡ label (number + 1) (number + 1 + count)
+      → (after : List CodeNode) → after ≡ set nodes number
+      (record { depth = getD tags number 0 / 16; label = own; kids = kids; active = getD tags number 0 % 16; old = 0 })
+      → NodesSoFar label tags after (number + 1)
+  unfolding nodesOfTags
+  nodes-next h own kids count behind b e f g after made = rw (made, add-one number) (record {
     upto = h;
     held = rw length-set (v .held);
     few = v .few;
-    whole = rw (take-suc-set rows node _ (omega (arith, v .held, v .few)), append-snoc (take node rows), f, g, e, b, add-one node)
-        (rw (drop-cons tags node 0 h) at (v .whole));
-    blank = drop-set-lt (suc node) rows node _ (omega arith) ∙ blank-tail;
+    whole = rw (take-suc-set nodes number _ (omega (arith, v .held, v .few)), append-snoc (take number nodes), f, g, e, b, add-one number)
+        (rw (drop-cons tags number 0 h) at (v .whole));
+    blank = drop-set-lt (suc number) nodes number _ (omega arith) ∙ blank-tail;
   })
     where
-      blank-tail : drop (suc node) rows ≡ replicate (places - suc node) blankRow
+      blank-tail : drop (suc number) nodes ≡ replicate (places - suc number) blankNode
       blank-tail =
-          let inside : node < length rows = omega (arith, v .held, v .few) in
-          let more : places - node ≡ suc (places - suc node) = omega (arith, v .few) in
-          cc (drop-cons rows node blankRow inside, v .blank, ap (λ (c : ℕ). replicate c blankRow) more)
+          let inside : number < length nodes = omega (arith, v .held, v .few) in
+          let more : places - number ≡ suc (places - suc number) = omega (arith, v .few) in
+          cc (drop-cons nodes number blankNode inside, v .blank, ap (λ (c : ℕ). replicate c blankNode) more)
 
-  pub rows-done : length tags ≤ node → rows ≡ blankBehind (rowsOfTags label 0 tags)
-  unfolding rowsOfTags blankBehind pad
-  rows-done h =
-      let e : node ≡ length tags = omega (arith, v .upto) in
-      let made : take node rows ≡ rowsOfTags label 0 tags = sym (append-nil (take node rows)) ∙ rw (drop-of-length-le tags h) at (v .whole) in
-      let many : length (rowsOfTags label 0 tags) ≡ node =
-      ap length (sym made) ∙ length-take-le node rows (omega (arith, v .held, v .few, v .upto)) in
-      sym (take-append-drop node rows) ∙ rw (many, made, v .blank)
+  pub nodes-done : length tags ≤ number → nodes ≡ blankBehind (nodesOfTags label 0 tags)
+  unfolding nodesOfTags blankBehind pad
+  nodes-done h =
+      let e : number ≡ length tags = omega (arith, v .upto) in
+      let made : take number nodes ≡ nodesOfTags label 0 tags = sym (append-nil (take number nodes)) ∙ rw (drop-of-length-le tags h) at (v .whole) in
+      let many : length (nodesOfTags label 0 tags) ≡ number =
+      ap length (sym made) ∙ length-take-le number nodes (omega (arith, v .held, v .few, v .upto)) in
+      sym (take-append-drop number nodes) ∙ rw (many, made, v .blank)

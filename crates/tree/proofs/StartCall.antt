@@ -13,24 +13,24 @@ use Rattle.table.specs.declared.header.Header.{Header}
 use Rattle.table.proofs.Asked.{RuleRead}
 use Rattle.history.specs.Tree.{labels, startTree}
 use Rattle.history.proofs.step.TreesOf.{start-is-tree}
-use Rattle.tree.specs.inner.PackedRows.{countedRows}
-use Rattle.tree.specs.inner.Rows.{rowsFrom, rowsOf, HoldsTree}
-use Rattle.tree.specs.inner.RecordRows.{startRows, HasRows, rowsRecord, Recordable}
+use Rattle.tree.specs.inner.PackedNodes.{countedNodes}
+use Rattle.tree.specs.inner.Nodes.{nodesFrom, nodesOf, HoldsTree}
+use Rattle.tree.specs.inner.RecordNodes.{startNodes, HasNodes, nodesRecord, Recordable}
 use Rattle.tree.specs.StartCall.{recordRoom, startOutcome, startAnswer, startAfter, StartCall}
 use Rattle.tree.specs.declared.start.StartAnswer.{StartAnswer}
-use Rattle.tree.specs.declared.rows.Tree.{Tree as CodeTree}
-use Rattle.tree.proofs.TreeRows.{has-holds}
-use Rattle.tree.proofs.RecordOfRows.{held-record, held-recordable}
+use Rattle.tree.specs.declared.nodes.Tree.{Tree as CodeTree}
+use Rattle.tree.proofs.TreeNodes.{has-holds}
+use Rattle.tree.proofs.RecordOfNodes.{held-record, held-recordable}
 
--- the row is that of the starting tree
-start-rows-are : (R : Rule) → startRows (R .start) ≡ rowsOf (startTree R)
-unfolding startRows startTree rowsOf rowsFrom labels
-start-rows-are R = refl
+-- the node is that of the starting tree
+start-nodes-are : (R : Rule) → startNodes (R .start) ≡ nodesOf (startTree R)
+unfolding startNodes startTree nodesOf nodesFrom labels
+start-nodes-are R = refl
 
 -- which is held
-pub start-holds : {R : Rule} → WithinLimits R → (x : CodeTree) → HasRows (startRows (R .start)) x → HoldsTree R (startTree R) x
+pub start-holds : {R : Rule} → WithinLimits R → (x : CodeTree) → HasNodes (startNodes (R .start)) x → HoldsTree R (startTree R) x
 start-holds {R} limits x made =
-    has-holds R (startTree R) x (start-is-tree R (limits .well) (limits .some-set)) (rw (start-rows-are R) at made)
+    has-holds R (startTree R) x (start-is-tree R (limits .well) (limits .some-set)) (rw (start-nodes-are R) at made)
 
 -- questions 1 to 6
 pub start-refused : (table before : List ℕ) (number : ℕ) → readRule table ≡ refused number
@@ -45,7 +45,7 @@ module _ {table : List ℕ} {header : Header} {cells : Grid} {words : List (List
   unfolding startOutcome startAfter
   start-no-room before h answer e = rw (v .reads, lt-leb _ _ h) (e, refl)
 
-  module _ (x : CodeTree) (made : HasRows (startRows (header .start)) x) where
+  module _ (x : CodeTree) (made : HasNodes (startNodes (header .start)) x) where
     held : HoldsTree (v .rule) (startTree (v .rule)) x
     held = start-holds (v .holds .limits) x (rw (v .holds .numbers) at made)
 
@@ -55,8 +55,8 @@ module _ {table : List ℕ} {header : Header} {cells : Grid} {words : List (List
 
     -- all questions are answered yes
     pub start-done : (before : List ℕ) → recordRoom ≤ length before → (written : ℕ) (after : List ℕ)
-        → written ≡ length (rowsRecord (header .states) (countedRows x))
-        → after ≡ stored 0 (rowsRecord (header .states) (countedRows x)) before
+        → written ≡ length (nodesRecord (header .states) (countedNodes x))
+        → after ≡ stored 0 (nodesRecord (header .states) (countedNodes x)) before
         → StartCall table before (record { number = 0; written = written }) after
     unfolding startOutcome startAnswer startAfter
     start-done before h written after e f = rw (v .reads, le-leb _ _ h, e, f, v .holds .numbers, held-record held) (refl, refl)

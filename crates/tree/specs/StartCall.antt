@@ -1,4 +1,4 @@
--- The calls on trees: what they answer, and what they leave in the lent buffer, for all inputs.
+-- The starting record of a table: what the call answers, and what it leaves in the lent buffer, for all inputs.
 use mathlib.Core.Path.{_≡_}
 use mathlib.Core.List.{List}
 use Prim.Native.Nat.{ℕ}
@@ -14,8 +14,6 @@ use Rattle.tree.specs.declared.start.StartAnswer.{StartAnswer}
 -- "17 for a tree"
 abbrev pub recordRoom : ℕ
 recordRoom = 17
-
--- THE STARTING RECORD
 
 -- questions 1 to 6, then 10; accepted, the record of the starting tree
 unfoldable pub startOutcome : List ℕ → List ℕ → Outcome (List ℕ)
@@ -37,9 +35,6 @@ abbrev pub StartCall : List ℕ → List ℕ → StartAnswer → List ℕ → Ty
 StartCall table buffer answer after =
     (answer ≡ startAnswer (startOutcome table buffer)) × (after ≡ startAfter (startOutcome table buffer) buffer)
 
--- ONE LETTER
-
--- THE NUMBERS that a caller sees: each tells whether the call is accepted
-
+-- the number that a caller sees tells whether the call is accepted
 abbrev pub StartNumber : Type 0
 StartNumber = (table buffer : List ℕ) → Tells (startOutcome table buffer) (startAnswer (startOutcome table buffer) .number)

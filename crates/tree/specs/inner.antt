@@ -1,6 +1,6 @@
 -- What the contracts of inner functions cite.
-pub mod PackedRows
+pub mod PackedNodes
 pub mod RecordCode
-pub mod RecordRows
-pub mod Rows
+pub mod RecordNodes
+pub mod Nodes
 pub mod Sides

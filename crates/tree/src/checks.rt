@@ -8,10 +8,10 @@ ghost use lib.ListN.{length};
 ghost use Rattle.history.specs.inner.RecordChecks.{allHost, activeFits, tagsFollow, tagsFit, bodyFits, recordChecks};
 
 // "Each node hosts at least one state."
-fn all_host(nodes: usize, hosts: &[u8]) -> bool
-    ensures { λ r. ⌜ r ≡ allHost nodes (now (hosts .entry)) ⌝ }
+fn all_host(count: usize, hosts: &[u8]) -> bool
+    ensures { λ r. ⌜ r ≡ allHost count (now (hosts .entry)) ⌝ }
 {
-    let mut left = nodes;
+    let mut left = count;
     while 0 < left {
         left -= 1;
         if !contains(hosts, left) {
@@ -79,11 +79,11 @@ fn body_fits(k: usize, map: u16, left: &[u8]) -> bool
     ensures { λ r. ⌜ r ≡ bodyFits k map (now (left .entry)) ⌝ }
 {
     let states = u16::count_ones(map) as usize;
-    let nodes = left.len() - states;
-    if !all_below(nodes, &left[..states]) {
+    let count = left.len() - states;
+    if !all_below(count, &left[..states]) {
         return false;
     }
-    if !all_host(nodes, &left[..states]) {
+    if !all_host(count, &left[..states]) {
         return false;
     }
     tags_fit(k, &left[states..])

@@ -1,10 +1,10 @@
-// A node's row as one machine word, so that the rows of a tree can be lent and a row is one load or one store.
-use crate::rows::Row;
+// A node as one machine word, so that the nodes of a tree can be lent and a node is one load or one store.
+use crate::nodes::Node;
 ghost use mathlib.Core.Path.{_≡_};
-ghost use Rattle.tree.specs.inner.PackedRows.{unpacked};
+ghost use Rattle.tree.specs.inner.PackedNodes.{unpacked};
 
-// The word of a row: depth, label, union of the children's labels, active set and old number, from the lowest bits up.
-pub fn pack(x: Row) -> u64
+// The word of a node: depth, label, union of the children's labels, active set and old number, from the lowest bits up.
+pub fn pack(x: Node) -> u64
     ensures { λ r. ⌜ unpacked r ≡ x ⌝ }
 {
     let lower = (x.depth as u64) + 65536 * (x.label as u64);
@@ -12,11 +12,11 @@ pub fn pack(x: Row) -> u64
     lower + 4294967296 * upper
 }
 
-// The row of a word.
-pub fn unpack(word: u64) -> Row
+// The node of a word.
+pub fn unpack(word: u64) -> Node
     ensures { λ r. ⌜ r ≡ unpacked word ⌝ }
 {
-    Row {
+    Node {
         depth: (word % 65536) as u16,
         label: (word / 65536 % 65536) as u16,
         kids: (word / 4294967296 % 65536) as u16,

@@ -1,8 +1,8 @@
-// The rows of a record's tree: its tags give each node's depth and active set, its hosts give the labels.
+// The nodes of a record's tree: its tags give each node's depth and active set, its hosts give the labels.
+use crate::nodes::Node;
+use crate::nodes::Preorder;
+use crate::nodes::Tree;
 use crate::packed::pack;
-use crate::rows::Row;
-use crate::rows::Rows;
-use crate::rows::Tree;
 ghost use mathlib.Core.Path.{_≡_};
 ghost use mathlib.Core.Bool.{_&&_, cond};
 ghost use Prim.Native.Nat.{_^_, _<_, _≤_};
@@ -10,8 +10,8 @@ ghost use lib.Count.{ones};
 ghost use lib.Dec.{leb, ltb};
 ghost use lib.ListN.{length};
 ghost use Rattle.history.specs.Record.{hostedIn};
-ghost use Rattle.tree.specs.inner.PackedRows.{rowsIn};
-ghost use Rattle.tree.specs.inner.RecordRows.{blankBehind, places, deeper, rowsOfTags};
+ghost use Rattle.tree.specs.inner.PackedNodes.{nodesIn};
+ghost use Rattle.tree.specs.inner.RecordNodes.{blankBehind, places, deeper, nodesOfTags};
 
 // How many tags at the front are deeper than a node: the number of nodes below it, where they follow its own tag.
 fn deeper(depth: u8, tags: &[u8]) -> usize
@@ -59,30 +59,30 @@ fn hosted(n: usize, map: u16, hosts: &[u8], low: usize, high: usize) -> u16
     states
 }
 
-// A row for each tag, in front of blank ones. A node's label are the states hosted at the node or below it, its children's are
+// A node for each tag, in front of blank ones. A node's label are the states hosted at the node or below it, its children's are
 // those below it.
-pub fn record_rows(n: usize, map: u16, hosts: &[u8], tags: &[u8]) -> Rows
+pub fn record_nodes(n: usize, map: u16, hosts: &[u8], tags: &[u8]) -> Preorder
     requires { ⌜ ((n ≤ 16) × ((map < 2 ^ n) × (ones map ≤ length (now hosts)))) × (length (now tags) ≤ places) ⌝ }
-    ensures { λ r. ⌜ rowsIn r ≡ blankBehind (rowsOfTags (hostedIn n map (now (hosts .entry))) 0 (now (tags .entry))) ⌝ }
+    ensures { λ r. ⌜ nodesIn r ≡ blankBehind (nodesOfTags (hostedIn n map (now (hosts .entry))) 0 (now (tags .entry))) ⌝ }
 {
-    let mut rows = [0u64; Tree::PLACES];
-    let mut node = 0usize;
-    while node < tags.len() {
-        let tag = tags[node];
+    let mut nodes = [0u64; Tree::PLACES];
+    let mut number = 0usize;
+    while number < tags.len() {
+        let tag = tags[number];
         let depth = (tag / 16) as u16;
-        let next = node + 1;
+        let next = number + 1;
         let end = next + deeper(tag / 16, &tags[next..]);
-        let label = hosted(n, map, hosts, node, end);
+        let label = hosted(n, map, hosts, number, end);
         let kids = hosted(n, map, hosts, next, end);
-        let row = Row {
+        let node = Node {
             depth: depth,
             label: label,
             kids: kids,
             active: tag % 16,
             old: 0,
         };
-        rows[node] = pack(row);
-        node = next;
+        nodes[number] = pack(node);
+        number = next;
     }
-    rows
+    nodes
 }

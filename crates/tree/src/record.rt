@@ -1,9 +1,9 @@
 // "Every tree comes from the starting tree or from a checked record."
 use crate::checks::record_fits;
+use crate::nodes::Node;
+use crate::nodes::Tree;
 use crate::packed::pack;
-use crate::reading::record_rows;
-use crate::rows::Row;
-use crate::rows::Tree;
+use crate::reading::record_nodes;
 use rule::limits::SETS;
 ghost use mathlib.Core.Path.{_≡_};
 ghost use mathlib.Core.Bool.{_&&_};
@@ -11,7 +11,7 @@ ghost use lib.Dec.{leb};
 ghost use Rattle.base.specs.Outcome.{refused};
 ghost use Rattle.rule.specs.Limits.{maxSets, maxStates};
 ghost use Rattle.tree.specs.inner.RecordCode.{checkedTree, Checks};
-ghost use Rattle.tree.specs.inner.RecordRows.{startRows, HasRows};
+ghost use Rattle.tree.specs.inner.RecordNodes.{startNodes, HasNodes};
 
 // The number of nodes of a checked record's tree, or that the bytes are no record.
 pub enum Count {
@@ -42,29 +42,29 @@ fn no_record() -> Checked
     Checked {
         count: Count::Refused,
         tree: Tree {
-            rows: [0u64; Tree::PLACES],
+            nodes: [0u64; Tree::PLACES],
             count: 0,
         },
     }
 }
 
 impl Tree {
-    // "The starting tree is the root alone, the starting states, active set 1." Its one row stands in front of
-    // blank ones: the word 0 is the blank row.
+    // "The starting tree is the root alone, the starting states, active set 1." Its one node stands in front of
+    // blank ones: the word 0 is the blank node.
     pub fn start(map: u16) -> Tree
-        ensures { λ r. ⌜ HasRows (startRows map) r ⌝ }
+        ensures { λ r. ⌜ HasNodes (startNodes map) r ⌝ }
     {
-        let root = Row {
+        let root = Node {
             depth: 0,
             label: map,
             kids: 0,
             active: 1,
             old: 0,
         };
-        let mut rows = [0u64; Tree::PLACES];
-        rows[0] = pack(root);
+        let mut nodes = [0u64; Tree::PLACES];
+        nodes[0] = pack(root);
         Tree {
-            rows: rows,
+            nodes: nodes,
             count: 1,
         }
     }
@@ -81,13 +81,13 @@ impl Tree {
         }
         let map = bytes[0] as u16;
         let tags = 1 + u16::count_ones(map) as usize;
-        let nodes = bytes.len() - tags;
-        let rows = record_rows(n, map, &bytes[1..tags], &bytes[tags..]);
+        let count = bytes.len() - tags;
+        let nodes = record_nodes(n, map, &bytes[1..tags], &bytes[tags..]);
         Checked {
-            count: Count::Nodes(nodes),
+            count: Count::Nodes(count),
             tree: Tree {
-                rows: rows,
-                count: nodes,
+                nodes: nodes,
+                count: count,
             },
         }
     }

@@ -1,5 +1,5 @@
 // The starting record of a table.
-use crate::rows::Tree;
+use crate::nodes::Tree;
 use crate::writing::put_record;
 use rule::limits::LETTERS;
 use rule::limits::NO_TRANSITION;

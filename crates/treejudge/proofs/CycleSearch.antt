@@ -14,13 +14,13 @@ use Rattle.history.proofs.walk.TreesOfWalk.{round-next}
 use Rattle.history.proofs.repeat.RepeatExists.{repeat-exists}
 use Rattle.history.proofs.verdict.CycleVerdict.{read-rounds}
 use Rattle.history.proofs.repeat.CycleFinding.{BrentSoFar, Skips, brent-start, none-skips, brent-more, brent-reset, reset-skips, brent-found, lam-steps, power-doubles, brent-measure}
-use Rattle.tree.specs.declared.rows.Tree.{Tree as CodeTree}
+use Rattle.tree.specs.declared.nodes.Tree.{Tree as CodeTree}
 use Rattle.treejudge.specs.inner.Names.{allKept, Follows, FollowsOn, FollowsTo}
-use Rattle.treejudge.specs.inner.SameRows.{sameTrees}
+use Rattle.treejudge.specs.inner.SameNodes.{sameTrees}
 use Rattle.treejudge.specs.inner.Cycles.{AtRound, CycleOf}
 use Rattle.treejudge.specs.declared.follow.Maps.{Maps}
 use Rattle.treejudge.proofs.NamesFollowed.{begun-follows}
-use Rattle.treejudge.proofs.RoundsRead.{both-small, rows-same, rows-differ}
+use Rattle.treejudge.proofs.RoundsRead.{both-small, nodes-same, nodes-differ}
 
 -- one round more
 rounds-more : (r : ℕ) (v : List ℕ) → rounds (r + 1) v ≡ rounds r v ++ v
@@ -94,7 +94,7 @@ module _ {R : Rule} {u v : List ℕ} {lookups : Lookups} {k : ℕ} {x y : CodeTr
         (record { saved = x; before = y; half = half; power = power; period = lam + 1; witnesses = n .witnesses })
     search-found same entry period F =
         let (back, late) = brent-found (roundTree R u v) (readLetters R v) (round-next R u v) entry period F power lam (S .brent)
-        (rows-same (S .saved) search-next same) in
+        (nodes-same (S .saved) search-next same) in
         record {
           saved = S .saved .tree;
           before = S .before .tree;
@@ -108,7 +108,7 @@ module _ {R : Rule} {u v : List ℕ} {lookups : Lookups} {k : ℕ} {x y : CodeTr
 
     module _ (differ : sameTrees x next ≡ false) where
       apart : roundTree R u v (power - 1) ≡ roundTree R u v (power - 1 + (lam + 1)) → ⊥
-      apart = rows-differ (S .saved) search-next differ
+      apart = nodes-differ (S .saved) search-next differ
 
       -- otherwise the search goes on
       pub search-more : (lam + 1 ≡ power → ⊥) → Searching R u v lookups k x y half power (lam + 1) next n

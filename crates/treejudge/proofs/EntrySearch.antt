@@ -10,12 +10,12 @@ use Rattle.word.specs.inner.WalkLookups.{Lookups}
 use Rattle.history.specs.Rounds.{readLetters, roundTree}
 use Rattle.history.proofs.walk.TreesOfWalk.{round-next}
 use Rattle.history.proofs.repeat.FirstRepeats.{repeat-only}
-use Rattle.tree.specs.declared.rows.Tree.{Tree as CodeTree}
+use Rattle.tree.specs.declared.nodes.Tree.{Tree as CodeTree}
 use Rattle.treejudge.specs.inner.Reading.{ReadsTo}
-use Rattle.treejudge.specs.inner.SameRows.{sameTrees}
+use Rattle.treejudge.specs.inner.SameNodes.{sameTrees}
 use Rattle.treejudge.specs.inner.Cycles.{AtRound, Ahead, ReadTo, Bracket, Searched}
 use Rattle.treejudge.specs.declared.cycle.Cycle.{Cycle}
-use Rattle.treejudge.proofs.RoundsRead.{round-read, rounds-read, rows-same, rows-differ}
+use Rattle.treejudge.proofs.RoundsRead.{round-read, rounds-read, nodes-same, nodes-differ}
 
 module _ {R : Rule} {u v : List ℕ} {lookups : Lookups} {k entry period place high : ℕ} {x y : CodeTree}
     (N : Bracket R u v lookups k entry period place high x y) where
@@ -24,7 +24,7 @@ module _ {R : Rule} {u v : List ℕ} {lookups : Lookups} {k entry period place h
   entry-here same =
       let F = N .repeat in
       let (late, _) = repeat-only (roundTree R u v) (readLetters R v) (round-next R u v) entry period F place (place + period)
-      (omega (arith, F .positive)) (rows-same (N .place) (N .ahead) same) in
+      (omega (arith, F .positive)) (nodes-same (N .place) (N .ahead) same) in
       omega (arith, N .from)
 
   module _ (differ : sameTrees x y ≡ false) where
@@ -33,7 +33,7 @@ module _ {R : Rule} {u v : List ℕ} {lookups : Lookups} {k entry period place h
     entry-later = go (ℕ-discrete place entry)
       where
         go : Dec (place ≡ entry) → place + 1 ≤ entry
-        go (yes e) = absurd (rows-differ (N .place) (N .ahead) differ (rw e (N .repeat .back)))
+        go (yes e) = absurd (nodes-differ (N .place) (N .ahead) differ (rw e (N .repeat .back)))
         go (no e) = omega (arith, N .from)
 
     -- and both places go forward

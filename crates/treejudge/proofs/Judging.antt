@@ -22,8 +22,8 @@ use Rattle.history.specs.Rounds.{roundTree}
 use Rattle.history.specs.Verdict.{FirstWitness}
 use Rattle.history.specs.Finding.{yes-node, no-node}
 use Rattle.history.proofs.step.TreesOf.{of-few}
-use Rattle.tree.specs.inner.RecordRows.{startRows, HasRows}
-use Rattle.tree.specs.declared.rows.Tree.{Tree as CodeTree}
+use Rattle.tree.specs.inner.RecordNodes.{startNodes, HasNodes}
+use Rattle.tree.specs.declared.nodes.Tree.{Tree as CodeTree}
 use Rattle.tree.proofs.StartCall.{start-holds}
 use Rattle.treejudge.specs.JudgeCall.{noName, treeAnswer, namesAfter, Judged}
 use Rattle.treejudge.specs.inner.Reading.{HasSets, Reads, ReadsTo}
@@ -50,7 +50,7 @@ module _ {R : Rule} {header : Header} {lookups : Lookups} {u v : List ℕ} (p : 
   pub sets-small : header .sets < 256
   sets-small = rw (p .numbers) (omega (arith, p .limits .sets))
 
-  module _ (start : CodeTree) (made : HasRows (startRows (header .start)) start) (w : List ℕ) (left : w ≡ lettersLeft false u v 0) where
+  module _ (start : CodeTree) (made : HasNodes (startNodes (header .start)) start) (w : List ℕ) (left : w ≡ lettersLeft false u v 0) where
     -- u is read from the starting tree
     pub lead-reads : (x : CodeTree) → x ≡ start → Reads R (startTree R) lookups (header .sets) w x
     lead-reads x is = rw is (record {
@@ -94,7 +94,7 @@ module _ (R : Rule) (u v : List ℕ) (r : Repeat) (S : RepeatOf R u v r) (before
       tree = S .tree;
       states = limits;
       holds = S .holds;
-      node = omega (arith, node-there, S .holds .nodes);
+      node = omega (arith, node-there, S .holds .counts);
     }
 
     -- and the first witness

@@ -15,13 +15,13 @@ use Rattle.history.specs.Letter.{nextTree}
 use Rattle.history.specs.Rounds.{readLetters}
 use Rattle.history.proofs.walk.TreesOfWalk.{read-append}
 use Rattle.tree.specs.inner.Sides.{treeOn, Stands, Laid}
-use Rattle.tree.specs.inner.Rows.{HoldsTree}
-use Rattle.tree.specs.declared.rows.Tree.{Tree as CodeTree}
+use Rattle.tree.specs.inner.Nodes.{HoldsTree}
+use Rattle.tree.specs.declared.nodes.Tree.{Tree as CodeTree}
 use Rattle.tree.specs.declared.sides.OnSide.{OnSide}
-use Rattle.step.specs.inner.Pass.{steppedRows}
-use Rattle.step.specs.inner.Stepping.{rowsOn, Steppable, Stepping}
+use Rattle.step.specs.inner.Pass.{steppedNodes}
+use Rattle.step.specs.inner.Stepping.{nodesOn, Steppable, Stepping}
 use Rattle.step.specs.declared.pass.Stepped.{Stepped}
-use Rattle.step.proofs.StepOfRows.{place-ready, place-steps}
+use Rattle.step.proofs.StepOfNodes.{place-ready, place-steps}
 use Rattle.treejudge.specs.inner.Reading.{Reads, Readable, ReadsTo}
 
 -- a tree that is laid stands on side 0
@@ -69,7 +69,7 @@ module _ (lookups : Lookups) (k : ℕ) (w : List ℕ) where
 
       -- and leads on
       pub upto-more : at < length w → (next : Stepped) (after : List (List ℕ))
-          → Stepping (steppedRows (getD lookups (getD w at 0) []) k (rowsOn sides (on .side) (on .count))) (on .side) sides next after
+          → Stepping (steppedNodes (getD lookups (getD w at 0) []) k (nodesOn sides (on .side) (on .count))) (on .side) sides next after
           → ReadUpTo lookups k w x (at + 1) after (record { side = 1 - on .side; count = next .count })
       upto-more h next after step = record {
         upto = omega arith;

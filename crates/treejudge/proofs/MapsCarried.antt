@@ -1,4 +1,4 @@
--- Maps of old numbers carried to the new ones row by row: one map, and two in one word, where a row takes its bit of each at once.
+-- Maps of old numbers carried to the new ones node by node: one map, and two in one word, where a node takes its bit of each at once.
 use mathlib.Core.Path.{_≡_, sym, _∙_, ap, ap₂}
 use mathlib.Core.Logic.{⊎-elim}
 use mathlib.Core.Bool.{Bool, true, false, cond}
@@ -17,10 +17,10 @@ use Rattle.base.specs.BitSet.{member, collect}
 use Rattle.base.proofs.BitSet.{member-lt, member-mod, collect-lt, collect-ext, collect-more}
 use Rattle.base.proofs.Logic.{look, bool-ext}
 use Rattle.history.specs.inner.Following.{carried}
-use Rattle.tree.specs.inner.Rows.{blankRow}
-use Rattle.tree.specs.inner.PackedRows.{rowsIn}
-use Rattle.tree.specs.declared.rows.Row.{Row}
-use Rattle.tree.specs.declared.rows.Tree.{Tree as CodeTree}
+use Rattle.tree.specs.inner.Nodes.{blankNode}
+use Rattle.tree.specs.inner.PackedNodes.{nodesIn}
+use Rattle.tree.specs.declared.nodes.Node.{Node as CodeNode}
+use Rattle.tree.specs.declared.nodes.Tree.{Tree as CodeTree}
 use Rattle.treejudge.specs.inner.Names.{carriedMaps}
 use Rattle.treejudge.specs.declared.follow.Maps.{Maps}
 
@@ -45,35 +45,35 @@ capped m q small =
     bool-ext _ _ (λ h. ap (member m) (sym (low (member-lt 16 m _ small h))) ∙ h)
     (λ h. ap (member m) (low (omega (arith, member-lt 16 m q small h))) ∙ h)
 
--- the first j rows whose old numbers are in a map
-unfoldable pub carriedTo : List Row → ℕ → ℕ → ℕ
-carriedTo rows nodes j = collect j (λ i. member nodes (getD rows i blankRow .old))
+-- the first j nodes whose old numbers are in a map
+unfoldable pub carriedTo : List CodeNode → ℕ → ℕ → ℕ
+carriedTo nodes chosen j = collect j (λ i. member chosen (getD nodes i blankNode .old))
 
--- one row more: its bit is the old number's
-carried-more : (rows : List Row) (nodes j : ℕ)
-    → bitOr (carriedTo rows nodes j) (bit nodes (getD rows j blankRow .old) * 2 ^ j) ≡ carriedTo rows nodes (suc j)
+-- one node more: its bit is the old number's
+carried-more : (nodes : List CodeNode) (chosen j : ℕ)
+    → bitOr (carriedTo nodes chosen j) (bit chosen (getD nodes j blankNode .old) * 2 ^ j) ≡ carriedTo nodes chosen (suc j)
 unfolding carriedTo
-carried-more rows nodes j = rw (← placed (member nodes (getD rows j blankRow .old))) (sym (collect-more j _))
+carried-more nodes chosen j = rw (← placed (member chosen (getD nodes j blankNode .old))) (sym (collect-more j _))
   where
     placed : (b : Bool) → cond b (2 ^ j) 0 ≡ cond b 1 0 * 2 ^ j
     placed true = omega arith
     placed false = omega arith
 
--- few rows make a small map
-carried-small : (rows : List Row) (nodes j : ℕ) → j ≤ 16 → carriedTo rows nodes j < 2 ^ 16
+-- few nodes make a small map
+carried-small : (nodes : List CodeNode) (chosen j : ℕ) → j ≤ 16 → carriedTo nodes chosen j < 2 ^ 16
 unfolding carriedTo
-carried-small rows nodes j h = lt-of-lt-of-le (collect-lt j _) (pow-mono h)
+carried-small nodes chosen j h = lt-of-lt-of-le (collect-lt j _) (pow-mono h)
 
--- all rows
-carried-all : (rows : List Row) (nodes count : ℕ) → count ≤ length rows
-    → carriedTo rows nodes count ≡ carried (map (λ x. x .old) (take count rows)) nodes
+-- all nodes
+carried-all : (nodes : List CodeNode) (chosen count : ℕ) → count ≤ length nodes
+    → carriedTo nodes chosen count ≡ carried (map (λ x. x .old) (take count nodes)) chosen
 unfolding carried carriedTo
-carried-all rows nodes count h =
-    let olds : List ℕ = map (λ (x : Row). x .old) (take count rows) in
-    let many : length olds ≡ count = length-map (take count rows) (λ (x : Row). x .old) ∙ length-take-le count rows h in
-    sym (ap (λ (n : ℕ). collect n (λ i. member nodes (getD olds i 0))) many
-    ∙ collect-ext count _ _ (λ i l. ap (member nodes) (List·getD-map (λ (x : Row). x .old) (take count rows) i blankRow
-    ∙ ap (λ (x : Row). x .old) (getD-take count rows i blankRow l))))
+carried-all nodes chosen count h =
+    let olds : List ℕ = map (λ (x : CodeNode). x .old) (take count nodes) in
+    let many : length olds ≡ count = length-map (take count nodes) (λ (x : CodeNode). x .old) ∙ length-take-le count nodes h in
+    sym (ap (λ (n : ℕ). collect n (λ i. member chosen (getD olds i 0))) many
+    ∙ collect-ext count _ _ (λ i l. ap (member chosen) (List·getD-map (λ (x : CodeNode). x .old) (take count nodes) i blankNode
+    ∙ ap (λ (x : CodeNode). x .old) (getD-take count nodes i blankNode l))))
 
 -- TWO MAPS IN ONE WORD
 
@@ -100,34 +100,34 @@ both-placed : (x y j : ℕ) → x < 2 → y < 2 → j ≤ 16 → both x y * 2 ^ 
 both-placed x y j hx hy h = shl-exact 33 j 64 (omega arith) (omega arith) ∙ add-mul (y * 2 ^ 32) x (2 ^ j)
     ∙ ap (λ (n : ℕ). n + x * 2 ^ j) (mul-right-comm y (2 ^ 32) (2 ^ j))
 
--- both maps of the first j rows
-abbrev pub bothTo : List Row → Maps → ℕ → ℕ
-bothTo rows m j = both (carriedTo rows (m .kept) j) (carriedTo rows (m .witnesses) j)
+-- both maps of the first j nodes
+abbrev pub bothTo : List CodeNode → Maps → ℕ → ℕ
+bothTo nodes m j = both (carriedTo nodes (m .kept) j) (carriedTo nodes (m .witnesses) j)
 
--- one row more for both
-pub both-more : (rows : List Row) (m : Maps) (j : ℕ) → m .kept < 2 ^ 16 → m .witnesses < 2 ^ 16 → j < 16
-    → (x : Row) → x ≡ getD rows j blankRow → (shift : ℕ) → shift ≡ min (x .old) 31
-    → bitOr (bothTo rows m j) (bitAnd (both (m .kept) (m .witnesses) / 2 ^ shift) (2 ^ 32 + 1) * 2 ^ j % 2 ^ 64) ≡ bothTo rows m (j + 1)
-both-more rows m j hk hw h x is shift e =
+-- one node more for both
+pub both-more : (nodes : List CodeNode) (m : Maps) (j : ℕ) → m .kept < 2 ^ 16 → m .witnesses < 2 ^ 16 → j < 16
+    → (x : CodeNode) → x ≡ getD nodes j blankNode → (shift : ℕ) → shift ≡ min (x .old) 31
+    → bitOr (bothTo nodes m j) (bitAnd (both (m .kept) (m .witnesses) / 2 ^ shift) (2 ^ 32 + 1) * 2 ^ j % 2 ^ 64) ≡ bothTo nodes m (j + 1)
+both-more nodes m j hk hw h x is shift e =
     let old = x .old in
     let kept = m .kept in
     let seen = m .witnesses in
     let taken : bitAnd (both kept seen / 2 ^ shift) (2 ^ 32 + 1) ≡ both (bit kept old) (bit seen old) =
     rw e (both-bits kept seen (min old 31) (omega arith) (omega arith) ∙ rw (capped kept old hk, capped seen old hw)) in
     rw (taken, both-placed (bit kept old) (bit seen old) j (bit-small kept old) (bit-small seen old) (omega arith))
-    (or-block 32 (carriedTo rows seen j) (bit seen old * 2 ^ j) (carriedTo rows kept j) (bit kept old * 2 ^ j)
-    (omega (arith, carried-small rows kept j (omega arith))) (lt-of-lt-of-le (shl-lt 1 j (bit-small kept old)) (pow-mono {j = 32} (omega arith)))
-    ∙ rw (add-one, is, carried-more rows kept j, carried-more rows seen j))
+    (or-block 32 (carriedTo nodes seen j) (bit seen old * 2 ^ j) (carriedTo nodes kept j) (bit kept old * 2 ^ j)
+    (omega (arith, carried-small nodes kept j (omega arith))) (lt-of-lt-of-le (shl-lt 1 j (bit-small kept old)) (pow-mono {j = 32} (omega arith)))
+    ∙ rw (add-one, is, carried-more nodes kept j, carried-more nodes seen j))
 
--- both after all rows
-pub both-all : (x : CodeTree) (m : Maps) → x .count ≤ 16 → x .count ≤ length (rowsIn (x .rows))
-    → let word = bothTo (rowsIn (x .rows)) m (x .count) in record { kept = word % 2 ^ 16; witnesses = word / 2 ^ 32 % 2 ^ 16 } ≡ carriedMaps x m
+-- both after all nodes
+pub both-all : (x : CodeTree) (m : Maps) → x .count ≤ 16 → x .count ≤ length (nodesIn (x .nodes))
+    → let word = bothTo (nodesIn (x .nodes)) m (x .count) in record { kept = word % 2 ^ 16; witnesses = word / 2 ^ 32 % 2 ^ 16 } ≡ carriedMaps x m
 unfolding carriedMaps
 both-all x m few h =
-    let rows = rowsIn (x .rows) in
-    let kept = carriedTo rows (m .kept) (x .count) in
-    let seen = carriedTo rows (m .witnesses) (x .count) in
-    let small : kept < 2 ^ 16 = carried-small rows (m .kept) (x .count) few in
+    let nodes = nodesIn (x .nodes) in
+    let kept = carriedTo nodes (m .kept) (x .count) in
+    let seen = carriedTo nodes (m .witnesses) (x .count) in
+    let small : kept < 2 ^ 16 = carried-small nodes (m .kept) (x .count) few in
     let parts : (both kept seen % 2 ^ 16 ≡ kept) × (both kept seen / 2 ^ 32 % 2 ^ 16 ≡ seen) =
-    (omega arith, omega (arith, carried-small rows (m .witnesses) (x .count) few)) in
-    rw (← carried-all rows (m .kept) (x .count) h, ← carried-all rows (m .witnesses) (x .count) h, parts .0, parts .1)
+    (omega arith, omega (arith, carried-small nodes (m .witnesses) (x .count) few)) in
+    rw (← carried-all nodes (m .kept) (x .count) h, ← carried-all nodes (m .witnesses) (x .count) h, parts .0, parts .1)

@@ -17,14 +17,14 @@ use Rattle.history.specs.inner.OldNumbers.{noNode}
 use Rattle.history.proofs.verdict.FollowingLaws.{follow-none, follow-kept, follow-accepted}
 use Rattle.history.proofs.walk.TreesOfWalk.{read-append}
 use Rattle.tree.specs.inner.Sides.{treeOn, Stands}
-use Rattle.tree.specs.inner.Rows.{HoldsTree}
-use Rattle.tree.specs.declared.rows.Tree.{Tree as CodeTree}
+use Rattle.tree.specs.inner.Nodes.{HoldsTree}
+use Rattle.tree.specs.declared.nodes.Tree.{Tree as CodeTree}
 use Rattle.tree.specs.declared.sides.OnSide.{OnSide}
-use Rattle.tree.proofs.TreeRows.{tree-small}
-use Rattle.step.specs.inner.Pass.{steppedRows}
-use Rattle.step.specs.inner.Stepping.{rowsOn, Steppable, Stepping, StepsTo}
+use Rattle.tree.proofs.TreeNodes.{tree-small}
+use Rattle.step.specs.inner.Pass.{steppedNodes}
+use Rattle.step.specs.inner.Stepping.{nodesOn, Steppable, Stepping, StepsTo}
 use Rattle.step.specs.declared.pass.Stepped.{Stepped}
-use Rattle.step.proofs.StepOfRows.{place-ready, place-steps}
+use Rattle.step.proofs.StepOfNodes.{place-ready, place-steps}
 use Rattle.treejudge.specs.inner.Reading.{Readable}
 use Rattle.treejudge.specs.inner.Names.{allKept, carriedMaps, Follows, FollowsOn, Followable, FollowsTo}
 use Rattle.treejudge.specs.declared.follow.Maps.{Maps}
@@ -45,7 +45,7 @@ unfolding readLetters
 begun-follows {R} {T} tree = let (kept, none) = follow-none R T in record {
   first = tree .fits;
   tree = tree;
-  kept = ap (λ (n : ℕ). 2 ^ n - 1) (tree .nodes) ∙ sym kept;
+  kept = ap (λ (n : ℕ). 2 ^ n - 1) (tree .counts) ∙ sym kept;
   witnesses = sym none;
 }
 
@@ -85,7 +85,7 @@ module _ (lookups : Lookups) (k : ℕ) (w : List ℕ) where
       followed-ready (R, T, before, F) = place-ready (F .holds .limits) sides on (v .names R T before F .tree) (v .stands)
 
       module _ (h : at < length w) (next : Stepped) (after : List (List ℕ))
-          (step : Stepping (steppedRows (getD lookups (getD w at 0) []) k (rowsOn sides (on .side) (on .count))) (on .side) sides next after) where
+          (step : Stepping (steppedNodes (getD lookups (getD w at 0) []) k (nodesOn sides (on .side) (on .count))) (on .side) sides next after) where
         abbrev there : OnSide
         there = record { side = 1 - on .side; count = next .count }
 

@@ -1,4 +1,4 @@
--- The name of a tree's node, found from the depths of the rows, and the lowest node of a map.
+-- The name of a tree's node, found from the depths of the nodes, and the lowest node of a map.
 use mathlib.Core.Path.{_≡_, refl, sym, _∙_, ap}
 use mathlib.Core.Bool.{false}
 use mathlib.Core.List.{List, [], _∷_, _++_, map, map-map, map-append}
@@ -18,11 +18,11 @@ use Rattle.history.specs.Tree.{Tree}
 use Rattle.history.proofs.tree.Conditions.{OneRoot}
 use Rattle.history.proofs.step.TreesOf.{of-root, of-few}
 use Rattle.history.proofs.names.NamesByDepth.{after-deeper, after-beside, name-root, name-next, name-depth, depth-next, name-small}
-use Rattle.tree.specs.inner.Rows.{rowsFrom, rowsOf, withoutOld, HoldsTree, blankRow}
-use Rattle.tree.specs.inner.PackedRows.{rowsIn}
-use Rattle.tree.specs.declared.rows.Row.{Row}
-use Rattle.tree.specs.declared.rows.Tree.{Tree as CodeTree}
-use Rattle.tree.proofs.TreeRows.{tree-small}
+use Rattle.tree.specs.inner.Nodes.{nodesFrom, nodesOf, withoutOld, HoldsTree, blankNode}
+use Rattle.tree.specs.inner.PackedNodes.{nodesIn}
+use Rattle.tree.specs.declared.nodes.Node.{Node as CodeNode}
+use Rattle.tree.specs.declared.nodes.Tree.{Tree as CodeTree}
+use Rattle.tree.proofs.TreeNodes.{tree-small}
 use Rattle.treejudge.specs.JudgeCall.{nameRoom}
 use Rattle.treejudge.specs.inner.NodeNames.{Lowest, SomeNode, IsName}
 
@@ -54,24 +54,24 @@ module _ {map j : ℕ} (v : NoneBefore map j) where
 
 -- DEPTHS
 
-depths-of-rows : (d : ℕ) (F : Tree) → map (λ x. x .depth) (rowsFrom d F) ≡ depthsFrom d F
-unfolding rowsFrom depthsFrom
-depths-of-rows d nil = refl
-depths-of-rows d (node x below younger) =
-    rw (map-append (λ x. x .depth) (rowsFrom (suc d) below) (rowsFrom d younger), depths-of-rows (suc d) below, depths-of-rows d younger)
+depths-of-nodes : (d : ℕ) (F : Tree) → map (λ x. x .depth) (nodesFrom d F) ≡ depthsFrom d F
+unfolding nodesFrom depthsFrom
+depths-of-nodes d nil = refl
+depths-of-nodes d (node x below younger) =
+    rw (map-append (λ x. x .depth) (nodesFrom (suc d) below) (nodesFrom d younger), depths-of-nodes (suc d) below, depths-of-nodes d younger)
 
-abbrev rowDepth : CodeTree → ℕ → ℕ
-rowDepth x i = getD (rowsIn (x .rows)) i blankRow .depth
+abbrev nodeDepth : CodeTree → ℕ → ℕ
+nodeDepth x i = getD (nodesIn (x .nodes)) i blankNode .depth
 
--- a row has the depth of its node
-depth-at : (R : Rule) (T : Tree) (x : CodeTree) → HoldsTree R T x → (i : ℕ) → i < x .count → rowDepth x i ≡ getD (depths T) i 0
-unfolding depths rowsOf
+-- a node in the code has its depth in the tree
+depth-at : (R : Rule) (T : Tree) (x : CodeTree) → HoldsTree R T x → (i : ℕ) → i < x .count → nodeDepth x i ≡ getD (depths T) i 0
+unfolding depths nodesOf
 depth-at R T x held i h =
-    let rows = take (x .count) (rowsIn (x .rows)) in
-    ap (λ (r : Row). r .depth) (sym (getD-take (x .count) (rowsIn (x .rows)) i blankRow h))
-    ∙ sym (List·getD-map (λ (r : Row). r .depth) rows i blankRow)
-    ∙ ap (λ (l : List ℕ). getD l i 0) (sym (map-map (λ (r : Row). r .depth) withoutOld rows)
-    ∙ ap (map (λ (r : Row). r .depth)) (held .are) ∙ depths-of-rows 0 T)
+    let nodes = take (x .count) (nodesIn (x .nodes)) in
+    ap (λ (r : CodeNode). r .depth) (sym (getD-take (x .count) (nodesIn (x .nodes)) i blankNode h))
+    ∙ sym (List·getD-map (λ (r : CodeNode). r .depth) nodes i blankNode)
+    ∙ ap (λ (l : List ℕ). getD l i 0) (sym (map-map (λ (r : CodeNode). r .depth) withoutOld nodes)
+    ∙ ap (map (λ (r : CodeNode). r .depth)) (held .are) ∙ depths-of-nodes 0 T)
 
 -- ONE NAME BEHIND ANOTHER, IN PLACE
 
@@ -94,30 +94,30 @@ module _ (numbers : List ℕ) (long d : ℕ) (low : 1 ≤ d) (room : d ≤ lengt
 
 -- THE NAME OF A NODE
 
--- the nodes up to node i are passed, and the first `long` numbers are the name of node i in every tree of these rows
-pub record NamedSoFar (rows : List ℕ) (number : ℕ) (numbers : List ℕ) (long i : ℕ) : Type 0 where
+-- the nodes up to node i are passed, and the first `long` numbers are the name of node i in every tree of these nodes
+pub record NamedSoFar (nodes : List ℕ) (number : ℕ) (numbers : List ℕ) (long i : ℕ) : Type 0 where
   pub upto : i ≤ number
   pub room : length numbers ≡ maxStates
   pub short : long ≤ nameRoom
-  pub name : (R : Rule) (T : Tree) (count : ℕ) → HoldsTree R T (record { rows = rows; count = count }) → i < count
+  pub name : (R : Rule) (T : Tree) (count : ℕ) → HoldsTree R T (record { nodes = nodes; count = count }) → i < count
       → take long numbers ≡ getD (names T) i []
 
-pub name-start : (rows : List ℕ) (number : ℕ) (numbers : List ℕ) → length numbers ≡ maxStates → NamedSoFar rows number numbers 0 0
-name-start rows number numbers room =
+pub name-start : (nodes : List ℕ) (number : ℕ) (numbers : List ℕ) → length numbers ≡ maxStates → NamedSoFar nodes number numbers 0 0
+name-start nodes number numbers room =
     record { upto = omega arith; room = room; short = omega arith; name = λ R T count held h. sym (name-root T) }
 
--- the next node in any tree of the rows: its depth and its name
+-- the next node in any tree of the nodes: its depth and its name
 module _ (R : Rule) (T : Tree) (x : CodeTree) (held : HoldsTree R T x) (i : ℕ) (h : i + 1 < x .count) where
   one : OneRoot T
   one = of-root R T (held .fits)
 
   later : suc i < size T
-  later = omega (arith, held .nodes)
+  later = omega (arith, held .counts)
 
-  same : rowDepth x (i + 1) ≡ getD (depths T) (suc i) 0
-  same = ap (rowDepth x) (add-one i) ∙ depth-at R T x held (suc i) (omega arith)
+  same : nodeDepth x (i + 1) ≡ getD (depths T) (suc i) 0
+  same = ap (nodeDepth x) (add-one i) ∙ depth-at R T x held (suc i) (omega arith)
 
-  next-depth : (1 ≤ rowDepth x (i + 1)) × ((rowDepth x (i + 1) ≤ suc (length (getD (names T) i []))) × (rowDepth x (i + 1) < R .states))
+  next-depth : (1 ≤ nodeDepth x (i + 1)) × ((nodeDepth x (i + 1) ≤ suc (length (getD (names T) i []))) × (nodeDepth x (i + 1) < R .states))
   next-depth =
       let (low, step) = depth-next T one i later in
       let own = name-depth T one (suc i) in
@@ -126,7 +126,7 @@ module _ (R : Rule) (T : Tree) (x : CodeTree) (held : HoldsTree R T x) (i : ℕ)
         (omega (arith, same, name-depth T one i), omega (arith, same)),
       )
 
-  next-name : nameAfter (getD (names T) i []) (rowDepth x (i + 1)) ≡ getD (names T) (i + 1) []
+  next-name : nameAfter (getD (names T) i []) (nodeDepth x (i + 1)) ≡ getD (names T) (i + 1) []
   next-name = ap (nameAfter (getD (names T) i [])) same ∙ sym (name-next T one i later)
       ∙ ap (λ (c : ℕ). getD (names T) c []) (sym (add-one i))
 
@@ -135,9 +135,9 @@ pub node-few : {x : CodeTree} {number : ℕ} → SomeNode x number → number < 
 node-few some = omega (arith, tree-small (some .states) (some .holds))
 
 module _ {x : CodeTree} {number : ℕ} (some : SomeNode x number) {numbers : List ℕ} {long i : ℕ}
-    (v : NamedSoFar (x .rows) number numbers long i) (h : i < number) where
+    (v : NamedSoFar (x .nodes) number numbers long i) (h : i < number) where
   abbrev depth : ℕ
-  depth = rowDepth x (i + 1)
+  depth = nodeDepth x (i + 1)
 
   -- the name of node i in some tree
   now : take long numbers ≡ getD (names (some .tree)) i []
@@ -159,32 +159,32 @@ module _ {x : CodeTree} {number : ℕ} (some : SomeNode x number) {numbers : Lis
   number-small l =
       let long-is = length-take-le long numbers (omega (arith, v .room, v .short)) in
       let (_, small) = name-small (some .tree) (of-root (some .rule) (some .tree) (some .holds .fits)) (some .rule .states)
-      (of-few (some .rule) (some .tree) (some .holds .fits)) i (omega (arith, some .holds .nodes)) in
+      (of-few (some .rule) (some .tree) (some .holds .fits)) i (omega (arith, some .holds .counts)) in
       rw (← getD-take long numbers (depth - 1) 0 l, now) (omega (arith, small (depth - 1) (omega (arith, ap length now)), some .states))
 
   -- the next name
   named : (c : ℕ) → take depth (set numbers (depth - 1) c) ≡ nameAfter (take long numbers) depth
-      → NamedSoFar (x .rows) number (set numbers (depth - 1) c) depth (i + 1)
+      → NamedSoFar (x .nodes) number (set numbers (depth - 1) c) depth (i + 1)
   named c e = record {
     upto = omega arith;
     room = length-set numbers (depth - 1) c ∙ v .room;
     short = depth-short;
     name = λ R T count held l. e ∙ ap (λ (w : List ℕ). nameAfter w depth) (v .name R T count held (omega arith))
-        ∙ next-name R T (record { rows = x .rows; count = count }) held i l;
+        ∙ next-name R T (record { nodes = x .nodes; count = count }) held i l;
   }
 
   pub name-beside : depth - 1 < long
-      → NamedSoFar (x .rows) number (set numbers (depth - 1) (getD numbers (depth - 1) 0 + 1)) depth (i + 1)
+      → NamedSoFar (x .nodes) number (set numbers (depth - 1) (getD numbers (depth - 1) 0 + 1)) depth (i + 1)
   name-beside l = let (low, (_, most)) = next in
       named _ (put-beside numbers long depth low (omega (arith, v .room)) (omega arith) (omega (arith, v .room, v .short)))
 
-  pub name-deeper : long ≤ depth - 1 → NamedSoFar (x .rows) number (set numbers (depth - 1) 0) depth (i + 1)
+  pub name-deeper : long ≤ depth - 1 → NamedSoFar (x .nodes) number (set numbers (depth - 1) 0) depth (i + 1)
   name-deeper l = let (low, (step, most)) = next in
       named _ (put-deeper numbers long depth low (omega (arith, v .room)) (omega arith) step)
 
 -- all nodes in front are passed
 pub name-done : {x : CodeTree} {number : ℕ} → SomeNode x number → {numbers : List ℕ} {long i : ℕ}
-    → NamedSoFar (x .rows) number numbers long i → number ≤ i → IsName x number (record { numbers = numbers; length = long })
+    → NamedSoFar (x .nodes) number numbers long i → number ≤ i → IsName x number (record { numbers = numbers; length = long })
 name-done {x} {number} some {numbers} {long} {i} v h =
     let last : i ≡ number = omega (arith, v .upto) in
     record {

@@ -23,17 +23,17 @@ use Rattle.history.proofs.repeat.RepeatExists.{repeat-exists}
 use Rattle.history.proofs.verdict.CycleVerdict.{member-node, verdict-yes, verdict-no}
 use Rattle.history.proofs.repeat.FirstRepeats.{repeat-at-once}
 use Rattle.history.proofs.verdict.CutCycle.{cut-round, cut-rest, repeat-second, cut-first, cut-none}
-use Rattle.tree.specs.inner.Rows.{HoldsTree}
-use Rattle.tree.specs.declared.rows.Tree.{Tree as CodeTree}
+use Rattle.tree.specs.inner.Nodes.{HoldsTree}
+use Rattle.tree.specs.declared.nodes.Tree.{Tree as CodeTree}
 use Rattle.treejudge.specs.inner.Reading.{Reads, ReadsTo}
 use Rattle.treejudge.specs.inner.Names.{allKept, Follows, FollowsOn, FollowsTo}
-use Rattle.treejudge.specs.inner.SameRows.{sameTrees}
+use Rattle.treejudge.specs.inner.SameNodes.{sameTrees}
 use Rattle.treejudge.specs.inner.Cycles.{AtRound, CycleFound, Searched, EntryFound}
 use Rattle.treejudge.specs.inner.Repeats.{RepeatOf}
 use Rattle.treejudge.specs.declared.cycle.Cycle.{Cycle}
 use Rattle.treejudge.specs.declared.follow.Maps.{Maps}
 use Rattle.treejudge.proofs.NamesFollowed.{begun-follows}
-use Rattle.treejudge.proofs.SameTrees.{same-rows-same, same-trees-same}
+use Rattle.treejudge.proofs.SameTrees.{same-nodes-same, same-trees-same}
 
 -- BY THE SEARCH
 
@@ -133,7 +133,7 @@ module _ (R : Rule) (u head rest : List ℕ) (lookups : Lookups) (k : ℕ) (firs
         -- where the two trees at the cut are the same, the repeat is that of t(0) or of t(1)
         module _ (same : sameTrees cut again ≡ true) where
           joins : s 0 ≡ s 1
-          joins = same-rows-same R (s 0) (s 1) cut again (A .holds .limits .sets) cut-holds again-holds same
+          joins = same-nodes-same R (s 0) (s 1) cut again (A .holds .limits .sets) cut-holds again-holds same
 
           repeat-at : (entry : ℕ) → FirstRepeat t entry 1 → entry ≤ 1
               → RepeatOf R u (head ++ rest) (record { tree = cut; witnesses = n .witnesses; entry = entry; period = 1 })
@@ -158,7 +158,7 @@ module _ (R : Rule) (u head rest : List ℕ) (lookups : Lookups) (k : ℕ) (firs
           pub repeat-still : sameTrees first second ≡ true
               → RepeatOf R u (head ++ rest) (record { tree = cut; witnesses = n .witnesses; entry = 0; period = 1 })
           repeat-still same = repeat-at 0 (repeat-at-once t
-              (same-rows-same R (t 0) (t 1) first second (A .holds .limits .sets) (A .tree) second-holds same)) (omega arith)
+              (same-nodes-same R (t 0) (t 1) first second (A .holds .limits .sets) (A .tree) second-holds same)) (omega arith)
 
           pub repeat-moved : sameTrees first second ≡ false
               → RepeatOf R u (head ++ rest) (record { tree = cut; witnesses = n .witnesses; entry = 1; period = 1 })

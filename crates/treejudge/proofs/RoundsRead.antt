@@ -10,12 +10,12 @@ use Rattle.rule.specs.Rule.{Rule}
 use Rattle.word.specs.inner.WalkLookups.{Lookups}
 use Rattle.history.specs.Rounds.{roundTree}
 use Rattle.history.proofs.walk.TreesOfWalk.{round-next}
-use Rattle.tree.specs.declared.rows.Tree.{Tree as CodeTree}
-use Rattle.tree.proofs.TreeRows.{tree-small}
+use Rattle.tree.specs.declared.nodes.Tree.{Tree as CodeTree}
+use Rattle.tree.proofs.TreeNodes.{tree-small}
 use Rattle.treejudge.specs.inner.Reading.{Reads, ReadsTo}
-use Rattle.treejudge.specs.inner.SameRows.{sameTrees}
+use Rattle.treejudge.specs.inner.SameNodes.{sameTrees}
 use Rattle.treejudge.specs.inner.Cycles.{AtRound, Ahead}
-use Rattle.treejudge.proofs.SameTrees.{same-rows-same, same-trees-same}
+use Rattle.treejudge.proofs.SameTrees.{same-nodes-same, same-trees-same}
 
 module _ {R : Rule} {u v : List ℕ} {lookups : Lookups} {k i : ℕ} {x : CodeTree} (X : AtRound R u v lookups k i x) where
   -- the tail is read from a round's tree
@@ -39,9 +39,9 @@ module _ {R : Rule} {u v : List ℕ} {lookups : Lookups} {k i : ℕ} {x : CodeTr
     pub both-small : (x .count ≤ maxStates) × (y .count ≤ maxStates)
     both-small = (tree-small (X .holds .limits .states) (X .tree), tree-small (X .holds .limits .states) (Y .tree))
 
-    -- and are the same if their rows are
-    pub rows-same : sameTrees x y ≡ true → roundTree R u v i ≡ roundTree R u v j
-    rows-same same = same-rows-same R _ _ x y (X .holds .limits .sets) (X .tree) (Y .tree) same
+    -- and are the same if their nodes are
+    pub nodes-same : sameTrees x y ≡ true → roundTree R u v i ≡ roundTree R u v j
+    nodes-same same = same-nodes-same R _ _ x y (X .holds .limits .sets) (X .tree) (Y .tree) same
 
-    pub rows-differ : sameTrees x y ≡ false → roundTree R u v i ≡ roundTree R u v j → ⊥
-    rows-differ differ e = clash differ (same-trees-same R _ x y (X .tree) (rw e (Y .tree)))
+    pub nodes-differ : sameTrees x y ≡ false → roundTree R u v i ≡ roundTree R u v j → ⊥
+    nodes-differ differ e = clash differ (same-trees-same R _ x y (X .tree) (rw e (Y .tree)))

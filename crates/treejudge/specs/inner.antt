@@ -4,4 +4,4 @@ pub mod Names
 pub mod NodeNames
 pub mod Reading
 pub mod Repeats
-pub mod SameRows
+pub mod SameNodes

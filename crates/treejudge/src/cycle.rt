@@ -4,7 +4,7 @@
 use crate::follow::begin;
 use crate::follow::follow_letters;
 use crate::same::same_tree;
-use tree::rows::Tree;
+use tree::nodes::Tree;
 use word::lookups::Lookups;
 ghost use Rattle.treejudge.specs.inner.Cycles.{FirstRound, CycleFound};
 

@@ -3,7 +3,7 @@
 use crate::cycle::Cycle;
 use crate::letters::read_letters;
 use crate::same::same_on;
-use tree::rows::Tree;
+use tree::nodes::Tree;
 use word::lookups::Lookups;
 ghost use Prim.Native.Nat.{_≤_};
 ghost use Rattle.treejudge.specs.inner.Cycles.{SomeRound, Ahead, TwoRounds, ReadTo, Bracketed, EntryBetween, SearchDone, EntryFound};

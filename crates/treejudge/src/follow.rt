@@ -1,8 +1,8 @@
 // Following nodes by their names, letter by letter. Numbers shift from tree to tree, so the followed nodes are kept as maps over
 // the present numbers, and each letter carries them from the old numbers to the new ones.
-use step::pass::step_rows;
+use step::pass::step_nodes;
+use tree::nodes::DoubleBuffer;
 use tree::packed::unpack;
-use tree::rows::DoubleBuffer;
 use tree::sides::OnSide;
 use word::lookups::Lookups;
 ghost use mathlib.Core.Path.{_≡_};
@@ -30,7 +30,7 @@ fn shift_of(old: u8) -> u8
     if old < 31 { old } else { 31 }
 }
 
-// Both maps of old numbers carried to the numbers of a tree's rows. They lie in one word, 32 bits apart, and a row takes its bit of
+// Both maps of old numbers carried to the numbers of a tree's nodes. They lie in one word, 32 bits apart, and a node takes its bit of
 // each at once.
 fn carry(sides: &DoubleBuffer, on: OnSide, maps: Maps) -> Maps
     requires { ⌜ (on .count ≤ maxStates) × Stands (now sides) on ⌝ }
@@ -40,17 +40,17 @@ fn carry(sides: &DoubleBuffer, on: OnSide, maps: Maps) -> Maps
     let count = on.count;
     let kept = maps.kept;
     let witnesses = maps.witnesses;
-    let nodes = (witnesses as u64) * 4294967296 + (kept as u64);
-    let mut new_nodes = 0u64;
+    let pair = (witnesses as u64) * 4294967296 + (kept as u64);
+    let mut new_pair = 0u64;
     let mut j = 0usize;
     while j < count {
-        let row = unpack(sides[side][j]);
-        new_nodes = new_nodes | (((nodes >> shift_of(row.old)) & 4294967297) << j);
+        let node = unpack(sides[side][j]);
+        new_pair = new_pair | (((pair >> shift_of(node.old)) & 4294967297) << j);
         j += 1;
     }
     Maps {
-        kept: (new_nodes % 65536) as u16,
-        witnesses: (new_nodes / 4294967296 % 65536) as u16,
+        kept: (new_pair % 65536) as u16,
+        witnesses: (new_pair / 4294967296 % 65536) as u16,
     }
 }
 
@@ -86,7 +86,7 @@ pub fn follow_letters(
     let mut maps = from.maps;
     let mut at = 0usize;
     while at < w.len() {
-        let next = step_rows(&lookups[w[at] as usize], k, sides, on.side, on.count);
+        let next = step_nodes(&lookups[w[at] as usize], k, sides, on.side, on.count);
         on = OnSide {
             side: 1 - on.side,
             count: next.count,

@@ -8,7 +8,7 @@ use rule::limits::LETTERS;
 use rule::lookup::ENTRIES;
 use table::header::Header;
 use table::reader::Reading;
-use tree::rows::Tree;
+use tree::nodes::Tree;
 use word::lookups::Lookups;
 use word::questions::walk_questions;
 use word::walk::letters_left;

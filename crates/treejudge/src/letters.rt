@@ -1,6 +1,6 @@
-// Reading letters: a letter is one step over the rows of a tree.
-use step::pass::step_rows;
-use tree::rows::DoubleBuffer;
+// Reading letters: a letter is one step over the nodes of a tree.
+use step::pass::step_nodes;
+use tree::nodes::DoubleBuffer;
 use tree::sides::OnSide;
 use word::lookups::Lookups;
 ghost use Rattle.tree.specs.inner.Sides.{treeOn, Stands};
@@ -21,7 +21,7 @@ pub fn read_letters(
     let mut on = from;
     let mut at = 0usize;
     while at < w.len() {
-        let next = step_rows(&lookups[w[at] as usize], k, sides, on.side, on.count);
+        let next = step_nodes(&lookups[w[at] as usize], k, sides, on.side, on.count);
         on = OnSide {
             side: 1 - on.side,
             count: next.count,

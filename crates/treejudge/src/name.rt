@@ -1,6 +1,6 @@
 // The name of a node, in a lent buffer. Nodes are numbered in dictionary order, so the first of a map is the lowest member.
+use tree::nodes::Tree;
 use tree::packed::unpack;
-use tree::rows::Tree;
 ghost use mathlib.Core.Path.{_≡_};
 ghost use Prim.Native.Nat.{_≤_};
 ghost use lib.ListN.{length, take};
@@ -31,14 +31,14 @@ pub fn node_name(tree: Tree, number: usize) -> Name
     requires { ⌜ SomeNode tree number ⌝ }
     ensures { λ r. ⌜ IsName tree number r ⌝ }
 {
-    let rows = tree.rows();
+    let nodes = tree.preorder();
     let mut numbers = [0u8; Tree::NODES];
     let mut length = 0usize;
     let mut i = 0usize;
     while i < number {
         i += 1;
-        let row = unpack(rows[i]);
-        let depth = row.depth as usize;
+        let node = unpack(nodes[i]);
+        let depth = node.depth as usize;
         let last = depth - 1;
         if last < length {
             numbers[last] = numbers[last] + 1;

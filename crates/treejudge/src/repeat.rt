@@ -5,7 +5,7 @@ use crate::follow::begin;
 use crate::follow::follow_letters;
 use crate::letters::read_letters;
 use crate::same::same_tree;
-use tree::rows::Tree;
+use tree::nodes::Tree;
 use word::lookups::Lookups;
 use word::walk::letters_left;
 ghost use mathlib.Core.List.{_++_};

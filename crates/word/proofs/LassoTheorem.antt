@@ -1,4 +1,4 @@
--- The theorem on loops: a walk u v v v … has an accepting run just if it has a loop. So document 01's definition by
+-- The lasso theorem: a walk u v v v … has an accepting run just if it has a loop. So document 01's definition by
 -- a loop, "A walk keeps a rule if ..", says the same as acceptance by endless runs. Constructive both ways.
 use mathlib.Core.Path.{_≡_}
 use mathlib.Core.Logic.{_↔_}

@@ -1,5 +1,5 @@
 -- Laws of paths: of `Leads`, "the letters w lead from state s to state t, taking the sets c". Stated once, for the
--- theorem on loops and for the judges.
+-- lasso theorem and for the judges.
 use mathlib.Core.Path.{_≡_, refl, sym, ap, _∙_, subst}
 use mathlib.Core.Bool.{true}
 use mathlib.Core.List.{List, [], _∷_, _++_, append-assoc, append-nil}

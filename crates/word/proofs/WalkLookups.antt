@@ -77,10 +77,10 @@ module _ (others : ℕ) (w : List ℕ) (at letters : ℕ) (v : LettersUpTo other
   pub letters-end : length w ≤ at → letters ≡ bitOr others (lettersOf w)
   letters-end h = v .map ∙ ap (λ (x : List ℕ). bitOr others (lettersOf x)) (take-all at w h)
 
--- THEIR TABLES
+-- THEIR LOOK-UPS
 
 -- look-ups as they were, but for those of the letters of a map that are no longer in `rest`
-pub record TablesBut (letters rest : ℕ) (words : List (List ℕ)) (before lookups : Lookups) : Type 0 where
+pub record LookupsBut (letters rest : ℕ) (words : List (List ℕ)) (before lookups : Lookups) : Type 0 where
   pub places : length lookups ≡ maxLetters
   pub few : rest < 2 ^ maxLetters
   pub inside : Subset rest letters
@@ -89,7 +89,7 @@ pub record TablesBut (letters rest : ℕ) (words : List (List ℕ)) (before look
 
 -- at the start
 pub lookups-none : (letters : ℕ) (words : List (List ℕ)) (lookups : Lookups) → letters < 2 ^ maxLetters → length lookups ≡ maxLetters
-    → TablesBut letters letters words lookups lookups
+    → LookupsBut letters letters words lookups lookups
 lookups-none letters words lookups few h = record {
   places = h;
   few = few;
@@ -98,7 +98,7 @@ lookups-none letters words lookups few h = record {
   stays = λ a out. refl;
 }
 
-module _ (letters rest : ℕ) (words : List (List ℕ)) (before lookups : Lookups) (v : TablesBut letters rest words before lookups) where
+module _ (letters rest : ℕ) (words : List (List ℕ)) (before lookups : Lookups) (v : LookupsBut letters rest words before lookups) where
   module _ (some : rest ≡ 0 → ⊥) where
     abbrev letter : ℕ
     letter = trailingZeros maxLetters rest
@@ -112,7 +112,7 @@ module _ (letters rest : ℕ) (words : List (List ℕ)) (before lookups : Lookup
 
     -- with its look-up
     pub lookups-more : (lookup : List ℕ) → lookup ≡ joinedLookup (getD words letter [])
-        → TablesBut letters (bitAnd rest (rest - 1)) words before (set lookups letter lookup)
+        → LookupsBut letters (bitAnd rest (rest - 1)) words before (set lookups letter lookup)
     lookups-more lookup is = record {
       places = length-set lookups letter lookup ∙ v .places;
       few = omega (arith, v .few, and-le-r rest (rest - 1));

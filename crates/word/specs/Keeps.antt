@@ -1,5 +1,5 @@
 -- What it means that a walk keeps a rule (document 01, "Walks and verdicts"), under one name; and document 01's form of it by a loop. That
--- the two say the same is the theorem on loops (crates/word/proofs/LassoTheorem.antt).
+-- the two say the same is the lasso theorem (crates/word/proofs/LassoTheorem.antt).
 use mathlib.Core.List.{List}
 use Prim.Native.Nat.{ℕ}
 use Rattle.rule.specs.Rule.{Rule}

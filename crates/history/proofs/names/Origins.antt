@@ -13,7 +13,7 @@ use Rattle.history.specs.Tree.{Node, Tree}
 use Rattle.history.specs.Letter.{sprouted, Grown, begun, child, kept, fiveSteps, survivors, isOld, stable}
 use Rattle.history.proofs.step.LocalStep.{newLabel, accepts}
 use Rattle.history.proofs.tree.SetFacts.{nothing-minus}
-use Rattle.history.proofs.step.StepsJoined.{heldNode, grown, advanced, grown-new, grown-node, oldNode, begunFrom, held-begunFrom, noSprout, steps-grown, survivors-steps}
+use Rattle.history.proofs.step.StepsJoined.{earlierNode, grown, advanced, grown-new, grown-node, oldNode, begunFrom, earlier-begunFrom, noSprout, steps-grown, survivors-steps}
 use Rattle.history.proofs.names.Names.{or-weaker, any-node, any-map, any-change, at-any, named-in, named-tree}
 use Rattle.history.proofs.names.NamesDistinct.{IsName, name-number}
 
@@ -40,7 +40,7 @@ module _ (R : Rule) (a : ℕ) where
   grown-origins w older new (node x below younger) e h =
       any-node (From w) x below younger ∙ or-weaker (From w x) _ (From w x) _ (λ own. own)
       (or-weaker _ _ (anyOf (From w) (listing below)) (anyOf (From w) (listing younger))
-      (grown-origins w older (child R a x) below refl) (grown-origins w (bitOr older (newLabel R a older (heldNode x))) new younger e))
+      (grown-origins w older (child R a x) below refl) (grown-origins w (bitOr older (newLabel R a older (earlierNode x))) new younger e))
       (from-kept w _ _ _ _ _ _ (rw grown-node at h))
 
   -- so it is one that siblings have
@@ -78,10 +78,10 @@ module _ (R : Rule) (a : ℕ) where
   pub grown-begun : (older : ℕ) (new : Grown) (p : List ℕ) (c : ℕ) (x : Node) (below younger : Tree)
       → grown R a older new (begunFrom p c (node x below younger))
       ≡ grownBranch older (p ++ (c ∷ [])) x below (grown R a (bitOr older (newLabel R a older x)) new (begunFrom p (suc c) younger))
-  unfolding grownBranch begunFrom namedFrom change heldNode oldNode
+  unfolding grownBranch begunFrom namedFrom change earlierNode oldNode
   grown-begun older new p c x below younger =
       grown-node R a older new (oldNode (p ++ (c ∷ [])) x) (begunFrom (p ++ (c ∷ [])) 0 below) (begunFrom p (suc c) younger)
-      ∙ rw (held-begunFrom (p ++ (c ∷ [])) 0 below)
+      ∙ rw (earlier-begunFrom (p ++ (c ∷ [])) 0 below)
 
   -- the root, and the dead tree
   none-grown : (older : ℕ) → grown R a older noSprout nil ≡ nil
@@ -93,6 +93,6 @@ module _ (R : Rule) (a : ℕ) where
   steps-dead = steps-grown R a nil ∙ none-grown 0
 
   pub steps-root : (x : Node) (below : Tree) → fiveSteps R a (node x below nil) ≡ grownBranch 0 [] x below nil
-  unfolding begun named change heldNode oldNode begunFrom grownBranch
+  unfolding begun named change earlierNode oldNode begunFrom grownBranch
   steps-root x below = steps-grown R a (node x below nil) ∙ grown-node R a 0 noSprout (oldNode [] x) (begunFrom [] 0 below) nil
-      ∙ rw (held-begunFrom [] 0 below, none-grown (newLabel R a 0 (heldNode (oldNode [] x))))
+      ∙ rw (earlier-begunFrom [] 0 below, none-grown (newLabel R a 0 (earlierNode (oldNode [] x))))

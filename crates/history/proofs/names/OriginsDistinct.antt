@@ -16,7 +16,7 @@ use Rattle.history.specs.Forest.{Forest, nil, node, change, listing, nam
 use Rattle.history.specs.Tree.{Tree}
 use Rattle.history.specs.Letter.{sprouted, Grown, begun, child, kept, fiveSteps, survivors, isOld}
 use Rattle.history.proofs.step.LocalStep.{newLabel, accepts}
-use Rattle.history.proofs.step.StepsJoined.{heldNode, heldBranch, grown, advanced, grown-new, grown-node, noSprout, steps-grown, survivors-steps}
+use Rattle.history.proofs.step.StepsJoined.{earlierNode, earlierBranch, grown, advanced, grown-new, grown-node, noSprout, steps-grown, survivors-steps}
 use Rattle.history.proofs.names.Names.{same-equal}
 use Rattle.history.proofs.names.NamesDistinct.{names-distinct}
 use Rattle.history.proofs.names.Origins.{From}
@@ -109,14 +109,14 @@ module _ (R : Rule) (a : ℕ) where
   unfolding isOld advanced child many listing
   grown-fewer w older new nil e = rw (grown-new R a older new) (none-kept w _ _ _ _ (ap (isOld w) e))
   grown-fewer w older new (node x below younger) e =
-      let held = bitOr older (newLabel R a older (heldNode x)) in
+      let took = bitOr older (newLabel R a older (earlierNode x)) in
       rw (grown-node R a older new x below younger) (omega (
         arith,
-        many-kept w (R .sets) (eqb (newLabel R a older (heldNode x)) 0) (accepts R a older (heldBranch x below)) (advanced R a older x)
-            (grown R a older (child R a x) below) (grown R a held new younger),
+        many-kept w (R .sets) (eqb (newLabel R a older (earlierNode x)) 0) (accepts R a older (earlierBranch x below)) (advanced R a older x)
+            (grown R a older (child R a x) below) (grown R a took new younger),
         many-append (From w) (listing below) (listing younger),
         grown-fewer w older (child R a x) below refl,
-        grown-fewer w held new younger e,
+        grown-fewer w took new younger e,
       ))
 
   -- so there is at most one, as there was

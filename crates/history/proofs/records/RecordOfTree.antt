@@ -24,7 +24,7 @@ use Rattle.history.proofs.tree.Hosts.{size-labels}
 use Rattle.history.proofs.records.HostLabels.{relabelled, size-relabelled, ByNumber, labels-from-hosts}
 use Rattle.history.proofs.records.Members.{length-members, map-at-rank}
 
--- PLANTING THE MARKS
+-- PLANTING THE TAGS
 
 -- one tag for each node
 pub length-tags : (d : ℕ) (F : Tree) → length (tags d F) ≡ size F

@@ -24,7 +24,7 @@ tags-relabelled label i d nil = refl
 tags-relabelled label i d (node x below younger) =
     rw (tags-relabelled label (suc i) (suc d) below, tags-relabelled label (suc (i + size below)) d younger)
 
--- THE MARKS OF A TREE PASS
+-- THE TAGS OF A TREE PASS
 
 -- an active set is read back from its tag
 active-in : (k d a : ℕ) → 1 ≤ a → a ≤ k → k < 16 → activeFits k (16 * d + a) ≡ true
@@ -55,7 +55,7 @@ tags-in k x below (low, high, down, on) h =
     (and-both (activeFits k (16 * 0 + x .active)) _ (active-in k 0 (x .active) low high h)
     (follow-in k 0 0 below [] down h (omega arith) (λ c g. refl)))
 
--- MARKS THAT PASS ARE THOSE OF A TREE
+-- TAGS THAT PASS ARE THOSE OF A TREE
 
 -- the first tag, if any, is at most of depth d
 abbrev AtMost : ℕ → List ℕ → Type 0

@@ -1,6 +1,6 @@
 -- Finding the period of a sequence in constant memory. Brent's search holds one value, t(power − 1), and goes on from it: after lam
 -- places that value has not come back; where it does, the distance is the period. If it has not come back after `power` places, the
--- value reached is held instead, and the power doubled.
+-- value reached is saved instead, and the power doubled.
 use mathlib.Core.Path.{_≡_, sym}
 use Prim.Native.Nat.{ℕ, suc, _+_, _*_, _-_, _^_, _≤_, _<_, max}
 use native.Mathlib.Omega.{arith}
@@ -11,17 +11,17 @@ use Rattle.history.proofs.repeat.FirstRepeats.{periodic, repeat-only, b
 -- Brent's search at the head of its loop: it holds t(power − 1) and has gone lam places on from there
 pub record BrentSoFar {A : Type 0} (t : ℕ → A) (power lam : ℕ) : Type 0 where
   pub short : lam < power
-  -- the value that is held has not come back
+  -- the value that is saved has not come back
   pub apart : (m : ℕ) → 1 ≤ m → m ≤ lam → t (power - 1) ≡ t (power - 1 + m) → ⊥
   -- the power is at most twice the larger of entry and period
   pub bounded : (entry period : ℕ) → FirstRepeat t entry period → power ≤ 2 * max entry period
 
--- t(half − 1) was held before, and had not come back after `half` places: a period as short as that begins later
+-- t(half − 1) was saved before, and had not come back after `half` places: a period as short as that begins later
 abbrev pub Skips : {A : Type 0} → (ℕ → A) → ℕ → Type 0
 Skips t half = (entry period : ℕ) → FirstRepeat t entry period → period ≤ half → half ≤ entry
 
 module _ {A : Type 0} (t : ℕ → A) where
-  -- at the start t(0) is held
+  -- at the start t(0) is saved
   pub brent-start : BrentSoFar t 1 0
   brent-start = record {
     short = omega arith;
@@ -29,7 +29,7 @@ module _ {A : Type 0} (t : ℕ → A) where
     bounded = λ entry period F. omega (arith, F .positive);
   }
 
-  -- and nothing was held before t(0)
+  -- and nothing was saved before t(0)
   pub none-skips : Skips t 0
   none-skips entry period F short = omega arith
 
@@ -69,7 +69,7 @@ module _ {A : Type 0} (t : ℕ → A) (f : A → A) (next : (r : ℕ) → t (suc
       go (yes h) = omega (arith, reset-skips power lam B new full entry period F h)
       go (no h) = omega arith
 
-  -- then the value reached is held
+  -- then the value reached is saved
   pub brent-reset : (power lam : ℕ) → BrentSoFar t power lam → (t (power - 1) ≡ t (power - 1 + (lam + 1)) → ⊥) → lam + 1 ≡ power
       → BrentSoFar t (power + power) 0
   brent-reset power lam B new full = record {

@@ -46,7 +46,7 @@ nodeDigit T i = tagDigit (getD (tags 0 T) i 0)
 pub treeCode : ℕ → Tree → ℕ
 treeCode n T = (positional 9 (hostDigit T) n * 4 + nodeDigit T 0) * 2 ^ 35 + positional 32 (λ i. nodeDigit T (suc i)) 7
 
--- MARKS
+-- TAGS
 
 -- a tag of a tree within the limits
 TagFits : ℕ → Type 0

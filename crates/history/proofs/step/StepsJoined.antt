@@ -27,25 +27,25 @@ older-same older label = set-ext _ _ (λ q. simp (member-union, member-minus) (l
     lost false true = refl
     lost false false = refl
 
--- NODES WITHOUT THEIR TAGS
+-- NODES ALONE
 
 -- a node as it is now, and as it was before the letter
 unfoldable pub plainNode : Grown → Node
 plainNode x = record { label = x .label; active = x .active }
 
-unfoldable pub heldNode : Grown → Node
-heldNode x = record { label = x .before; active = x .active }
+unfoldable pub earlierNode : Grown → Node
+earlierNode x = record { label = x .before; active = x .active }
 
 abbrev pub plain : Forest Grown → Tree
 plain = change plainNode
 
-abbrev pub held : Forest Grown → Tree
-held = change heldNode
+abbrev pub earlier : Forest Grown → Tree
+earlier = change earlierNode
 
-abbrev pub heldBranch : Grown → Forest Grown → Branch
-heldBranch x below = record { top = heldNode x; below = held below }
+abbrev pub earlierBranch : Grown → Forest Grown → Branch
+earlierBranch x below = record { top = earlierNode x; below = earlier below }
 
--- step 4 keeps the union of siblings' labels, and is the local one without tags
+-- step 4 keeps the union of siblings' labels, and is the local one on nodes alone
 labels-pruned : (k : ℕ) (G : Forest Grown) → grownLabels G ≡ labels (plain (pruned k G))
 unfolding grownLabels labels pruned change plainNode kept
 labels-pruned k nil = refl
@@ -74,17 +74,17 @@ module _ (R : Rule) (a : ℕ) where
   advanced older x = record {
     origin = x .origin;
     before = x .before;
-    label = newLabel R a older (heldNode x);
+    label = newLabel R a older (earlierNode x);
     active = x .active;
     accepting = x .accepting;
   }
 
   -- steps 1 to 4 at one node, and at the new youngest sibling
   grown-kept : (older : ℕ) (new x : Grown) (below younger : Forest Grown) → grown older new (node x below younger)
-      ≡ kept (R .sets) (eqb (newLabel R a older (heldNode x)) 0)
-      (eqb (newLabel R a older (heldNode x)) (labels (plain (grown older (child R a x) below))))
-      (advanced older x) (grown older (child R a x) below) (grown (bitOr older (newLabel R a older (heldNode x))) new younger)
-  unfolding grown advanced pruned separated youngest sprouting succeeded child change newLabel heldNode
+      ≡ kept (R .sets) (eqb (newLabel R a older (earlierNode x)) 0)
+      (eqb (newLabel R a older (earlierNode x)) (labels (plain (grown older (child R a x) below))))
+      (advanced older x) (grown older (child R a x) below) (grown (bitOr older (newLabel R a older (earlierNode x))) new younger)
+  unfolding grown advanced pruned separated youngest sprouting succeeded child change newLabel earlierNode
   grown-kept older new x below younger =
       rw (← older-same, ← labels-pruned (R .sets) (separated older (youngest (sprouting R a (succeeded R a below)) (child R a x))))
 
@@ -102,20 +102,20 @@ module _ (R : Rule) (a : ℕ) where
 
   -- with a sprouted youngest sibling that is the local step
   pub grown-step : (older : ℕ) (new : Grown) (F : Forest Grown) → new .active ≡ 1
-      → plain (grown older new F) ≡ step R a older (new .label) (held F)
-  unfolding step settle change labels plainNode child heldNode sproutOf newLabel advanced
+      → plain (grown older new F) ≡ step R a older (new .label) (earlier F)
+  unfolding step settle change labels plainNode child earlierNode sproutOf newLabel advanced
   grown-step older new nil e = ap plain (grown-new older new) ∙ plain-kept (R .sets) _ _ _ nil nil ∙ rw e
   grown-step older new (node x below younger) e =
       ap plain (grown-kept older new x below younger)
       ∙ plain-kept (R .sets) _ _ (advanced older x) (grown older (child R a x) below)
-      (grown (bitOr older (newLabel R a older (heldNode x))) new younger)
-      ∙ rw (grown-step older (child R a x) below refl, grown-step (bitOr older (newLabel R a older (heldNode x))) new younger e)
+      (grown (bitOr older (newLabel R a older (earlierNode x))) new younger)
+      ∙ rw (grown-step older (child R a x) below refl, grown-step (bitOr older (newLabel R a older (earlierNode x))) new younger e)
 
   -- so steps 1 to 4 at a node are those of the local step
   pub grown-node : (older : ℕ) (new x : Grown) (below younger : Forest Grown) → grown older new (node x below younger)
-      ≡ kept (R .sets) (eqb (newLabel R a older (heldNode x)) 0) (accepts R a older (heldBranch x below))
-      (advanced older x) (grown older (child R a x) below) (grown (bitOr older (newLabel R a older (heldNode x))) new younger)
-  unfolding accepts newBelow child heldNode sproutOf
+      ≡ kept (R .sets) (eqb (newLabel R a older (earlierNode x)) 0) (accepts R a older (earlierBranch x below))
+      (advanced older x) (grown older (child R a x) below) (grown (bitOr older (newLabel R a older (earlierNode x))) new younger)
+  unfolding accepts newBelow child earlierNode sproutOf
   grown-node older new x below younger = grown-kept older new x below younger ∙ rw (grown-step older (child R a x) below refl)
 
   -- an empty youngest sibling is removed again
@@ -134,17 +134,17 @@ oldNode w x = record { origin = was w; before = x .label; label = x .label; acti
 unfoldable pub begunFrom : List ℕ → ℕ → Tree → Forest Grown
 begunFrom p i F = change (λ x. oldNode (x .name) (x .here)) (namedFrom p i F)
 
--- they hold what they held
-pub held-begunFrom : (p : List ℕ) (i : ℕ) (F : Tree) → held (begunFrom p i F) ≡ F
-unfolding begunFrom oldNode namedFrom change heldNode
-held-begunFrom p i nil = refl
-held-begunFrom p i (node x below younger) = ap₂ (node x) (held-begunFrom (p ++ (i ∷ [])) 0 below) (held-begunFrom p (suc i) younger)
+-- they are as they were
+pub earlier-begunFrom : (p : List ℕ) (i : ℕ) (F : Tree) → earlier (begunFrom p i F) ≡ F
+unfolding begunFrom oldNode namedFrom change earlierNode
+earlier-begunFrom p i nil = refl
+earlier-begunFrom p i (node x below younger) = ap₂ (node x) (earlier-begunFrom (p ++ (i ∷ [])) 0 below) (earlier-begunFrom p (suc i) younger)
 
-held-begun : (T : Tree) → OneRoot T → held (begun T) ≡ T
-unfolding begun begunFrom oldNode named change heldNode
-held-begun nil one = refl
-held-begun (node x below nil) one = ap (λ (F : Tree). node x F nil) (held-begunFrom [] 0 below)
-held-begun (node x below (node y other younger)) one = absurd one
+earlier-begun : (T : Tree) → OneRoot T → earlier (begun T) ≡ T
+unfolding begun begunFrom oldNode named change earlierNode
+earlier-begun nil one = refl
+earlier-begun (node x below nil) one = ap (λ (F : Tree). node x F nil) (earlier-begunFrom [] 0 below)
+earlier-begun (node x below (node y other younger)) one = absurd one
 
 -- the root gains no sibling, or an empty one
 unfoldable pub noSprout : Grown
@@ -166,4 +166,4 @@ pub nextTree-step : (R : Rule) (a : ℕ) (T : Tree) → OneRoot T → nextTree R
 unfolding nextTree plainNode noSprout
 nextTree-step R a T one =
     ap plain (survivors-steps R a T ∙ steps-grown R a T) ∙ grown-step R a 0 noSprout (begun T) refl
-    ∙ ap (step R a 0 0) (held-begun T one)
+    ∙ ap (step R a 0 0) (earlier-begun T one)

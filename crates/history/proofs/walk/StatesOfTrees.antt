@@ -17,7 +17,7 @@ use Rattle.history.proofs.step.LabelsOfStep.{labels-next}
 use Rattle.history.proofs.step.StepsJoined.{nextTree-step}
 use Rattle.history.proofs.step.TreesOf.{of-out, next-is-tree, start-is-tree}
 use Rattle.history.proofs.walk.Stretches.{stretch}
-use Rattle.history.proofs.walk.StatesReached.{held-reached, reached-held}
+use Rattle.history.proofs.walk.StatesReached.{states-reached, reached-states}
 use Rattle.history.proofs.walk.TreesOfWalk.{treeAt}
 
 module _ (R : Rule) (well : WellFormed R) (sets : 1 ≤ R .sets) (u v : List ℕ) where
@@ -47,8 +47,8 @@ module _ (R : Rule) (well : WellFormed R) (sets : 1 ≤ R .sets) (u v : List ℕ
   -- each state of a tree is reached, and each that is reached is in the tree
   pub state-reached : (p q : ℕ) → member (labels (treeAt R u v p)) q ≡ true
       → (s : ℕ) × (c : ℕ) × (member (R .start) s ≡ true) × Leads R (stretch (letterAt u v) p) s c q
-  state-reached = held-reached R (letterAt u v) (λ p. labels (treeAt R u v p)) states-start (λ p q h. rw (states-next p) at h)
+  state-reached = states-reached R (letterAt u v) (λ p. labels (treeAt R u v p)) states-start (λ p q h. rw (states-next p) at h)
 
   pub state-held : (p s c q : ℕ) → member (R .start) s ≡ true → Leads R (stretch (letterAt u v) p) s c q
       → member (labels (treeAt R u v p)) q ≡ true
-  state-held = reached-held R (letterAt u v) (λ p. labels (treeAt R u v p)) states-start well (λ p q h. rw (states-next p) h)
+  state-held = reached-states R (letterAt u v) (λ p. labels (treeAt R u v p)) states-start well (λ p q h. rw (states-next p) h)

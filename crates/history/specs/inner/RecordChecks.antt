@@ -19,7 +19,7 @@ unfoldable pub allHost : ℕ → List ℕ → Bool
 allHost zero hosts = true
 allHost (suc i) hosts = isHost i hosts && allHost i hosts
 
--- MARKS
+-- TAGS
 
 -- "an active set (1 to k)"
 unfoldable pub activeFits : ℕ → ℕ → Bool

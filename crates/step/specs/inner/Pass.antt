@@ -1,5 +1,5 @@
--- One letter over rows in one forward pass: what the code computes, for any rows. The document's five steps are fused;
--- that the pass over the rows of a tree gives its next tree is a law (proofs/StepOfRows.antt).
+-- One letter over nodes in one forward pass: what the code computes, for any nodes. The document's five steps are fused;
+-- that the pass over the nodes of a tree gives its next tree is a law (proofs/StepOfNodes.antt).
 use mathlib.Core.Path.{_≡_}
 use mathlib.Core.Bool.{Bool, true, false, cond}
 use mathlib.Core.List.{List, [], _∷_, _++_}
@@ -12,18 +12,18 @@ use Rattle.rule.specs.Limits.{maxStates, maxSets}
 use Rattle.rule.specs.inner.Lookup.{Lookup, lookUp}
 use Rattle.history.specs.Letter.{nextSet}
 use Rattle.history.specs.inner.OldNumbers.{noNode}
-use Rattle.tree.specs.inner.Rows.{blankRow}
-use Rattle.tree.specs.declared.rows.Row.{Row}
+use Rattle.tree.specs.inner.Nodes.{blankNode}
+use Rattle.tree.specs.declared.nodes.Node.{Node as CodeNode}
 use Rattle.step.specs.declared.pass.NewLabels.{NewLabels}
 
--- a letter's look-up has images for each row's active set
-abbrev pub SetsFit : List Row → Type 0
-SetsFit rows = (i : ℕ) → getD rows i blankRow .active ≤ maxSets
+-- a letter's look-up has images for each node's active set
+abbrev pub SetsFit : List CodeNode → Type 0
+SetsFit nodes = (i : ℕ) → getD nodes i blankNode .active ≤ maxSets
 
--- STEPS 1 TO 3 AT A ROW
+-- STEPS 1 TO 3 AT A NODE
 
--- the states of a row's node that older nodes have not taken, those of its children, and those of its sprouted child
-unfoldable pub newLabels : (ℕ → ℕ → ℕ) → Row → ℕ → NewLabels
+-- the states of a node that older nodes have not taken, those of its children, and those of its sprouted child
+unfoldable pub newLabels : (ℕ → ℕ → ℕ) → CodeNode → ℕ → NewLabels
 newLabels E x taken =
     record {
       label = minus (E 0 (x .label)) taken;
@@ -43,20 +43,20 @@ abbrev pub outermost : Level
 outermost = record { taken = 0; sprout = 0; named = true }
 
 -- a sprouted child at depth d, once its older siblings are read
-unfoldable pub sproutRow : ℕ → ℕ → ℕ → Row
-sproutRow d sprout taken = record { depth = d; label = minus sprout taken; kids = 0; active = 1; old = noNode }
+unfoldable pub sproutNode : ℕ → ℕ → ℕ → CodeNode
+sproutNode d sprout taken = record { depth = d; label = minus sprout taken; kids = 0; active = 1; old = noNode }
 
--- STEP 4 AT A ROW
+-- STEP 4 AT A NODE
 
--- the row of a node with a non-empty label: it accepts where its label is the union of its children's
-unfoldable pub settledRow : ℕ → Row → NewLabels → ℕ → Row
-settledRow k x m i =
+-- a node with a non-empty label: it accepts where its label is the union of its children's
+unfoldable pub settledNode : ℕ → CodeNode → NewLabels → ℕ → CodeNode
+settledNode k x m i =
     cond (eqb (m .label) (m .kids))
     (record { depth = x .depth; label = m .label; kids = 0; active = nextSet k (x .active); old = i })
     (record { depth = x .depth; label = m .label; kids = m .kids; active = x .active; old = i })
 
 -- "Nodes with empty labels are removed": only the others are written
-unfoldable pub written : Row → List Row
+unfoldable pub written : CodeNode → List CodeNode
 written x = cond (eqb (x .label) 0) [] (x ∷ [])
 
 -- a map with the old number i joined, where b
@@ -65,7 +65,7 @@ joinedIf map i b = cond b (bitOr map (2 ^ i)) map
 
 -- THE DEPTHS
 
--- the levels, the deepest first, once a row of the deepest is read: a removed node costs its younger siblings their names;
+-- the levels, the deepest first, once a node of the deepest is read: a removed node costs its younger siblings their names;
 -- another one takes its states; and where it keeps its children their level is opened
 unfoldable pub entered : NewLabels → List Level → List Level
 entered m [] = []
@@ -82,10 +82,10 @@ unfoldable pub levelsTo : ℕ → List Level → List Level
 levelsTo d [] = []
 levelsTo d (l ∷ levels) = cond (ltb d (length levels)) (levelsTo d levels) (l ∷ levels)
 
-unfoldable pub sproutsTo : ℕ → List Level → List Row
+unfoldable pub sproutsTo : ℕ → List Level → List CodeNode
 sproutsTo d [] = []
 sproutsTo d (l ∷ levels) =
-    cond (ltb d (length levels)) (written (sproutRow (length levels) (l .sprout) (l .taken)) ++ sproutsTo d levels) []
+    cond (ltb d (length levels)) (written (sproutNode (length levels) (l .sprout) (l .taken)) ++ sproutsTo d levels) []
 
 -- the deepest level
 unfoldable pub deepest : List Level → Level
@@ -94,10 +94,10 @@ deepest (l ∷ levels) = l
 
 -- THE PASS
 
--- what has come of the rows read
+-- what has come of the nodes read
 pub record Pass : Type 0 where
   pub levels : List Level
-  pub rows : List Row
+  pub nodes : List CodeNode
   pub accepting : ℕ
   pub stable : ℕ
 
@@ -106,40 +106,40 @@ unfoldable pub closedTo : ℕ → Pass → Pass
 closedTo d p =
     record {
       levels = levelsTo d (p .levels);
-      rows = p .rows ++ sproutsTo d (p .levels);
+      nodes = p .nodes ++ sproutsTo d (p .levels);
       accepting = p .accepting;
       stable = p .stable;
     }
 
--- the row numbered i, of the deepest level, is read
-unfoldable pub passedRow : ℕ → ℕ → Row → NewLabels → Pass → Pass
-passedRow k i x m p =
+-- the node numbered i, of the deepest level, is read
+unfoldable pub passedNode : ℕ → ℕ → CodeNode → NewLabels → Pass → Pass
+passedNode k i x m p =
     cond (eqb (m .label) 0)
-    (record { levels = entered m (p .levels); rows = p .rows; accepting = p .accepting; stable = p .stable })
+    (record { levels = entered m (p .levels); nodes = p .nodes; accepting = p .accepting; stable = p .stable })
     (record {
       levels = entered m (p .levels);
-      rows = p .rows ++ (settledRow k x m i ∷ []);
+      nodes = p .nodes ++ (settledNode k x m i ∷ []);
       accepting = joinedIf (p .accepting) i (eqb (m .label) (m .kids));
       stable = joinedIf (p .stable) i (deepest (p .levels) .named);
     })
 
--- a row below a node that was removed, or that has lost its descendants, is passed over
-unfoldable pub readRow : (ℕ → ℕ → ℕ) → ℕ → ℕ → Row → Pass → Pass
-readRow E k i x p =
-    cond (ltb (x .depth) (length (p .levels))) (passedRow k i x (newLabels E x (deepest (p .levels) .taken)) p) p
+-- a node below a node that was removed, or that has lost its descendants, is passed over
+unfoldable pub readNode : (ℕ → ℕ → ℕ) → ℕ → ℕ → CodeNode → Pass → Pass
+readNode E k i x p =
+    cond (ltb (x .depth) (length (p .levels))) (passedNode k i x (newLabels E x (deepest (p .levels) .taken)) p) p
 
--- rows numbered from i on: a row closes the deeper levels, and so does the end
-unfoldable pub passOver : (ℕ → ℕ → ℕ) → ℕ → ℕ → Pass → List Row → Pass
+-- nodes numbered from i on: a node closes the deeper levels, and so does the end
+unfoldable pub passOver : (ℕ → ℕ → ℕ) → ℕ → ℕ → Pass → List CodeNode → Pass
 passOver E k i p [] = closedTo 0 p
-passOver E k i p (x ∷ rows) = passOver E k (suc i) (readRow E k i x (closedTo (x .depth) p)) rows
+passOver E k i p (x ∷ nodes) = passOver E k (suc i) (readNode E k i x (closedTo (x .depth) p)) nodes
 
--- before the first row
+-- before the first node
 abbrev pub atStart : Pass
-atStart = record { levels = outermost ∷ []; rows = []; accepting = 0; stable = 0 }
+atStart = record { levels = outermost ∷ []; nodes = []; accepting = 0; stable = 0 }
 
--- one letter over rows, by the letter's look-up; there are k sets
-unfoldable pub steppedRows : Lookup → ℕ → List Row → Pass
-steppedRows lookup k rows = passOver (lookUp lookup) k 0 atStart rows
+-- one letter over nodes, by the letter's look-up; there are k sets
+unfoldable pub steppedNodes : Lookup → ℕ → List CodeNode → Pass
+steppedNodes lookup k nodes = passOver (lookUp lookup) k 0 atStart nodes
 
 -- THE LEVELS IN ARRAYS
 
@@ -154,7 +154,7 @@ abbrev pub ByDepth : List ℕ → List ℕ → List Bool → Type 0
 ByDepth taken sprout named =
     (length taken ≡ suc maxStates) × ((length sprout ≡ suc maxStates) × (length named ≡ suc maxStates))
 
--- the arrays, and the depth of the deepest level, once a row at depth `top` is read
+-- the arrays, and the depth of the deepest level, once a node at depth `top` is read
 pub record Entered (m : NewLabels) (top : ℕ) (taken sprout : List ℕ) (named : List Bool)
     (next : ℕ) (taken′ sprout′ : List ℕ) (named′ : List Bool) : Type 0 where
   pub deeper : next ≤ suc top

@@ -1,4 +1,4 @@
--- A look-up read into arrays, and look-ups that are made ready where the questions are put: what the crates above learn of them.
+-- A table read into arrays, and look-ups that are made ready where the questions are put: what the crates above learn of them.
 use mathlib.Core.Path.{_≡_}
 use mathlib.Core.List.{List, []}
 use Prim.Native.Nat.{ℕ, _<_}

@@ -9,8 +9,8 @@ use Rattle.rule.specs.Limits.{maxStates, maxSets}
 use Rattle.history.specs.Forest.{nil, size}
 use Rattle.history.specs.Tree.{Tree}
 use Rattle.history.specs.Record.{readTree}
-use Rattle.tree.specs.inner.Rows.{rowsOf}
-use Rattle.tree.specs.inner.RecordRows.{HasRows}
+use Rattle.tree.specs.inner.Nodes.{nodesOf}
+use Rattle.tree.specs.inner.RecordNodes.{HasNodes}
 use Rattle.tree.specs.declared.record.Count.{Count}
 use Rattle.tree.specs.declared.record.Count.the-variants.{Nodes, Refused}
 use Rattle.tree.specs.declared.record.Checked.{Checked}
@@ -32,4 +32,4 @@ treeBeside (accepted T) = T
 -- the check's answer: the number of the tree's nodes, or question 9's number; and the tree
 pub record Checks (o : Outcome Tree) (r : Checked) : Type 0 where
   pub count : countAs (r .count) ≡ (o then λ T. accepted (size T))
-  pub tree : HasRows (rowsOf (treeBeside o)) (r .tree)
+  pub tree : HasNodes (nodesOf (treeBeside o)) (r .tree)

@@ -8,8 +8,8 @@ use Rattle.word.specs.Walk.{rounds}
 use Rattle.word.specs.inner.WalkLookups.{Lookups, HasLookup}
 use Rattle.history.specs.Rounds.{roundTree, FirstRepeat}
 use Rattle.history.specs.inner.Following.{witnessMap}
-use Rattle.tree.specs.inner.Rows.{HoldsTree}
-use Rattle.tree.specs.declared.rows.Tree.{Tree as CodeTree}
+use Rattle.tree.specs.inner.Nodes.{HoldsTree}
+use Rattle.tree.specs.declared.nodes.Tree.{Tree as CodeTree}
 use Rattle.treejudge.specs.inner.Reading.{HasSets}
 use Rattle.treejudge.specs.declared.cycle.Cycle.{Cycle}
 

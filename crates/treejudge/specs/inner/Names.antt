@@ -9,9 +9,9 @@ use Rattle.word.specs.inner.WalkLookups.{Lookups, HasLookup}
 use Rattle.history.specs.Tree.{Tree, isTreeOf}
 use Rattle.history.specs.Rounds.{readLetters}
 use Rattle.history.specs.inner.Following.{carried, keptMap, witnessMap}
-use Rattle.tree.specs.inner.PackedRows.{countedRows}
-use Rattle.tree.specs.inner.Rows.{HoldsTree}
-use Rattle.tree.specs.declared.rows.Tree.{Tree as CodeTree}
+use Rattle.tree.specs.inner.PackedNodes.{countedNodes}
+use Rattle.tree.specs.inner.Nodes.{HoldsTree}
+use Rattle.tree.specs.declared.nodes.Tree.{Tree as CodeTree}
 use Rattle.treejudge.specs.inner.Reading.{HasSets}
 use Rattle.treejudge.specs.declared.follow.Maps.{Maps}
 
@@ -19,10 +19,10 @@ use Rattle.treejudge.specs.declared.follow.Maps.{Maps}
 abbrev pub allKept : ℕ → Maps
 allKept count = record { kept = 2 ^ count - 1; witnesses = 0 }
 
--- both maps of old numbers carried to the numbers of a tree's rows
+-- both maps of old numbers carried to the numbers of a tree's nodes
 unfoldable pub carriedMaps : CodeTree → Maps → Maps
 carriedMaps x m =
-    let olds = map (λ r. r .old) (countedRows x) in
+    let olds = map (λ r. r .old) (countedNodes x) in
     record { kept = carried olds (m .kept); witnesses = carried olds (m .witnesses) }
 
 -- the tree after the letters w from T on, and the maps of its nodes that kept their names all along, and were accepting once

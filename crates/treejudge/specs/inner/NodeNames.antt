@@ -9,8 +9,8 @@ use Rattle.rule.specs.Limits.{maxStates}
 use Rattle.rule.specs.Rule.{Rule}
 use Rattle.history.specs.Forest.{names}
 use Rattle.history.specs.Tree.{Tree}
-use Rattle.tree.specs.inner.Rows.{HoldsTree}
-use Rattle.tree.specs.declared.rows.Tree.{Tree as CodeTree}
+use Rattle.tree.specs.inner.Nodes.{HoldsTree}
+use Rattle.tree.specs.declared.nodes.Tree.{Tree as CodeTree}
 use Rattle.treejudge.specs.JudgeCall.{nameRoom}
 use Rattle.treejudge.specs.declared.name.Name.{Name}
 

@@ -1,4 +1,4 @@
--- Reading letters: what the contracts of the tree judge's own functions say of look-ups and rows.
+-- Reading letters: what the contracts of the tree judge's own functions say of look-ups and nodes.
 use mathlib.Core.Path.{_≡_}
 use mathlib.Core.List.{List}
 use Prim.Native.Nat.{ℕ}
@@ -8,8 +8,8 @@ use Rattle.table.specs.inner.ReadRule.{WithinLimits}
 use Rattle.word.specs.inner.WalkLookups.{Lookups, HasLookup}
 use Rattle.history.specs.Tree.{Tree}
 use Rattle.history.specs.Rounds.{readLetters}
-use Rattle.tree.specs.inner.Rows.{HoldsTree}
-use Rattle.tree.specs.declared.rows.Tree.{Tree as CodeTree}
+use Rattle.tree.specs.inner.Nodes.{HoldsTree}
+use Rattle.tree.specs.declared.nodes.Tree.{Tree as CodeTree}
 
 -- the rule R is within the limits, and has k sets
 pub record HasSets (R : Rule) (k : ℕ) : Type 0 where

@@ -11,8 +11,8 @@ use Rattle.history.specs.Forest.{size, names}
 use Rattle.history.specs.Tree.{Tree}
 use Rattle.history.specs.Rounds.{roundTree, FirstRepeat}
 use Rattle.history.specs.Verdict.{Witness, FirstWitness}
-use Rattle.tree.specs.inner.Rows.{HoldsTree}
-use Rattle.tree.specs.declared.rows.Tree.{Tree as CodeTree}
+use Rattle.tree.specs.inner.Nodes.{HoldsTree}
+use Rattle.tree.specs.declared.nodes.Tree.{Tree as CodeTree}
 use Rattle.treejudge.specs.inner.Cycles.{AtRound}
 use Rattle.treejudge.specs.declared.repeat.Early.{Early}
 use Rattle.treejudge.specs.declared.repeat.Early.the-variants.{Repeat as EarlyRepeat, Nothing}

@@ -44,11 +44,11 @@ returns-2 c R a p = step-no-room p _ _ (tree (c .before .before .before) R a p) 
 laid-requires : tie.Need-laid-requires
 laid-requires c κs = search needs
 
-cast-step-rows : tie.Need-cast-step-rows
-cast-step-rows c = omega (arith, numbers-fit (begun (c .before .before .before .before) .pre .2))
+cast-step-nodes : tie.Need-cast-step-nodes
+cast-step-nodes c = omega (arith, numbers-fit (begun (c .before .before .before .before) .pre .2))
 
-step-rows-requires : tie.Need-step-rows-requires
-step-rows-requires c κs =
+step-nodes-requires : tie.Need-step-nodes-requires
+step-nodes-requires c κs =
     let laid = c .before .before in
     let n = laid .before .before .before in
     let (R, a, p) = begun n .pre in
@@ -61,8 +61,8 @@ put-record-requires c κs =
     let room = laid .before in
     let n = room .before .before in
     let (R, a, p) = begun n .pre in (
-      step-recordable p _ [] (tree n R a p) (laid .laid .ensures) (s .step-rows .ensures),
-      (s .step-rows .ensures .arrays, omega arith),
+      step-recordable p _ [] (tree n R a p) (laid .laid .ensures) (s .step-nodes .ensures),
+      (s .step-nodes .ensures .arrays, omega arith),
       room .if1 .left,
     )
 
@@ -75,7 +75,7 @@ returns-3 c R a p =
     let s = put .before .before .before in
     let laid = s .before .before .before in
     let room = laid .before in
-    step-done p _ _ (tree (room .before .before) R a p) (laid .laid .ensures) (s .step-rows .ensures) (room .if1 .left) _ _
+    step-done p _ _ (tree (room .before .before) R a p) (laid .laid .ensures) (s .step-nodes .ensures) (room .if1 .left) _ _
     (put .put-record .ensures .0) (put .put-record .ensures .1)
 
 pub step-prepared-spec : {M : Type 1} → statement M
@@ -90,8 +90,8 @@ step-prepared-spec =
     step-refusal-requires-2
     returns-2
     laid-requires
-    cast-step-rows
-    step-rows-requires
+    cast-step-nodes
+    step-nodes-requires
     put-record-requires
     same-length
     returns-3)

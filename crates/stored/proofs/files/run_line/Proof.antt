@@ -3,7 +3,7 @@ use borrow.Author.Needs.{needs}
 use borrow.Author.Tests.{not-true, not-false}
 use mathlib.Core.Path.{refl, sym, _∙_}
 use Rattle.notation.proofs.Testing.{tests-not}
-use Rattle.stored.specs.Comparing.{not-counted, found-right, found-different}
+use Rattle.stored.specs.inner.Comparing.{not-counted, found-right, found-different}
 use Rattle.stored.proofs.files.run_line.Statement.{statement}
 use Rattle.stored.proofs.files.run_line.Tie as tie
 

@@ -10,10 +10,10 @@ use Rattle.tree.proofs.checks.all_host.Statement.{statement}
 use Rattle.tree.proofs.checks.all_host.Tie as tie
 
 abbrev Inv-loop : tie.InvT-loop
-Inv-loop nodes hosts left₀ left = allHost left hosts ≡ allHost nodes hosts
+Inv-loop count hosts left₀ left = allHost left hosts ≡ allHost count hosts
 
 abbrev μ-loop : tie.MeasureT-loop
-μ-loop nodes hosts left₀ left = left
+μ-loop count hosts left₀ left = left
 
 loop-holds : tie.Need-loop-holds Inv-loop μ-loop
 loop-holds c = search needs

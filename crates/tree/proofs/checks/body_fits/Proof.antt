@@ -11,8 +11,8 @@ use Rattle.tree.proofs.checks.body_fits.Tie as tie
 cast-states : tie.Need-cast-states
 cast-states c = search needs
 
-sub-nodes : tie.Need-sub-nodes
-sub-nodes c = search needs
+sub-count : tie.Need-sub-count
+sub-count c = search needs
 
 slice-aggregate-all-below : tie.Need-slice-aggregate-all-below
 slice-aggregate-all-below c = sym (length-take-le _ _ (c .before .before .pre))
@@ -61,7 +61,7 @@ body-fits-spec =
     tie.close
     (tie.spec
     cast-states
-    sub-nodes
+    sub-count
     slice-aggregate-all-below
     all-below-requires
     returns

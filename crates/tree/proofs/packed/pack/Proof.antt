@@ -1,6 +1,6 @@
--- `pack` meets its contract: the parts of the word are the row's numbers.
+-- `pack` meets its contract: the parts of the word are the node's numbers.
 use borrow.Author.Needs.{needs}
-use Rattle.tree.proofs.PackedWords.{row-packed}
+use Rattle.tree.proofs.PackedWords.{node-packed}
 use Rattle.tree.proofs.packed.pack.Statement.{statement}
 use Rattle.tree.proofs.packed.pack.Tie as tie
 
@@ -58,7 +58,7 @@ add-result c = search needs
 
 -- src/packed.rt:11:1
 returns : tie.Need-returns
-returns c = row-packed _ (search needs) (search needs) (search needs) (search needs) (search needs)
+returns c = node-packed _ (search needs) (search needs) (search needs) (search needs) (search needs)
 
 pub pack-spec : {M : Type 1} → statement M
 pack-spec =

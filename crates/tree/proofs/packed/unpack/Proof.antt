@@ -3,7 +3,7 @@ use mathlib.Core.Path.{_≡_}
 use Prim.Native.Nat.{_/_, _%_}
 use native.Mathlib.Nat.{mod-eq-of-lt}
 use borrow.Author.Needs.{needs}
-use Rattle.tree.specs.inner.PackedRows.{unpacked}
+use Rattle.tree.specs.inner.PackedNodes.{unpacked}
 use Rattle.tree.proofs.packed.unpack.Statement.{statement}
 use Rattle.tree.proofs.packed.unpack.Tie as tie
 

@@ -3,14 +3,14 @@ use borrow.Author.Needs.{needs}
 use Prim.Native.Nat.{_-_}
 use native.Mathlib.Omega.{arith}
 use Rattle.base.proofs.Storing.{pieces-size}
-use Rattle.tree.specs.inner.PackedRows.{countedRows}
+use Rattle.tree.specs.inner.PackedNodes.{countedNodes}
 use Rattle.tree.specs.inner.Sides.{treeOn}
 use Rattle.tree.proofs.WritingInTurn.{HostsStored, hosts-start, hosts-skip, hosts-fits, hosts-put, hosts-done}
 use Rattle.tree.proofs.writing.put_hosts.Statement.{statement}
 use Rattle.tree.proofs.writing.put_hosts.Tie as tie
 
 abbrev Inv-loop : tie.InvT-loop
-Inv-loop sides on states n out₀ from at₀ state₀ out at state = HostsStored (countedRows (treeOn sides on)) n states out₀ from out at state
+Inv-loop sides on states n out₀ from at₀ state₀ out at state = HostsStored (countedNodes (treeOn sides on)) n states out₀ from out at state
 
 abbrev μ-loop : tie.MeasureT-loop
 μ-loop sides on states n out₀ from at₀ state₀ out at state = n - state
@@ -33,8 +33,8 @@ loop-less c = search needs
 loop-again : tie.Need-loop-again Inv-loop μ-loop
 loop-again c = hosts-skip (c .before .before .loop .inv) (c .before .loop-test .taken) (c .if1 .taken)
 
-host-row-requires : tie.Need-host-row-requires Inv-loop μ-loop
-host-row-requires c κs = search needs
+host-node-requires : tie.Need-host-node-requires Inv-loop μ-loop
+host-node-requires c κs = search needs
 
 slice-write-out : tie.Need-slice-write-out Inv-loop μ-loop
 slice-write-out c = hosts-fits (c .before .before .before .loop .inv) (c .before .before .loop-test .taken)
@@ -48,7 +48,7 @@ loop-less-2 c = search needs
 loop-again-2 : tie.Need-loop-again-2 Inv-loop μ-loop
 loop-again-2 c =
     let turn = c .before .before in
-    hosts-put (turn .before .loop .inv) (turn .loop-test .taken) (c .before .if1 .left) _ (c .host-row .ensures)
+    hosts-put (turn .before .loop .inv) (turn .loop-test .taken) (c .before .if1 .left) _ (c .host-node .ensures)
 
 same-length : tie.Need-same-length Inv-loop μ-loop
 same-length c = pieces-size (c .before .loop .inv .pieces)
@@ -68,7 +68,7 @@ put-hosts-spec =
     shr-if1
     loop-less
     loop-again
-    host-row-requires
+    host-node-requires
     slice-write-out
     add-at
     loop-less-2

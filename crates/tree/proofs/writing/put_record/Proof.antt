@@ -4,19 +4,19 @@ use mathlib.Core.List.{[]}
 use mathlib.Core.Path.{_≡_, _∙_}
 use native.Mathlib.Omega.{arith}
 use lib.ListN.{getD, length-set}
-use Rattle.tree.specs.inner.PackedRows.{rowsIn}
-use Rattle.tree.specs.inner.Rows.{blankRow}
-use Rattle.tree.proofs.PackedWords.{row-read}
-use Rattle.tree.proofs.TreeRows.{side-rows}
+use Rattle.tree.specs.inner.PackedNodes.{nodesIn}
+use Rattle.tree.specs.inner.Nodes.{blankNode}
+use Rattle.tree.proofs.PackedWords.{node-read}
+use Rattle.tree.proofs.TreeNodes.{side-nodes}
 use Rattle.tree.proofs.WritingInTurn.{record-dead, root-small, tags-room-left, record-live}
 use Rattle.tree.proofs.writing.put_record.Statement.{statement}
 use Rattle.tree.proofs.writing.put_record.Tie as tie
 
--- the root's row
+-- the root's node
 root : (c : tie.After-unpack) → let args = c .before .before .before .before .before .args in
-    c .unpack .result ≡ getD (rowsIn (getD (args .sides .now) (args .on .side) [])) 0 blankRow
+    c .unpack .result ≡ getD (nodesIn (getD (args .sides .now) (args .on .side) [])) 0 blankNode
 root c = let args = c .before .before .before .before .before .args in
-    row-read (getD (args .sides .now) (args .on .side) []) 0 (c .unpack .ensures)
+    node-read (getD (args .sides .now) (args .on .side) []) 0 (c .unpack .ensures)
 
 slice-write-out : tie.Need-slice-write-out
 slice-write-out c = search needs
@@ -74,7 +74,7 @@ returns-2 c =
     let read = hosts .before .before .before in
     let live = read .before .before in
     let start = live .before .before .before in
-    record-live _ _ _ (start .pre .0) (start .pre .2) _ (root read) (live .if1 .left) (side-rows (start .pre .1)) _ _ _ _
+    record-live _ _ _ (start .pre .0) (start .pre .2) _ (root read) (live .if1 .left) (side-nodes (start .pre .1)) _ _ _ _
     (hosts .put-hosts .ensures .0) (hosts .put-hosts .ensures .1) (tags .put-tags .ensures .0) (tags .put-tags .ensures .1)
 
 pub put-record-spec : {M : Type 1} → statement M

@@ -6,18 +6,18 @@ use native.Mathlib.Omega.{arith}
 use lib.ListN.{getD}
 use Rattle.base.proofs.Storing.{pieces-size}
 use Rattle.tree.specs.inner.Sides.{treeOn}
-use Rattle.tree.proofs.PackedWords.{row-read}
-use Rattle.tree.proofs.TreeRows.{side-rows}
+use Rattle.tree.proofs.PackedWords.{node-read}
+use Rattle.tree.proofs.TreeNodes.{side-nodes}
 use Rattle.tree.proofs.WritingInTurn.{TagsStored, tags-start, tag-small, tags-fits, tags-put, tags-done}
 use Rattle.tree.proofs.writing.put_tags.Statement.{statement}
 use Rattle.tree.proofs.writing.put_tags.Tie as tie
 
 abbrev Inv-loop : tie.InvT-loop
-Inv-loop sides n out₀ from side count at₀ node₀ out at node =
-    TagsStored n (treeOn sides (record { side = side; count = count })) out₀ from out at node
+Inv-loop sides n out₀ from side count at₀ number₀ out at number =
+    TagsStored n (treeOn sides (record { side = side; count = count })) out₀ from out at number
 
 abbrev μ-loop : tie.MeasureT-loop
-μ-loop sides n out₀ from side count at₀ node₀ out at node = count - node
+μ-loop sides n out₀ from side count at₀ number₀ out at number = count - number
 
 -- the tree's words
 abbrev words : tie.Start Inv-loop μ-loop → List ℕ
@@ -46,7 +46,7 @@ small : (c : tie.After-unpack Inv-loop μ-loop) → 16 * c .unpack .result .dept
 small c =
     let turn = c .before .before in
     tag-small (turn .before .loop .inv) (turn .loop-test .taken) _
-    (row-read (words (turn .before .before .before)) (turn .before .loop .node) (c .unpack .ensures))
+    (node-read (words (turn .before .before .before)) (turn .before .loop .number) (c .unpack .ensures))
 
 mul-out : tie.Need-mul-out Inv-loop μ-loop
 mul-out c = omega (arith, small (c .before))
@@ -63,8 +63,8 @@ slice-write-out c = let turn = c .before .before .before .before in tags-fits (t
 add-at : tie.Need-add-at Inv-loop μ-loop
 add-at c = let turn = c .before .before .before .before in omega (arith, tags-fits (turn .before .loop .inv) (turn .loop-test .taken))
 
-add-node : tie.Need-add-node Inv-loop μ-loop
-add-node c = search needs
+add-number : tie.Need-add-number Inv-loop μ-loop
+add-number c = search needs
 
 loop-less : tie.Need-loop-less Inv-loop μ-loop
 loop-less c = search needs
@@ -75,8 +75,8 @@ loop-again c =
     let turn = read .before .before in
     let start = turn .before .before .before in
     tags-put (turn .before .loop .inv) (turn .loop-test .taken) _
-    (row-read (words start) (turn .before .loop .node) (read .unpack .ensures))
-    (side-rows (start .pre .1))
+    (node-read (words start) (turn .before .loop .number) (read .unpack .ensures))
+    (side-nodes (start .pre .1))
 
 same-length : tie.Need-same-length Inv-loop μ-loop
 same-length c = pieces-size (c .before .loop .inv .pieces)
@@ -101,7 +101,7 @@ put-tags-spec =
     add-out
     slice-write-out
     add-at
-    add-node
+    add-number
     loop-less
     loop-again
     same-length

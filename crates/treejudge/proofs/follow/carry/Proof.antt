@@ -1,4 +1,4 @@
--- `carry` meets its contract. The loop has the maps of the rows that it has passed, both in one word.
+-- `carry` meets its contract. The loop has the maps of the nodes that it has passed, both in one word.
 use borrow.Author.Needs.{needs}
 use mathlib.Core.Path.{_≡_, refl}
 use mathlib.Core.List.{[]}
@@ -6,31 +6,31 @@ use Prim.Native.Nat.{_-_, _≤_}
 use native.Mathlib.Omega.{arith}
 use lib.ListN.{getD}
 use Rattle.base.specs.BitSet.{collect}
-use Rattle.tree.specs.inner.PackedRows.{rowsIn}
-use Rattle.tree.proofs.PackedWords.{row-read}
-use Rattle.tree.proofs.TreeRows.{side-rows}
+use Rattle.tree.specs.inner.PackedNodes.{nodesIn}
+use Rattle.tree.proofs.PackedWords.{node-read}
+use Rattle.tree.proofs.TreeNodes.{side-nodes}
 use Rattle.treejudge.proofs.MapsCarried.{carriedTo, bothTo, both-more, both-all}
 use Rattle.treejudge.proofs.follow.carry.Statement.{statement}
 use Rattle.treejudge.proofs.follow.carry.Tie as tie
 
 abbrev Inv-loop : tie.InvT-loop
-Inv-loop sides side count kept witnesses nodes new-nodes₀ j₀ new-nodes j =
-    (j ≤ count) × (new-nodes ≡ bothTo (rowsIn (getD sides side [])) (record { kept = kept; witnesses = witnesses }) j)
+Inv-loop sides side count kept witnesses pair new-pair₀ j₀ new-pair j =
+    (j ≤ count) × (new-pair ≡ bothTo (nodesIn (getD sides side [])) (record { kept = kept; witnesses = witnesses }) j)
 
 abbrev μ-loop : tie.MeasureT-loop
-μ-loop sides side count kept witnesses nodes new-nodes₀ j₀ new-nodes j = count - j
+μ-loop sides side count kept witnesses pair new-pair₀ j₀ new-pair j = count - j
 
-cast-nodes : tie.Need-cast-nodes Inv-loop μ-loop
-cast-nodes c = search needs
+cast-pair : tie.Need-cast-pair Inv-loop μ-loop
+cast-pair c = search needs
 
-cast-nodes-2 : tie.Need-cast-nodes-2 Inv-loop μ-loop
-cast-nodes-2 c = search needs
+cast-pair-2 : tie.Need-cast-pair-2 Inv-loop μ-loop
+cast-pair-2 c = search needs
 
-mul-nodes : tie.Need-mul-nodes Inv-loop μ-loop
-mul-nodes c = search needs
+mul-pair : tie.Need-mul-pair Inv-loop μ-loop
+mul-pair c = search needs
 
-add-nodes : tie.Need-add-nodes Inv-loop μ-loop
-add-nodes c = search needs
+add-pair : tie.Need-add-pair Inv-loop μ-loop
+add-pair c = search needs
 
 loop-holds : tie.Need-loop-holds Inv-loop μ-loop
 unfolding carriedTo collect
@@ -54,14 +54,14 @@ unpack-requires c κs = search needs
 shift-of-requires : tie.Need-shift-of-requires Inv-loop μ-loop
 shift-of-requires c κs = search needs
 
-cast-new-nodes : tie.Need-cast-new-nodes Inv-loop μ-loop
-cast-new-nodes c = search needs
+cast-new-pair : tie.Need-cast-new-pair Inv-loop μ-loop
+cast-new-pair c = search needs
 
-shr-new-nodes : tie.Need-shr-new-nodes Inv-loop μ-loop
-shr-new-nodes c = search needs
+shr-new-pair : tie.Need-shr-new-pair Inv-loop μ-loop
+shr-new-pair c = search needs
 
-shl-new-nodes : tie.Need-shl-new-nodes Inv-loop μ-loop
-shl-new-nodes c = search needs
+shl-new-pair : tie.Need-shl-new-pair Inv-loop μ-loop
+shl-new-pair c = search needs
 
 add-j : tie.Need-add-j Inv-loop μ-loop
 add-j c = search needs
@@ -73,9 +73,9 @@ loop-again : tie.Need-loop-again Inv-loop μ-loop
 loop-again c =
     let at = c .before .before .before .before in
     let args = at .before .args in
-    let row = row-read (getD (args .sides .now) (args .on .side) []) (at .loop .j) (c .before .unpack .ensures) in (
+    let read = node-read (getD (args .sides .now) (args .on .side) []) (at .loop .j) (c .before .unpack .ensures) in (
       omega arith,
-      rw (at .loop .inv .1) (both-more _ (args .maps) _ (search needs) (search needs) (omega arith) _ row _ (c .shift-of .ensures)),
+      rw (at .loop .inv .1) (both-more _ (args .maps) _ (search needs) (search needs) (omega arith) _ read _ (c .shift-of .ensures)),
     )
 
 cast-t28 : tie.Need-cast-t28 Inv-loop μ-loop
@@ -88,7 +88,7 @@ returns : tie.Need-returns Inv-loop μ-loop
 returns c =
     let start = c .before .before in
     let end : c .before .loop .j ≡ start .args .on .count = omega arith in
-    rw (c .before .loop .inv .1, end) (both-all _ _ (omega arith) (omega (arith, side-rows (start .pre .1))))
+    rw (c .before .loop .inv .1, end) (both-all _ _ (omega arith) (omega (arith, side-nodes (start .pre .1))))
 
 pub carry-spec : {M : Type 1} → statement M
 carry-spec =
@@ -96,10 +96,10 @@ carry-spec =
     (tie.spec
     Inv-loop
     μ-loop
-    cast-nodes
-    mul-nodes
-    cast-nodes-2
-    add-nodes
+    cast-pair
+    mul-pair
+    cast-pair-2
+    add-pair
     loop-holds
     mul-unpack
     mul-unpack-2
@@ -107,9 +107,9 @@ carry-spec =
     index-2-unpack
     unpack-requires
     shift-of-requires
-    cast-new-nodes
-    shr-new-nodes
-    shl-new-nodes
+    cast-new-pair
+    shr-new-pair
+    shl-new-pair
     add-j
     loop-less
     loop-again

@@ -18,21 +18,21 @@ abbrev μ-loop : tie.MeasureT-loop
 loop-holds : tie.Need-loop-holds Inv-loop μ-loop
 loop-holds c = followed-none _ _ _ _ _ _ (c .before .before .before .pre .0)
 
-shared-slice-read-step-rows : tie.Need-shared-slice-read-step-rows Inv-loop μ-loop
-shared-slice-read-step-rows c = search needs
+shared-slice-read-step-nodes : tie.Need-shared-slice-read-step-nodes Inv-loop μ-loop
+shared-slice-read-step-nodes c = search needs
 
-index-1-step-rows : tie.Need-index-1-step-rows Inv-loop μ-loop
-index-1-step-rows c = let inside = c .before in
+index-1-step-nodes : tie.Need-index-1-step-nodes Inv-loop μ-loop
+index-1-step-nodes c = let inside = c .before in
     letter-small _ _ _ _ (followed-reads _ _ _ _ _ (inside .before .before .before .before .before .pre .1)) _ (inside .loop-test .taken)
 
-cast-step-rows : tie.Need-cast-step-rows Inv-loop μ-loop
-cast-step-rows c = omega (arith, index-1-step-rows c)
+cast-step-nodes : tie.Need-cast-step-nodes Inv-loop μ-loop
+cast-step-nodes c = omega (arith, index-1-step-nodes c)
 
-mul-step-rows : tie.Need-mul-step-rows Inv-loop μ-loop
-mul-step-rows c = omega (arith, index-1-step-rows c)
+mul-step-nodes : tie.Need-mul-step-nodes Inv-loop μ-loop
+mul-step-nodes c = omega (arith, index-1-step-nodes c)
 
-step-rows-requires : tie.Need-step-rows-requires Inv-loop μ-loop
-step-rows-requires c κs = let at = c .before .before .before .before in followed-ready _ _ _ _ _ _ _ _ _ (at .loop .inv) (at .before .before .before .before .pre .1)
+step-nodes-requires : tie.Need-step-nodes-requires Inv-loop μ-loop
+step-nodes-requires c κs = let at = c .before .before .before .before in followed-ready _ _ _ _ _ _ _ _ _ (at .loop .inv) (at .before .before .before .before .pre .1)
 
 sub-t11 : tie.Need-sub-t11 Inv-loop μ-loop
 sub-t11 c = omega (arith, c .before .before .before .before .before .before .loop .inv .stands .1)
@@ -41,7 +41,7 @@ carry-requires : tie.Need-carry-requires Inv-loop μ-loop
 carry-requires c κs =
     let s = c .before .before .before .before .before .before .before .before in
     let inside = s .before .before .before .before in
-    followed-few _ _ _ _ _ _ _ _ _ (inside .before .loop .inv) (inside .loop-test .taken) _ _ (s .step-rows .ensures)
+    followed-few _ _ _ _ _ _ _ _ _ (inside .before .loop .inv) (inside .loop-test .taken) _ _ (s .step-nodes .ensures)
     (inside .before .before .before .before .before .pre .1)
 
 add-at : tie.Need-add-at Inv-loop μ-loop
@@ -57,7 +57,7 @@ loop-again : tie.Need-loop-again Inv-loop μ-loop
 loop-again c =
     let s = c .before .before .before .before .before .before .before .before .before in
     let inside = s .before .before .before .before in
-    followed-more _ _ _ _ _ _ _ _ _ (inside .before .loop .inv) (inside .loop-test .taken) _ _ (s .step-rows .ensures) _ (c .carry .ensures)
+    followed-more _ _ _ _ _ _ _ _ _ (inside .before .loop .inv) (inside .loop-test .taken) _ _ (s .step-nodes .ensures) _ (c .carry .ensures)
 
 returns : tie.Need-returns Inv-loop μ-loop
 returns c = followed-all _ _ _ _ _ _ _ _ _ (c .before .loop .inv) (c .loop-test .left)
@@ -69,11 +69,11 @@ follow-letters-spec =
     Inv-loop
     μ-loop
     loop-holds
-    shared-slice-read-step-rows
-    cast-step-rows
-    mul-step-rows
-    index-1-step-rows
-    step-rows-requires
+    shared-slice-read-step-nodes
+    cast-step-nodes
+    mul-step-nodes
+    index-1-step-nodes
+    step-nodes-requires
     sub-t11
     carry-requires
     add-at

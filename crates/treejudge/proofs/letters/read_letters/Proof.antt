@@ -17,20 +17,20 @@ abbrev μ-loop : tie.MeasureT-loop
 loop-holds : tie.Need-loop-holds Inv-loop μ-loop
 loop-holds c = upto-none _ _ _ _ _ (c .before .pre .0)
 
-shared-slice-read-step-rows : tie.Need-shared-slice-read-step-rows Inv-loop μ-loop
-shared-slice-read-step-rows c = search needs
+shared-slice-read-step-nodes : tie.Need-shared-slice-read-step-nodes Inv-loop μ-loop
+shared-slice-read-step-nodes c = search needs
 
-index-1-step-rows : tie.Need-index-1-step-rows Inv-loop μ-loop
-index-1-step-rows c = letter-small _ _ _ _ (c .before .before .before .before .pre .1) _ (c .before .loop-test .taken)
+index-1-step-nodes : tie.Need-index-1-step-nodes Inv-loop μ-loop
+index-1-step-nodes c = letter-small _ _ _ _ (c .before .before .before .before .pre .1) _ (c .before .loop-test .taken)
 
-cast-step-rows : tie.Need-cast-step-rows Inv-loop μ-loop
-cast-step-rows c = omega (arith, index-1-step-rows c)
+cast-step-nodes : tie.Need-cast-step-nodes Inv-loop μ-loop
+cast-step-nodes c = omega (arith, index-1-step-nodes c)
 
-mul-step-rows : tie.Need-mul-step-rows Inv-loop μ-loop
-mul-step-rows c = omega (arith, index-1-step-rows c)
+mul-step-nodes : tie.Need-mul-step-nodes Inv-loop μ-loop
+mul-step-nodes c = omega (arith, index-1-step-nodes c)
 
-step-rows-requires : tie.Need-step-rows-requires Inv-loop μ-loop
-step-rows-requires c κs = let at = c .before .before .before .before in upto-ready _ _ _ _ _ _ _ (at .loop .inv) (at .before .before .pre .1)
+step-nodes-requires : tie.Need-step-nodes-requires Inv-loop μ-loop
+step-nodes-requires c κs = let at = c .before .before .before .before in upto-ready _ _ _ _ _ _ _ (at .loop .inv) (at .before .before .pre .1)
 
 sub-t9 : tie.Need-sub-t9 Inv-loop μ-loop
 sub-t9 c = omega (arith, c .before .before .before .before .before .before .loop .inv .stands .1)
@@ -44,7 +44,7 @@ loop-less c = search needs
 loop-again : tie.Need-loop-again Inv-loop μ-loop
 loop-again c =
     let inside = c .before .before .before .before .before in
-    upto-more _ _ _ _ _ _ _ (inside .before .loop .inv) (inside .loop-test .taken) _ _ (c .before .step-rows .ensures)
+    upto-more _ _ _ _ _ _ _ (inside .before .loop .inv) (inside .loop-test .taken) _ _ (c .before .step-nodes .ensures)
 
 returns : tie.Need-returns Inv-loop μ-loop
 returns c = upto-all _ _ _ _ _ _ _ (c .before .loop .inv) (c .loop-test .left)
@@ -56,11 +56,11 @@ read-letters-spec =
     Inv-loop
     μ-loop
     loop-holds
-    shared-slice-read-step-rows
-    cast-step-rows
-    mul-step-rows
-    index-1-step-rows
-    step-rows-requires
+    shared-slice-read-step-nodes
+    cast-step-nodes
+    mul-step-nodes
+    index-1-step-nodes
+    step-nodes-requires
     sub-t9
     add-at
     loop-less

@@ -3,34 +3,34 @@ use borrow.Author.Needs.{needs}
 use mathlib.Core.Path.{_≡_, refl, ap}
 use Prim.Native.Nat.{_+_, _-_}
 use lib.ListN.{getD}
-use Rattle.tree.specs.inner.PackedRows.{rowsIn}
-use Rattle.tree.specs.inner.Rows.{blankRow}
-use Rattle.tree.specs.declared.rows.Row.{Row}
-use Rattle.tree.proofs.PackedWords.{row-read}
+use Rattle.tree.specs.inner.PackedNodes.{nodesIn}
+use Rattle.tree.specs.inner.Nodes.{blankNode}
+use Rattle.tree.specs.declared.nodes.Node.{Node as CodeNode}
+use Rattle.tree.proofs.PackedWords.{node-read}
 use native.Mathlib.Omega.{arith}
 use Rattle.treejudge.proofs.NodeNames.{NamedSoFar, name-start, node-few, depth-low, depth-short, number-small, name-beside, name-deeper, name-done}
 use Rattle.treejudge.proofs.name.node_name.Statement.{statement}
 use Rattle.treejudge.proofs.name.node_name.Tie as tie
 
 abbrev Inv-loop : tie.InvT-loop
-Inv-loop number rows numbers₀ long₀ i₀ numbers long i = NamedSoFar rows number numbers long i
+Inv-loop number nodes numbers₀ long₀ i₀ numbers long i = NamedSoFar nodes number numbers long i
 
 abbrev μ-loop : tie.MeasureT-loop
-μ-loop number rows numbers₀ long₀ i₀ numbers long i = number - i
+μ-loop number nodes numbers₀ long₀ i₀ numbers long i = number - i
 
--- the name so far, by the tree's rows
+-- the name so far, by the tree's nodes
 so-far : (c : tie.At-loop Inv-loop μ-loop) → let args = c .before .before .args in
-    NamedSoFar (args .tree .rows) (args .number) (c .loop .numbers) (c .loop .length) (c .loop .i)
-so-far c = rw (c .before .rows .ensures) at (c .loop .inv)
+    NamedSoFar (args .tree .nodes) (args .number) (c .loop .numbers) (c .loop .length) (c .loop .i)
+so-far c = rw (c .before .preorder .ensures) at (c .loop .inv)
 
--- the depth of the row that is read
+-- the depth of the node that is read
 depth : (c : tie.After-unpack Inv-loop μ-loop)
-    → c .unpack .result .depth ≡ getD (rowsIn (c .before .before .before .before .args .tree .rows)) (c .before .before .loop .i + 1) blankRow .depth
-depth c = ap (λ (r : Row). r .depth) (row-read (c .before .before .before .before .args .tree .rows) (c .before .before .loop .i + 1)
-    (rw (c .before .before .before .rows .ensures) at (c .unpack .ensures)))
+    → c .unpack .result .depth ≡ getD (nodesIn (c .before .before .before .before .args .tree .nodes)) (c .before .before .loop .i + 1) blankNode .depth
+depth c = ap (λ (r : CodeNode). r .depth) (node-read (c .before .before .before .before .args .tree .nodes) (c .before .before .loop .i + 1)
+    (rw (c .before .before .before .preorder .ensures) at (c .unpack .ensures)))
 
-rows-requires : tie.Need-rows-requires Inv-loop μ-loop
-rows-requires c κs = search needs
+preorder-requires : tie.Need-preorder-requires Inv-loop μ-loop
+preorder-requires c κs = search needs
 
 loop-holds : tie.Need-loop-holds Inv-loop μ-loop
 loop-holds c = name-start _ _ _ refl
@@ -89,7 +89,7 @@ loop-again : tie.Need-loop-again Inv-loop μ-loop
 loop-again c =
     let u = c .before .before in
     let turn = u .before in
-    rw (turn .before .before .rows .ensures, depth u) (name-beside (turn .before .before .before .pre) (so-far (turn .before)) (turn .loop-test .taken) (rw (depth u) at (c .if1 .taken)))
+    rw (turn .before .before .preorder .ensures, depth u) (name-beside (turn .before .before .before .pre) (so-far (turn .before)) (turn .loop-test .taken) (rw (depth u) at (c .if1 .taken)))
 
 loop-less-2 : tie.Need-loop-less-2 Inv-loop μ-loop
 loop-less-2 c = search needs
@@ -98,7 +98,7 @@ loop-again-2 : tie.Need-loop-again-2 Inv-loop μ-loop
 loop-again-2 c =
     let u = c .before .before in
     let turn = u .before in
-    rw (turn .before .before .rows .ensures, depth u) (name-deeper (turn .before .before .before .pre) (so-far (turn .before)) (turn .loop-test .taken) (rw (depth u) at (c .if1 .left)))
+    rw (turn .before .before .preorder .ensures, depth u) (name-deeper (turn .before .before .before .pre) (so-far (turn .before)) (turn .loop-test .taken) (rw (depth u) at (c .if1 .left)))
 
 returns : tie.Need-returns Inv-loop μ-loop
 returns c = name-done (c .before .before .before .pre) (so-far (c .before)) (c .loop-test .left)
@@ -109,7 +109,7 @@ node-name-spec =
     (tie.spec
     Inv-loop
     μ-loop
-    rows-requires
+    preorder-requires
     loop-holds
     add-i
     mul-unpack

@@ -5,7 +5,7 @@ use mathlib.Core.Path.{sym, _∙_}
 use mathlib.Core.List.{[]}
 use Rattle.base.proofs.Tests.{told-yes}
 use Rattle.tree.specs.inner.Sides.{treeOn}
-use Rattle.tree.proofs.TreeRows.{tree-small}
+use Rattle.tree.proofs.TreeNodes.{tree-small}
 use Rattle.treejudge.specs.inner.Reading.{Readable, ReadsTo}
 use Rattle.treejudge.specs.inner.Names.{allKept, Followable, FollowsTo}
 use Rattle.treejudge.specs.inner.Cycles.{FirstRound}

@@ -5,12 +5,12 @@ use native.Mathlib.Omega.{arith}
 use lib.Bits.{and-le-r}
 use lib.Count.{trailingZeros}
 use Rattle.rule.specs.Limits.{maxLetters}
-use Rattle.word.proofs.WalkLookups.{TablesBut, lookups-none, letter-inside, lookups-more, lookups-end}
+use Rattle.word.proofs.WalkLookups.{LookupsBut, lookups-none, letter-inside, lookups-more, lookups-end}
 use Rattle.word.proofs.lookups.fill_lookups.Statement.{statement}
 use Rattle.word.proofs.lookups.fill_lookups.Tie as tie
 
 abbrev Inv-loop : tie.InvT-loop
-Inv-loop words letters lookups₀ rest₀ lookups rest = TablesBut letters rest words lookups₀ lookups
+Inv-loop words letters lookups₀ rest₀ lookups rest = LookupsBut letters rest words lookups₀ lookups
 
 abbrev μ-loop : tie.MeasureT-loop
 μ-loop words letters lookups₀ rest₀ lookups rest = rest

@@ -1,0 +1,77 @@
+-- A tree in the code: its nodes, in front of blank ones.
+use mathlib.Core.Path.{_≡_, refl, sym, _∙_, ap}
+use mathlib.Core.Bool.{true}
+use mathlib.Core.List.{List, [], map, map-append, _∷_}
+use Prim.Native.Nat.{ℕ, suc, _-_, _≤_, _<_, zero}
+use native.Mathlib.Omega.{arith}
+use lib.ListN.{length, getD, replicate, length-append, length-map}
+use lib.Seq.{take-at}
+use Rattle.base.specs.Lists.{pad}
+use Rattle.rule.specs.Limits.{maxStates}
+use Rattle.rule.specs.Rule.{Rule}
+use Rattle.history.specs.Forest.{nil, node, size}
+use Rattle.history.specs.Tree.{Tree, isTreeOf}
+use Rattle.history.proofs.step.TreesOf.{of-few}
+use Rattle.tree.specs.inner.Nodes.{blankNode, nodesFrom, nodesOf, withoutOld, AreNodes, HoldsTree}
+use Rattle.tree.specs.inner.PackedNodes.{nodesIn, countedNodes}
+use Rattle.tree.specs.inner.RecordNodes.{places, blankBehind, HasNodes}
+use Rattle.tree.specs.inner.Sides.{TwoSides}
+use Rattle.tree.specs.declared.nodes.Node.{Node as CodeNode}
+use Rattle.tree.specs.declared.nodes.Tree.{Tree as CodeTree}
+use Rattle.tree.proofs.PackedWords.{nodes-many}
+
+-- THE NODES OF A TREE
+
+-- as many as the tree has
+size-from : (d : ℕ) (T : Tree) → length (nodesFrom d T) ≡ size T
+unfolding nodesFrom size
+size-from d nil = refl
+size-from d (node x below younger) =
+    omega (arith, length-append (nodesFrom (suc d) below) (nodesFrom d younger), size-from (suc d) below, size-from d younger)
+
+pub nodes-size : (T : Tree) → length (nodesOf T) ≡ size T
+unfolding nodesOf
+nodes-size T = size-from 0 T
+
+pub are-nodes-size : (nodes : List CodeNode) (T : Tree) → AreNodes nodes T → length nodes ≡ size T
+are-nodes-size nodes T are = sym (length-map nodes withoutOld) ∙ ap length are ∙ nodes-size T
+
+-- they have no old numbers
+without-old : (d : ℕ) (F : Tree) → map withoutOld (nodesFrom d F) ≡ nodesFrom d F
+unfolding nodesFrom
+without-old d nil = refl
+without-old d (node x below younger) =
+    rw (map-append withoutOld (nodesFrom (suc d) below) (nodesFrom d younger), without-old (suc d) below, without-old d younger)
+
+-- IN THE CODE
+
+-- the nodes that count
+has-front : (nodes : List CodeNode) (x : CodeTree) → HasNodes nodes x → countedNodes x ≡ nodes
+unfolding blankBehind pad
+has-front nodes x has = rw (has .nodes, has .count) (take-at nodes (replicate (places - length nodes) blankNode) (length nodes) refl)
+
+-- a tree's nodes in front of blank ones hold the tree
+pub has-holds : (R : Rule) (T : Tree) (x : CodeTree) → isTreeOf R T ≡ true → HasNodes (nodesOf T) x → HoldsTree R T x
+unfolding nodesOf
+has-holds R T x fits has = record {
+  fits = fits;
+  counts = has .count ∙ nodes-size T;
+  are = ap (map withoutOld) (has-front (nodesOf T) x has) ∙ without-old 0 T;
+}
+
+-- a tree over a rule within the limits has few nodes
+pub tree-small : {R : Rule} {T : Tree} {x : CodeTree} → R .states ≤ maxStates → HoldsTree R T x → x .count ≤ maxStates
+tree-small {R} {T} h held = omega (arith, held .counts, of-few R T (held .fits))
+
+-- a side has a node for each place
+pub side-nodes : {sides : List (List ℕ)} {side : ℕ} → TwoSides sides × (side < 2) → length (nodesIn (getD sides side [])) ≡ places
+side-nodes {sides} {side} (arrays, on) = nodes-many (getD sides side []) (arrays .long side on)
+
+-- two arrays side by side
+pub two-sides : (words other : List ℕ) → length words ≡ places → length other ≡ places → TwoSides (words ∷ other ∷ [])
+two-sides words other long-words long-other = record { two = refl; long = both }
+  where
+    both : (side : ℕ) → side < 2 → length (getD (words ∷ other ∷ []) side []) ≡ places
+    both zero h = long-words
+    both (suc zero) h = long-other
+    both (suc (suc side)) h = absurd (omega arith)
