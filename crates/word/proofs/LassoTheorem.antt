@@ -12,4 +12,4 @@ use Rattle.word.proofs.LassoToRun.{lasso-run}
 
 pub lasso-theorem : (R : Rule) (u v : List ℕ) → WellFormed R → (v ≡ [] → ⊥) → Keeps R u v ↔ KeepsByLasso R u v
 unfolding Keeps KeepsByLasso
-lasso-theorem R u v wf nonempty = (run-lasso R u v wf nonempty, lasso-run R u v wf nonempty)
+lasso-theorem R u v wf nonempty = (run-lasso R u v wf nonempty, lasso-run R u v nonempty)

@@ -12,7 +12,6 @@ use lib.ListN.{length}
 use borrow.Author.Tests.{lt-ltb, le-ltb}
 use Rattle.base.specs.BitSet.{member}
 use Rattle.rule.specs.Rule.{Rule, edge}
-use Rattle.rule.specs.WellFormed.{WellFormed}
 use Rattle.rule.proofs.Edges.{member-edgeIn}
 use Rattle.word.specs.Walk.{letterAt, rounds}
 use Rattle.word.specs.Run.{Run, AcceptingRun, InfinitelyOften, Takes}
@@ -136,10 +135,10 @@ accepting-same R u v u′ v′ same A = record { run = run; often = often }
     often : (i : ℕ) → 1 ≤ i → i ≤ R .sets → InfinitelyOften run i
     often i h k p = let (q, l, t) = A .often i h k p in (q, l, rw (same q) t)
 
--- a loop makes an accepting run, whether or not the rule is well-formed: the lead is a prefix of the same walk, and
+-- a lasso makes an accepting run, whether or not the rule is well-formed: the lead is a prefix of the same walk, and
 -- the loop a tail of it
-pub lasso-run : (R : Rule) (u v : List ℕ) → WellFormed R → (v ≡ [] → ⊥) → Lasso R u v → AcceptingRun R u v
-lasso-run R u v _ nonempty L =
+pub lasso-run : (R : Rule) (u v : List ℕ) → (v ≡ [] → ⊥) → Lasso R u v → AcceptingRun R u v
+lasso-run R u v nonempty L =
     accepting-same R (u ++ rounds (L .lead) v) (rounds (L .turns) v) u v
     (λ p. sym (letter-unrolled u v (L .lead) (L .turns) (L .positive) (filled v nonempty) p))
     (unrolled-run R (u ++ rounds (L .lead) v) (rounds (L .turns) v)

@@ -40,7 +40,7 @@ small n square = record { states = n; letters = 1; sets = 1; start = 1; grid = s
 
 -- without an accepting run there is no loop
 pub no-lasso : (R : Rule) → WellFormed R → (AcceptingRun R [] zeroTail → ⊥) → Lasso R [] zeroTail → ⊥
-no-lasso R fits none L = none (lasso-run R [] zeroTail fits nonempty L)
+no-lasso R fits none L = none (lasso-run R [] zeroTail nonempty L)
 
 -- EACH SET INFINITELY OFTEN, NOT ONLY ONCE
 

@@ -1,5 +1,6 @@
 -- The questions to a table and a letter, by the laws of LetterAsked.
 use borrow.Author.Needs.{needs}
+use native.Mathlib.Omega.{arith}
 use Rattle.table.proofs.Asked.{arrays-blank, RuleRead, read-no, read-yes, prepares-no, prepares-yes}
 use Rattle.table.proofs.LetterAsked.{letter-no-table, letter-no, letter-yes, letter-inside, letter-prepared}
 use Rattle.table.proofs.letter.letter_questions.Statement.{statement}
@@ -20,13 +21,13 @@ enum-known-header : tie.Need-enum-known-header
 enum-known-header c = search needs
 
 returns : tie.Need-returns
-returns c = prepares-no (letter-no (rule (c .before .before .before)) _ (c .if1 .taken))
+returns c = prepares-no (letter-no (rule (c .before .before .before)) _ (omega (arith, c .if1 .taken)))
 
 mul-fill-lookup : tie.Need-mul-fill-lookup
 mul-fill-lookup c = search needs
 
 index-1-fill-lookup : tie.Need-index-1-fill-lookup
-index-1-fill-lookup c = letter-inside (rule (c .before .before .before)) _ (c .if1 .left)
+index-1-fill-lookup c = letter-inside (rule (c .before .before .before)) _ (omega (arith, c .if1 .left))
 
 fill-lookup-requires : tie.Need-fill-lookup-requires
 fill-lookup-requires c κs = search needs
