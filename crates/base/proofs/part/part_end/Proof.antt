@@ -47,13 +47,13 @@ sub-if3 : tie.Need-sub-if3
 sub-if3 c = search needs
 
 returns-3 : tie.Need-returns-3
-returns-3 c number = end-past number _ _ (omega arith) (c .if3 .taken)
+returns-3 c number = end-past number _ _ (omega arith) (omega (arith, c .if3 .taken))
 
 add-t7 : tie.Need-add-t7
 add-t7 c = search needs
 
 returns-4 : tie.Need-returns-4
-returns-4 c number = end-at number _ _ (omega arith) (c .if3 .left)
+returns-4 c number = end-at number _ _ (omega arith) (omega (arith, c .if3 .left))
 
 pub part-end-spec : {M : Type 1} → statement M
 part-end-spec =
