@@ -3,7 +3,7 @@ use mathlib.Core.Path.{_≡_, refl}
 use mathlib.Core.List.{List, [], _∷_, flatMap}
 use Prim.Native.Nat.{ℕ}
 use Rattle.base.specs.Lists.{allOf}
-use Rattle.base.specs.Outcome.{refused, accepted}
+use Rattle.base.specs.Outcome.{accepted}
 use Rattle.base.specs.Reading.{readPart, readMany, ended}
 use Rattle.rule.specs.Rule.{Rule}
 use Rattle.rule.specs.WellFormed.{startFits}

@@ -35,24 +35,25 @@ endless-loop h l ρ σ q =
 -- up to the end of the lead, where the loop begins
 endless-lead : (h l : ℕ) (ρ σ : ℕ → ℕ) → ρ h ≡ σ 0 → (p : ℕ) → p ≤ h → endless h l ρ σ p ≡ ρ p
 unfolding endless
-endless-lead h l ρ σ meet p le = go (decLt p h)
+endless-lead h l ρ σ joins p le = go (decLt p h)
   where
     go : Dec (p < h) → endless h l ρ σ p ≡ ρ p
     go (yes lt) = rw (lt-ltb p h lt)
     go (no ge) =
         let e : p ≡ h + 0 = omega arith in
         let e′ : p ≡ h = omega arith in
-        ap (endless h l ρ σ) e ∙ endless-loop h l ρ σ 0 ∙ ap σ (zero-mod l) ∙ sym meet ∙ ap ρ (sym e′)
+        ap (endless h l ρ σ) e ∙ endless-loop h l ρ σ 0 ∙ ap σ (zero-mod l) ∙ sym joins ∙ ap ρ (sym e′)
 
--- the next place of the loop; its end is its beginning
-endless-next : (h l : ℕ) (ρ σ : ℕ → ℕ) → 0 < l → σ l ≡ σ 0 → (q : ℕ) → endless h l ρ σ (suc (h + q)) ≡ σ (suc (q % l))
-endless-next h l ρ σ filled back q = rw (← add-suc h q) (endless-loop h l ρ σ (suc q) ∙ ap σ (suc-mod q l) ∙ go (decLt (suc (q % l)) l))
+-- the next place of a loop of l places; its end is its beginning
+pub next-place : (l : ℕ) (σ : ℕ → ℕ) → 0 < l → σ l ≡ σ 0 → (q : ℕ) → σ (suc q % l) ≡ σ (suc (q % l))
+next-place l σ filled back q = ap σ (suc-mod q l) ∙ go (decLt (suc (q % l)) l)
   where
     go : Dec (suc (q % l) < l) → σ (suc (q % l) % l) ≡ σ (suc (q % l))
     go (yes lt) = ap σ (mod-eq-of-lt lt)
-    go (no ge) =
-        let e : suc (q % l) ≡ l = omega (arith, mod-lt q filled) in
-        rw (e, mod-self) (sym back)
+    go (no ge) = let e : suc (q % l) ≡ l = omega (arith, mod-lt q filled) in rw (e, mod-self) (sym back)
+
+endless-next : (h l : ℕ) (ρ σ : ℕ → ℕ) → 0 < l → σ l ≡ σ 0 → (q : ℕ) → endless h l ρ σ (suc (h + q)) ≡ σ (suc (q % l))
+endless-next h l ρ σ filled back q = rw (← add-suc h q) (endless-loop h l ρ σ (suc q) ∙ next-place l σ filled back q)
 
 -- THE RUN
 

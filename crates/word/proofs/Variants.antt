@@ -39,8 +39,8 @@ abbrev pub small : ℕ → List (List ℕ) → Rule
 small n square = record { states = n; letters = 1; sets = 1; start = 1; grid = square ∷ [] }
 
 -- without an accepting run there is no loop
-pub no-lasso : (R : Rule) → WellFormed R → (AcceptingRun R [] zeroTail → ⊥) → Lasso R [] zeroTail → ⊥
-no-lasso R fits none L = none (lasso-run R [] zeroTail nonempty L)
+pub no-lasso : (R : Rule) → (AcceptingRun R [] zeroTail → ⊥) → Lasso R [] zeroTail → ⊥
+no-lasso R none L = none (lasso-run R [] zeroTail nonempty L)
 
 -- EACH SET INFINITELY OFTEN, NOT ONLY ONCE
 
@@ -107,7 +107,7 @@ once-no-run A = go (A .often 1 (omega arith) (omega arith) 1)
 
 pub once-no-lasso : Lasso away [] zeroTail → ⊥
 unfolding Keeps
-once-no-lasso = no-lasso away away-fits once-no-run
+once-no-lasso = no-lasso away once-no-run
 
 -- LOOPS WITH OTHER CLAUSES
 
@@ -161,7 +161,7 @@ first-set (suc i) h = absurd (omega arith)
 abbrev apart : Rule
 apart = small 2 ((255 ∷ 255 ∷ []) ∷ (255 ∷ 1 ∷ []) ∷ [])
 
-apart-fits : WellFormed apart
+pub apart-fits : WellFormed apart
 unfolding startFits bytesFit
 apart-fits = record { starts = refl; squares = refl; fits = ((refl, ((refl, refl), ((refl, refl), tt))), tt) }
 
@@ -197,7 +197,7 @@ any-start-no-run A =
 
 any-start-no-lasso : KeepsByLasso apart [] zeroTail → ⊥
 unfolding Keeps KeepsByLasso
-any-start-no-lasso = no-lasso apart apart-fits any-start-no-run
+any-start-no-lasso = no-lasso apart any-start-no-run
 
 -- EVERY SET ON THE LOOP, NOT ANY SETS
 
@@ -205,7 +205,7 @@ any-start-no-lasso = no-lasso apart apart-fits any-start-no-run
 abbrev bare : Rule
 bare = small 1 ((0 ∷ []) ∷ [])
 
-bare-fits : WellFormed bare
+pub bare-fits : WellFormed bare
 unfolding startFits bytesFit
 bare-fits = record { starts = refl; squares = refl; fits = ((refl, ((refl, refl), tt)), tt) }
 
@@ -239,7 +239,7 @@ any-sets-no-run A = let (p, h, t) = A .often 1 (omega arith) (omega arith) 0 in 
 
 any-sets-no-lasso : KeepsByLasso bare [] zeroTail → ⊥
 unfolding Keeps KeepsByLasso
-any-sets-no-lasso = no-lasso bare bare-fits any-sets-no-run
+any-sets-no-lasso = no-lasso bare any-sets-no-run
 
 -- ONE OR MORE TAILS, NOT ONE ONLY
 

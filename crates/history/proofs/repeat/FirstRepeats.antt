@@ -57,15 +57,15 @@ module _ {A : Type 0} (t : ℕ → A) (same? : (i j : ℕ) → Dec (t i ≡ t j)
   unfolding Seen
   seen j = ⊎-elim (λ f. yes f) (λ none. no (λ f. none (f .at) (f .below) (f .holds))) (first-below (λ i. t i ≡ t j) (λ i. same? i j) j)
 
-  meet : (i j : ℕ) → i < j → t i ≡ t j → Seen j
+  earlier-seen : (i j : ℕ) → i < j → t i ≡ t j → Seen j
   unfolding Seen
-  meet i j l e = ⊎-elim (λ f. f) (λ none. absurd (none i l e)) (first-below (λ i. t i ≡ t j) (λ i. same? i j) j)
+  earlier-seen i j l e = ⊎-elim (λ f. f) (λ none. absurd (none i l e)) (first-below (λ i. t i ≡ t j) (λ i. same? i j) j)
 
   -- the first repeat comes by some place, or the values up to there are all different
   pub repeat-or-none : (bound : ℕ) → ((entry : ℕ) × (period : ℕ) × FirstRepeat t entry period × (entry + period ≤ bound))
       ⊎ ((i j : ℕ) → i < j → j ≤ bound → t i ≡ t j → ⊥)
   unfolding Seen
-  repeat-or-none bound = ⊎-elim (λ f. inl (found f (f .holds))) (λ none. inr (λ i j l k e. none j (omega arith) (meet i j l e)))
+  repeat-or-none bound = ⊎-elim (λ f. inl (found f (f .holds))) (λ none. inr (λ i j l k e. none j (omega arith) (earlier-seen i j l e)))
       (first-below Seen seen (suc bound))
     where
       found : (f : First Seen (suc bound)) → (s : First (λ i. t i ≡ t (f .at)) (f .at))
@@ -77,7 +77,7 @@ module _ {A : Type 0} (t : ℕ → A) (same? : (i j : ℕ) → Dec (t i ≡ t j)
             record {
               positive = omega (arith, s .below);
               back = rw e (s .holds);
-              first = λ i j l k same. f .least j (omega arith) (meet i j l same);
+              first = λ i j l k same. f .least j (omega arith) (earlier-seen i j l same);
             },
             omega (arith, f .below),
           )

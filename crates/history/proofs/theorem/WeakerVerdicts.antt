@@ -84,7 +84,7 @@ leaving-no-run A =
     omega arith
 
 leaving-no-lasso : Lasso leaving [] zeroTail → ⊥
-leaving-no-lasso = no-lasso leaving leaving-fits leaving-no-run
+leaving-no-lasso = no-lasso leaving leaving-no-run
 
 -- its trees t(0), t(1) and t(2) have one, two and three nodes, and t(3) is t(2); at the letter from t(2) the second
 -- child of the root accepts, and becomes the first child

@@ -40,10 +40,10 @@ module _ (R : Rule) (u head rest : List ℕ) where
   cut-rest r = ap (readLetters R rest) (cut-round r) ∙ sym (read-append R head rest (t r)) ∙ sym (round-next R u (head ++ rest) r)
 
   -- t(0) and t(1) lead to the same tree at the cut
-  module _ (meet : s 0 ≡ s 1) where
+  module _ (same : s 0 ≡ s 1) where
     -- so t(1) comes back
     again : t 1 ≡ t 2
-    again = sym (cut-rest 0) ∙ ap (readLetters R rest) meet ∙ cut-rest 1
+    again = sym (cut-rest 0) ∙ ap (readLetters R rest) same ∙ cut-rest 1
 
     -- and the first repeat is that of t(1), if it is not that of t(0)
     pub repeat-second : (t 0 ≡ t 1 → ⊥) → FirstRepeat t 1 1
@@ -55,7 +55,7 @@ module _ (R : Rule) (u head rest : List ℕ) where
       cut-stable =
           ap (λ (x : List ℕ). stableThrough R (t 1) x w) (rounds-one (head ++ rest)) ∙ stable-append R (t 1) head rest w
           ∙ ap₂ _&&_ (ap (λ (T : Tree). stableThrough R T head w) (sym (cut-rest 0)))
-          (ap (λ (T : Tree). stableThrough R T rest w) (sym (cut-round 1) ∙ sym meet))
+          (ap (λ (T : Tree). stableThrough R T rest w) (sym (cut-round 1) ∙ sym same))
           ∙ and-comm (stableThrough R (readLetters R rest (s 0)) head w) (stableThrough R (s 0) rest w) ∙ sym (stable-append R (s 0) rest head w)
           ∙ ap (λ (x : List ℕ). stableThrough R (s 0) x w) (sym (rounds-one (rest ++ head)))
 
@@ -63,7 +63,7 @@ module _ (R : Rule) (u head rest : List ℕ) where
       cut-accepting =
           ap (λ (x : List ℕ). acceptingOnce R (t 1) x w) (rounds-one (head ++ rest)) ∙ accepting-append R (t 1) head rest w
           ∙ ap₂ _||_ (ap (λ (T : Tree). acceptingOnce R T head w) (sym (cut-rest 0)))
-          (ap (λ (T : Tree). acceptingOnce R T rest w) (sym (cut-round 1) ∙ sym meet))
+          (ap (λ (T : Tree). acceptingOnce R T rest w) (sym (cut-round 1) ∙ sym same))
           ∙ or-comm (acceptingOnce R (readLetters R rest (s 0)) head w) (acceptingOnce R (s 0) rest w) ∙ sym (accepting-append R (s 0) rest head w)
           ∙ ap (λ (x : List ℕ). acceptingOnce R (s 0) x w) (sym (rounds-one (rest ++ head)))
 

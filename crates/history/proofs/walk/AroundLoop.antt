@@ -5,8 +5,7 @@ use mathlib.Core.Bool.{true}
 use mathlib.Core.List.{List, _++_, append-assoc}
 use Prim.Native.Nat.{ℕ, suc, _+_, _*_, _%_, _≤_, _<_}
 use native.Mathlib.Omega.{arith}
-use native.Mathlib.Nat.{zero-mod, suc-mod, mod-self, mod-lt, mod-eq-of-lt, add-mul-mod-self-right, mul-pos, mul-le-mul-right}
-use native.Mathlib.Decide.{decLt}
+use native.Mathlib.Nat.{zero-mod, mod-lt, mod-eq-of-lt, add-mul-mod-self-right, mul-pos, mul-le-mul-right}
 use lib.Bits.{bitOr}
 use lib.ListN.{length, getD}
 use Rattle.base.specs.BitSet.{member}
@@ -18,6 +17,7 @@ use Rattle.word.proofs.Paths.{rounds-add, leads-append, leads-repeat}
 use Rattle.word.proofs.Periods.{Periodic}
 use Rattle.word.proofs.Positions.{letter-behind, letter-unrolled, length-rounds}
 use Rattle.word.proofs.Traces.{Trace, place-of, leads-trace}
+use Rattle.word.proofs.LassoToRun.{next-place}
 use Rattle.history.specs.Rounds.{roundTree, FirstRepeat}
 use Rattle.history.proofs.walk.Stretches.{length-lead}
 use Rattle.history.proofs.walk.TreesOfWalk.{treeAt, walk-periodic}
@@ -32,14 +32,6 @@ leads-into R u v i j s c t d lead loop k h =
     (leads-append R (u ++ rounds i v) (rounds (k * j) v) s c t d t lead (leads-repeat R v t d j k h loop))
 
 -- AROUND IT
-
--- the next place of a loop of m places; its end is its beginning
-next-place : (m : ℕ) (state : ℕ → ℕ) → 0 < m → state m ≡ state 0 → (d : ℕ) → state (suc d % m) ≡ state (suc (d % m))
-next-place m state positive back d = ap state (suc-mod d m) ∙ go (decLt (suc (d % m)) m)
-  where
-    go : Dec (suc (d % m) < m) → state (suc (d % m) % m) ≡ state (suc (d % m))
-    go (yes l) = ap state (mod-eq-of-lt l)
-    go (no l) = let e : suc (d % m) ≡ m = omega (arith, mod-lt d positive) in rw (e, mod-self) (sym back)
 
 -- from the end of round r on: the letters of the walk, the trees of R, and the states of a run of S around a loop that begins in a state
 -- and takes some sets. All return after one period.
