@@ -1,6 +1,7 @@
 //! Times: the library against the tuned judges, on the same inputs, in one
 //! run, by turns; the best of several repetitions counts.
 
+mod never;
 mod pairs;
 
 use crate::answers::{Calls, Judges, Numbers};
@@ -221,7 +222,9 @@ pub fn bench(folder: Option<&str>, slow: bool) -> bool {
     let mut lists = vec![short_walks(&mut random), long_walks(&mut random)];
     lists.push(uncut_walks(&lists[1]));
     if let Some(folder) = folder {
-        lists.push(hard_walks(folder, false));
+        let hard = hard_walks(folder, false);
+        lists.push(never::never_alone_walks(&hard));
+        lists.push(hard);
         if slow {
             lists.push(hard_walks(folder, true));
         }

@@ -9,7 +9,7 @@ mod judges;
 mod spelling;
 mod successors;
 mod table;
-mod tree;
+pub mod tree;
 
 use crate::answers::{
     Calls, Judges, Numbers, PlainAnswer, ReadAnswer, SameAnswer, StartAnswer, StepAnswer,

@@ -148,6 +148,14 @@ pub set-ext-below : (n a b : ℕ) → a < 2 ^ n → b < 2 ^ n → ((q : ℕ) →
 set-ext-below n a b ha hb h = set-ext a b (λ q. bool-ext (member a q) (member b q)
     (λ m. sym (h q (member-lt n a q ha m)) ∙ m) (λ m. h q (member-lt n b q hb m) ∙ m))
 
+-- and so are sets that are subsets of one another
+pub subset-antisym : (a b : ℕ) → Subset a b → Subset b a → a ≡ b
+subset-antisym a b h k = set-ext a b (λ q. bool-ext (member a q) (member b q) (h q) (k q))
+
+-- a union is included where both sets are
+pub union-subset : (a b c : ℕ) → Subset a c → Subset b c → Subset (bitOr a b) c
+union-subset a b c h k q m = ⊎-elim (h q) (k q) (or-in (member a q) (member b q) (sym (member-union a b q) ∙ m))
+
 -- union is associative
 pub union-assoc : (a b c : ℕ) → bitOr a (bitOr b c) ≡ bitOr (bitOr a b) c
 union-assoc a b c = set-ext _ _ (λ q. member-union a (bitOr b c) q ∙ ap (λ (x : Bool). member a q || x) (member-union b c q)
@@ -229,6 +237,21 @@ collect-single n p h = set-ext _ _ λ q. member-collect n (λ q. eqb p q) q
     ∙ bool-ext _ (eqb p q) (λ m. and-in (ltb q n) (eqb p q) m .1)
     (λ e. let same : p ≡ q = eqb-true p q e in and-both (ltb q n) (eqb p q) (lt-ltb q n (omega arith)) e)
     ∙ sym (member-single p q)
+
+-- of all numbers below n, and of none
+pub collect-all : (n : ℕ) → collect n (λ i. true) ≡ 2 ^ n - 1
+unfolding collect
+collect-all zero = refl
+collect-all (suc n) = omega (arith, collect-all n, pow-suc 2 n, pow-pos n)
+
+pub collect-none : (n : ℕ) → collect n (λ i. false) ≡ 0
+unfolding collect
+collect-none zero = refl
+collect-none (suc n) = omega (arith, collect-none n)
+
+-- so each number below n is a member of the first
+pub member-all : (n q : ℕ) → q < n → member (2 ^ n - 1) q ≡ true
+member-all n q h = ap (λ (s : ℕ). member s q) (sym (collect-all n)) ∙ member-collect n (λ i. true) q ∙ ap (λ (b : Bool). b && true) (lt-ltb q n h)
 
 -- one more number, above the others
 pub collect-more : (n : ℕ) (f : ℕ → Bool) → collect (suc n) f ≡ bitOr (collect n f) (cond (f n) (2 ^ n) 0)

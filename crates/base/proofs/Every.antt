@@ -1,7 +1,7 @@
 -- Properties that every element of a list has, and tests of all elements.
 use mathlib.Core.Path.{_≡_, refl}
 use mathlib.Core.Logic.{⊎-elim}
-use mathlib.Core.Bool.{Bool, true, _&&_, _||_}
+use mathlib.Core.Bool.{Bool, true, _||_}
 use mathlib.Core.List.{List, [], _∷_, _++_, map, flatten}
 use Prim.Native.Nat.{ℕ, zero, suc, _<_}
 use native.Mathlib.Omega.{arith}
@@ -58,15 +58,11 @@ module _ {A : Type 0} (P Q : A → Type 0) where
 
 -- TESTS
 
-module _ {A : Type 0} (f : A → Bool) (l : List A) (at : ℕ) (d : A) (h : at < length l) where
-  -- the elements from a place on: the one there, then those behind it
-  pub all-from : allOf f (drop at l) ≡ (f (getD l at d) && allOf f (drop (suc at) l))
-  unfolding allOf
-  all-from = rw (drop-cons l at d h)
-
-  pub any-from : anyOf f (drop at l) ≡ (f (getD l at d) || anyOf f (drop (suc at) l))
-  unfolding anyOf
-  any-from = rw (drop-cons l at d h)
+-- the elements from a place on: the one there, then those behind it
+pub any-from : {A : Type 0} (f : A → Bool) (l : List A) (at : ℕ) (d : A) → at < length l
+    → anyOf f (drop at l) ≡ (f (getD l at d) || anyOf f (drop (suc at) l))
+unfolding anyOf
+any-from f l at d h = rw (drop-cons l at d h)
 
 -- numbers that are found to be below a limit are
 pub below-every : (limit : ℕ) (l : List ℕ) → allBelow limit l ≡ true → Every (λ x. x < limit) l

@@ -8,6 +8,7 @@ pub mod Accepted
 pub mod Numbers
 -- Lists.
 pub mod Every
+pub mod Largest
 pub mod Flattening
 pub mod Tabulate
 pub mod PartEnds

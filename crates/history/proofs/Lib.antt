@@ -10,6 +10,8 @@ pub mod repeat
 pub mod records
 -- Names of nodes: their order, where a node comes from, stable and accepting names, old numbers.
 pub mod names
+-- The root by itself: how it goes on, where it is the whole tree, and when it accepts.
+pub mod root
 -- One letter: the local form, that it is document 01's steps, one node, and the trees of a rule.
 pub mod step
 -- What a tree is: sets of states, conditions on nodes, hosts.

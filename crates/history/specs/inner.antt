@@ -3,3 +3,4 @@ pub mod Following
 pub mod NamesByDepth
 pub mod OldNumbers
 pub mod RecordChecks
+pub mod Root

@@ -6,12 +6,12 @@ use mathlib.Core.Bool.{Bool, false, cond}
 use mathlib.Core.List.{List, [], _∷_, _++_, append-nil}
 use Prim.Native.Nat.{ℕ, suc, _+_, _*_, _-_, _≤_, _<_}
 use native.Mathlib.Omega.{arith}
-use native.Mathlib.Decide.{decLt, ℕ-discrete}
+use native.Mathlib.Decide.{decLt}
 use native.Mathlib.Numerals.{add-one}
 use borrow.Author.Tests.{lt-ltb, le-ltb, eq-eqb, ne-eqb}
 use lib.Dec.{eqb, ltb}
 use lib.ListN.{length, getD, set, take, drop, length-set, length-take, drop-of-length-le}
-use lib.Seq.{drop-cons, getD-take, getD-set-same, getD-set-other, take-suc-set, drop-drop, drop-set-lt, length-take-le}
+use lib.Seq.{drop-cons, getD-take, getD-set-other, take-suc-set, drop-drop, drop-set-lt, length-take-le}
 use Rattle.rule.specs.Limits.{maxStates, maxSets}
 use Rattle.rule.specs.inner.Lookup.{Lookup, lookUp}
 use Rattle.tree.specs.inner.Nodes.{blankNode}
@@ -20,6 +20,7 @@ use Rattle.tree.specs.inner.RecordNodes.{places}
 use Rattle.tree.specs.inner.Sides.{TwoSides}
 use Rattle.tree.specs.declared.nodes.Node.{Node as CodeNode}
 use Rattle.tree.proofs.PackedWords.{node-read, node-written, nodes-many}
+use Rattle.tree.proofs.TreeNodes.{side-written, sides-long}
 use Rattle.step.specs.inner.Pass.{SetsFit, newLabels, sproutNode, settledNode, written, joinedIf, Level, outermost, deepest, Pass, passedNode, passOver, atStart, steppedNodes, levelsOf, ByDepth, Entered}
 use Rattle.step.specs.inner.Stepping.{nodesOn, Steppable, Stepping}
 use Rattle.step.specs.declared.pass.NewLabels.{NewLabels}
@@ -273,19 +274,6 @@ module _ (lookup : Lookup) (k count from : ℕ) (before : List (List ℕ)) where
         accepting stable top′ i′ j → OnSides sides taken′ sprout′ named′ accepting stable top′ i′ j
     sides-kept r = record { side = v .side; arrays = v .arrays; kept = v .kept; behind = v .behind; reading = r }
 
-    -- a word written leaves the sides as long as they were
-    still-long : (word side : ℕ) → side < 2 → length (getD (set sides (1 - from) (set (getD sides (1 - from) []) j word)) side []) ≡ places
-    still-long word side h = go (ℕ-discrete side (1 - from))
-      where
-        go : Dec (side ≡ 1 - from)
-            → length (getD (set sides (1 - from) (set (getD sides (1 - from) []) j word)) side []) ≡ places
-        go (yes e) = rw (
-          e,
-          getD-set-same sides (1 - from) (set (getD sides (1 - from) []) j word) [] (omega (arith, v .arrays .two)),
-          length-set (getD sides (1 - from) []) j word,
-        ) (v .arrays .long (1 - from) (omega arith))
-        go (no e) = rw (getD-set-other sides (1 - from) side (set (getD sides (1 - from) []) j word) [] e) (v .arrays .long side h)
-
     -- a node is written
     pub sides-written : {taken′ sprout′ : List ℕ} {named′ : List Bool} {accepting′ stable′ top′ i′ : ℕ} (x : CodeNode) (word : ℕ)
         → unpacked word ≡ x
@@ -293,13 +281,10 @@ module _ (lookup : Lookup) (k count from : ℕ) (before : List (List ℕ)) where
         accepting′ stable′ top′ i′ (j + 1)
         → OnSides (set sides (1 - from) (set (getD sides (1 - from) []) j word)) taken′ sprout′ named′ accepting′ stable′ top′ i′ (j + 1)
     sides-written x word is r =
-        let one = v .side in
-        let two = v .arrays .two in
-        let other : getD (set sides (1 - from) (set (getD sides (1 - from) []) j word)) (1 - from) [] ≡ set (getD sides (1 - from) []) j word =
-        getD-set-same sides (1 - from) _ [] (omega arith) in
+        let other = side-written (v .arrays) (1 - from) (omega arith) j word in
         record {
           side = v .side;
-          arrays = record { two = length-set sides (1 - from) _ ∙ two; long = still-long word };
+          arrays = sides-long (v .arrays) (1 - from) (omega arith) j word;
           kept = getD-set-other sides (1 - from) from _ [] (λ e. omega arith) ∙ v .kept;
           behind = rw (other, add-one) (drop-set-lt (suc j) (getD sides (1 - from) []) j word (omega arith)
               ∙ drop-more (getD sides (1 - from) []) (getD before (1 - from) []) j (v .behind));

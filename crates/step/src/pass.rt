@@ -78,7 +78,7 @@ fn sprout_node(depth: usize, sprout: u16, taken: u16) -> Node
 }
 
 // The active set of an accepting node "goes up by one, from k to 1".
-fn next_set(k: u8, active: u8) -> u8
+pub fn next_set(k: u8, active: u8) -> u8
     requires { ⌜ active ≤ maxSets ⌝ }
     ensures { λ r. ⌜ r ≡ nextSet k active ⌝ }
 {

@@ -3,9 +3,10 @@ use mathlib.Core.Path.{_≡_, refl, sym, _∙_, ap}
 use mathlib.Core.Bool.{true}
 use mathlib.Core.List.{List, [], map, map-append, _∷_}
 use Prim.Native.Nat.{ℕ, suc, _-_, _≤_, _<_, zero}
+use native.Mathlib.Decide.{ℕ-discrete}
 use native.Mathlib.Omega.{arith}
-use lib.ListN.{length, getD, replicate, length-append, length-map}
-use lib.Seq.{take-at}
+use lib.ListN.{length, getD, set, replicate, length-append, length-map, length-set}
+use lib.Seq.{take-at, getD-set-same, getD-set-other}
 use Rattle.base.specs.Lists.{pad}
 use Rattle.rule.specs.Limits.{maxStates}
 use Rattle.rule.specs.Rule.{Rule}
@@ -75,3 +76,18 @@ two-sides words other long-words long-other = record { two = refl; long = both }
     both zero h = long-words
     both (suc zero) h = long-other
     both (suc (suc side)) h = absurd (omega arith)
+
+-- one word written on a side: it stands there, and the sides are as long as they were
+module _ {sides : List (List ℕ)} (arrays : TwoSides sides) (to : ℕ) (one : to < 2) (j word : ℕ) where
+  abbrev after : List (List ℕ)
+  after = set sides to (set (getD sides to []) j word)
+
+  pub side-written : getD after to [] ≡ set (getD sides to []) j word
+  side-written = getD-set-same sides to (set (getD sides to []) j word) [] (omega (arith, arrays .two))
+
+  pub sides-long : TwoSides after
+  sides-long = record { two = length-set sides to _ ∙ arrays .two; long = λ side h. go side h (ℕ-discrete side to) }
+    where
+      go : (side : ℕ) → side < 2 → Dec (side ≡ to) → length (getD after side []) ≡ places
+      go side h (yes e) = rw (e, side-written, length-set (getD sides to []) j word) (arrays .long to one)
+      go side h (no e) = rw (getD-set-other sides to side (set (getD sides to []) j word) [] e) (arrays .long side h)

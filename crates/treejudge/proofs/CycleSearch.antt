@@ -15,11 +15,11 @@ use Rattle.history.proofs.repeat.RepeatExists.{repeat-exists}
 use Rattle.history.proofs.verdict.CycleVerdict.{read-rounds}
 use Rattle.history.proofs.repeat.CycleFinding.{BrentSoFar, Skips, brent-start, none-skips, brent-more, brent-reset, reset-skips, brent-found, lam-steps, power-doubles, brent-measure}
 use Rattle.tree.specs.declared.nodes.Tree.{Tree as CodeTree}
-use Rattle.treejudge.specs.inner.Names.{allKept, Follows, FollowsOn, FollowsTo}
+use Rattle.letters.specs.inner.Names.{allKept, Follows, FollowsOn, FollowsTo}
 use Rattle.treejudge.specs.inner.SameNodes.{sameTrees}
 use Rattle.treejudge.specs.inner.Cycles.{AtRound, CycleOf}
-use Rattle.treejudge.specs.declared.follow.Maps.{Maps}
-use Rattle.treejudge.proofs.NamesFollowed.{begun-follows}
+use Rattle.letters.specs.declared.follow.Maps.{Maps}
+use Rattle.letters.proofs.NamesFollowed.{begun-follows}
 use Rattle.treejudge.proofs.RoundsRead.{both-small, nodes-same, nodes-differ}
 
 -- one round more

@@ -11,7 +11,7 @@ use Rattle.history.specs.Rounds.{readLetters, roundTree}
 use Rattle.history.proofs.walk.TreesOfWalk.{round-next}
 use Rattle.history.proofs.repeat.FirstRepeats.{repeat-only}
 use Rattle.tree.specs.declared.nodes.Tree.{Tree as CodeTree}
-use Rattle.treejudge.specs.inner.Reading.{ReadsTo}
+use Rattle.letters.specs.inner.Reading.{ReadsTo}
 use Rattle.treejudge.specs.inner.SameNodes.{sameTrees}
 use Rattle.treejudge.specs.inner.Cycles.{AtRound, Ahead, ReadTo, Bracket, Searched}
 use Rattle.treejudge.specs.declared.cycle.Cycle.{Cycle}

@@ -26,7 +26,7 @@ use Rattle.tree.specs.inner.RecordNodes.{startNodes, HasNodes}
 use Rattle.tree.specs.declared.nodes.Tree.{Tree as CodeTree}
 use Rattle.tree.proofs.StartCall.{start-holds}
 use Rattle.treejudge.specs.JudgeCall.{noName, treeAnswer, namesAfter, Judged}
-use Rattle.treejudge.specs.inner.Reading.{HasSets, Reads, ReadsTo}
+use Rattle.letters.specs.inner.Reading.{HasSets, Reads, ReadsTo}
 use Rattle.treejudge.specs.inner.Cycles.{AtRound}
 use Rattle.treejudge.specs.inner.Repeats.{RepeatOf}
 use Rattle.treejudge.specs.inner.NodeNames.{Lowest, SomeNode, IsName}

@@ -2,10 +2,6 @@
 pub mod TreeVerdict
 pub mod Examples
 pub mod Judging
--- Reading letters, and following names through them.
-pub mod LettersRead
-pub mod MapsCarried
-pub mod NamesFollowed
 -- Finding the first repeat: rounds read and compared, the search for the period, the search for the entry, and what they find.
 pub mod SameTrees
 pub mod RoundsRead

@@ -25,14 +25,14 @@ use Rattle.history.proofs.repeat.FirstRepeats.{repeat-at-once}
 use Rattle.history.proofs.verdict.CutCycle.{cut-round, cut-rest, repeat-second, cut-first, cut-none}
 use Rattle.tree.specs.inner.Nodes.{HoldsTree}
 use Rattle.tree.specs.declared.nodes.Tree.{Tree as CodeTree}
-use Rattle.treejudge.specs.inner.Reading.{Reads, ReadsTo}
-use Rattle.treejudge.specs.inner.Names.{allKept, Follows, FollowsOn, FollowsTo}
+use Rattle.letters.specs.inner.Reading.{Reads, ReadsTo}
+use Rattle.letters.specs.inner.Names.{allKept, Follows, FollowsOn, FollowsTo}
 use Rattle.treejudge.specs.inner.SameNodes.{sameTrees}
 use Rattle.treejudge.specs.inner.Cycles.{AtRound, CycleFound, Searched, EntryFound}
 use Rattle.treejudge.specs.inner.Repeats.{RepeatOf}
 use Rattle.treejudge.specs.declared.cycle.Cycle.{Cycle}
-use Rattle.treejudge.specs.declared.follow.Maps.{Maps}
-use Rattle.treejudge.proofs.NamesFollowed.{begun-follows}
+use Rattle.letters.specs.declared.follow.Maps.{Maps}
+use Rattle.letters.proofs.NamesFollowed.{begun-follows}
 use Rattle.treejudge.proofs.SameTrees.{same-nodes-same, same-trees-same}
 
 -- BY THE SEARCH

@@ -12,7 +12,7 @@ use Rattle.history.specs.Rounds.{roundTree}
 use Rattle.history.proofs.walk.TreesOfWalk.{round-next}
 use Rattle.tree.specs.declared.nodes.Tree.{Tree as CodeTree}
 use Rattle.tree.proofs.TreeNodes.{tree-small}
-use Rattle.treejudge.specs.inner.Reading.{Reads, ReadsTo}
+use Rattle.letters.specs.inner.Reading.{Reads, ReadsTo}
 use Rattle.treejudge.specs.inner.SameNodes.{sameTrees}
 use Rattle.treejudge.specs.inner.Cycles.{AtRound, Ahead}
 use Rattle.treejudge.proofs.SameTrees.{same-nodes-same, same-trees-same}

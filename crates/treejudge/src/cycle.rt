@@ -1,9 +1,9 @@
 // The period, by Brent's search: one tree is saved, t(power − 1), and rounds are read from it until it comes back. If it has not
 // come back after `power` rounds, the tree reached is saved instead, and the power doubled. The nodes of the saved tree are followed
 // on the way: where it comes back, its rounds were one cycle, and the verdict is known.
-use crate::follow::begin;
-use crate::follow::follow_letters;
 use crate::same::same_tree;
+use letters::follow::begin;
+use letters::follow::follow_round;
 use tree::nodes::Tree;
 use word::lookups::Lookups;
 ghost use Rattle.treejudge.specs.inner.Cycles.{FirstRound, CycleFound};
@@ -29,10 +29,11 @@ pub fn find_cycle(lookups: &Lookups, k: u8, v: &[u8], first: Tree) -> Cycle
     let mut half = 0u64;
     let mut power = 1u64;
     let mut lam = 0u64;
+    let mut root_first = true;
     let mut sides = first.laid();
     let mut now = begin(first.on_first_side());
     loop {
-        let next = follow_letters(lookups, k, v, &mut sides, now);
+        let next = follow_round(lookups, k, v, &mut sides, now, &mut root_first);
         lam += 1;
         if same_tree(saved, &sides, next.tree) {
             return Cycle {

@@ -1,8 +1,8 @@
 // The entry, once the period is known: two places that are a period apart go forward together, and the first that have equal trees
 // are t(e) and t(e + p).
 use crate::cycle::Cycle;
-use crate::letters::read_letters;
 use crate::same::same_on;
+use letters::read::read_round;
 use tree::nodes::Tree;
 use word::lookups::Lookups;
 ghost use Prim.Native.Nat.{_≤_};
@@ -13,11 +13,12 @@ fn read_rounds(lookups: &Lookups, k: u8, v: &[u8], count: u64, tree: Tree) -> Tr
     requires { ⌜ SomeRound (now lookups) k (now v) tree ⌝ }
     ensures { λ r. ⌜ Ahead (now (lookups .entry)) k (now (v .entry)) count tree r ⌝ }
 {
+    let mut root_first = true;
     let mut sides = tree.laid();
     let mut now = tree.on_first_side();
     let mut round = 0u64;
     while round < count {
-        now = read_letters(lookups, k, v, &mut sides, now);
+        now = read_round(lookups, k, v, &mut sides, now, &mut root_first);
         round += 1;
     }
     Tree::taken(&sides, now)
@@ -36,6 +37,7 @@ fn entry_between(
     requires { ⌜ Bracketed (now lookups) k (now v) low high first later ⌝ }
     ensures { λ r. ⌜ EntryBetween (now (lookups .entry)) k (now (v .entry)) low high first later r ⌝ }
 {
+    let mut root_first = true;
     let mut here = first.laid();
     let mut there = later.laid();
     let mut now = first.on_first_side();
@@ -49,8 +51,8 @@ fn entry_between(
         if place == high {
             return high;
         }
-        now = read_letters(lookups, k, v, &mut here, now);
-        ahead = read_letters(lookups, k, v, &mut there, ahead);
+        now = read_round(lookups, k, v, &mut here, now, &mut root_first);
+        ahead = read_round(lookups, k, v, &mut there, ahead, &mut root_first);
     }
     high
 }

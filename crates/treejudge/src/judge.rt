@@ -1,9 +1,9 @@
 // The tree judge: entry and period of the first repeated tree at a round end, and the verdict with its node.
-use crate::letters::read_letters;
 use crate::name::first_node;
 use crate::name::node_name;
 use crate::name::store_name;
 use crate::repeat::find_repeat;
+use letters::read::read_letters;
 use rule::limits::LETTERS;
 use rule::lookup::ENTRIES;
 use table::header::Header;

@@ -1,10 +1,10 @@
 // The first repeat of a walk's trees: by the search for the cycle, or, where the tail is long, mostly at once.
 use crate::cycle::find_cycle;
 use crate::entry::find_entry;
-use crate::follow::begin;
-use crate::follow::follow_letters;
-use crate::letters::read_letters;
 use crate::same::same_tree;
+use letters::follow::begin;
+use letters::follow::follow_letters;
+use letters::read::read_letters;
 use tree::nodes::Tree;
 use word::lookups::Lookups;
 use word::walk::letters_left;

@@ -2,13 +2,14 @@
 use mathlib.Core.Path.{_≡_, sym, _∙_, ap}
 use mathlib.Core.Bool.{_&&_}
 use mathlib.Core.List.{List, []}
-use Prim.Native.Nat.{ℕ, _≤_}
+use Prim.Native.Nat.{ℕ, _≤_, _<_}
 use borrow.Author.Tests.{le-leb}
 use lib.Dec.{leb}
 use lib.ListN.{length}
-use Rattle.base.specs.Lists.{allBelow}
+use Rattle.base.specs.Lists.{Every, allBelow}
 use Rattle.base.specs.Outcome.{refused, accepted, numberOf}
 use Rattle.base.proofs.Accepted.{IfAccepted, itself, of-accepted, asked, followed, then-accepted}
+use Rattle.rule.specs.Limits.{maxLetters}
 use Rattle.rule.specs.Rule.{Grid, Rule}
 use Rattle.rule.specs.WellFormed.{WellFormed}
 use Rattle.table.specs.Table.{readRule}
@@ -50,10 +51,16 @@ module _ (table u v : List ℕ) where
     pub walk-yes : number ≡ 0 → walkQuestions table u v ≡ accepted (r .rule)
     walk-yes none = behind ∙ walk-next (header .letters) u v (accepted (r .rule)) (sym e ∙ none)
 
-    -- then the walk is prepared, once its letters have their look-ups
+    -- then the letters are below m, which is within the limit
+    pub walk-letters : number ≡ 0 → (header .letters ≤ maxLetters) × Every (λ a. a < header .letters) u × Every (λ a. a < header .letters) v
+    walk-letters none =
+        let (_, _, _, below, below′) = walk-accepted (header .letters) u v (sym e ∙ none) in
+        (rw (r .holds .numbers) (r .holds .limits .letters), below, below′)
+
+    -- and the walk is prepared, once they have their look-ups
     pub walk-ready : number ≡ 0 → (before : Lookups) {lookups : Lookups} → lookups ≡ lookupsAfter words u v before → Prepared (r .rule) header lookups u v
     walk-ready none before {lookups} made =
-        let (_, _, _, below, below′) = walk-accepted (header .letters) u v (sym e ∙ none) in
+        let (_, below, below′) = walk-letters none in
         walk-prepared (r .holds) u v below below′ before lookups made
 
   -- AN ACCEPTED WALK

@@ -3,21 +3,32 @@ use mathlib.Core.Path.{_≡_, refl, sym, _∙_, ap, ap₂}
 use mathlib.Core.Logic.{_⊎_, ⊎-elim}
 use mathlib.Core.Bool.{Bool, true, false, _&&_, _||_, cond, or-assoc, or-false}
 use mathlib.Core.List.{List, [], _∷_, _++_}
-use Prim.Native.Nat.{ℕ, _+_, _-_, _%_, _^_, _≤_, _<_}
+use Prim.Native.Nat.{ℕ, zero, suc, _+_, _-_, _%_, _^_, _≤_, _<_}
 use native.Mathlib.Decide.{ℕ-discrete}
 use native.Mathlib.Numerals.{add-one}
 use native.Mathlib.Omega.{arith}
-use borrow.Author.Tests.{eq-eqb, lt-ltb}
+use borrow.Author.Tests.{eqb-true, eq-eqb, lt-ltb}
 use lib.Bits.{bitAnd, bitOr, and-le-r, or-zero-r}
 use lib.Count.{trailingZeros}
-use lib.Dec.{eqb}
+use lib.Dec.{eqb, ltb}
 use lib.ListN.{length, getD, take, set, length-set}
 use lib.Seq.{take-suc, take-all, ext-getD, getD-set-same, getD-set-other}
 use Rattle.base.specs.BitSet.{member, Subset, collect}
 use Rattle.base.specs.Lists.{Every, tabulate}
-use Rattle.base.proofs.BitSet.{member-none, member-union, union-assoc, member-collect, collect-ext, collect-union, collect-single}
+use Rattle.base.proofs.BitSet.{
+  member-none,
+  member-union,
+  subset-antisym,
+  union-subset,
+  union-assoc,
+  member-collect,
+  collect-ext,
+  collect-union,
+  collect-single,
+  member-all,
+}
 use Rattle.base.proofs.Every.{every-weaker, every-both}
-use Rattle.base.proofs.Logic.{look, clash, never, or-l, or-r}
+use Rattle.base.proofs.Logic.{look, clash, never, and-both, and-in, or-l, or-r, or-in}
 use Rattle.base.proofs.LowestBit.{lowest-inside, lowest-stands, cleared-others, cleared-keeps}
 use Rattle.base.proofs.Tabulate.{length-tabulate, getD-tabulate, tabulate-ext}
 use Rattle.rule.specs.Limits.{maxLetters}
@@ -57,6 +68,24 @@ letters-more : (w : List ℕ) (b : ℕ) → lettersOf (w ++ (b ∷ [])) ≡ bitO
 letters-more w b = collect-ext maxLetters _ _ (λ a l. occurs-more w b a) ∙ sym (collect-union maxLetters (occurs w) (λ a. eqb (b % maxLetters) a))
     ∙ ap (bitOr (lettersOf w)) (collect-single maxLetters (b % maxLetters) (omega arith))
 
+-- a letter of the map is below the limit, and occurs
+letter-occurs : (w : List ℕ) (a : ℕ) → member (lettersOf w) a ≡ true → (ltb a maxLetters ≡ true) × (occurs w a ≡ true)
+letter-occurs w a h = and-in (ltb a maxLetters) _ (sym (member-collect maxLetters (occurs w) a) ∙ h)
+
+-- the letters at the front of a word are among its letters
+letters-front : (at : ℕ) (w : List ℕ) → Subset (lettersOf (take at w)) (lettersOf w)
+unfolding occurs
+letters-front at w a h =
+    let (low, comes) = letter-occurs (take at w) a h in
+    member-collect maxLetters (occurs w) a ∙ and-both (ltb a maxLetters) _ low (front at w a comes)
+  where
+    front : (at : ℕ) (w : List ℕ) (a : ℕ) → occurs (take at w) a ≡ true → occurs w a ≡ true
+    front zero w a h = clash refl h
+    front (suc at) [] a h = clash refl h
+    front (suc at) (b ∷ w) a h = ⊎-elim (or-l (eqb (b % maxLetters) a) (occurs w a))
+        (λ later. or-r (eqb (b % maxLetters) a) (occurs w a) (front at w a later))
+        (or-in (eqb (b % maxLetters) a) (occurs (take at w) a) h)
+
 -- the map of the first `at` letters of w, joined to the others
 pub record LettersUpTo (others : ℕ) (w : List ℕ) (at letters : ℕ) : Type 0 where
   pub upto : at ≤ length w
@@ -76,6 +105,35 @@ module _ (others : ℕ) (w : List ℕ) (at letters : ℕ) (v : LettersUpTo other
 
   pub letters-end : length w ≤ at → letters ≡ bitOr others (lettersOf w)
   letters-end h = v .map ∙ ap (λ (x : List ℕ). bitOr others (lettersOf x)) (take-all at w h)
+
+  -- or when all that can come have come
+  pub letters-all : (all : ℕ) → Subset (bitOr others (lettersOf w)) all → letters ≡ all → letters ≡ bitOr others (lettersOf w)
+  letters-all all inside e = subset-antisym letters (bitOr others (lettersOf w)) (rw (v .map) so-far) (rw e inside)
+    where
+      so-far : Subset (bitOr others (lettersOf (take at w))) (bitOr others (lettersOf w))
+      so-far = union-subset others (lettersOf (take at w)) (bitOr others (lettersOf w))
+          (λ a m. member-union others (lettersOf w) a ∙ or-l (member others a) _ m)
+          (λ a m. member-union others (lettersOf w) a ∙ or-r (member others a) _ (letters-front at w a m))
+
+-- all that can come: where a rule has m letters, those below m
+module _ (m all : ℕ) (few : m ≤ maxLetters) (is : all ≡ 2 ^ m - 1) where
+  occurs-below : (w : List ℕ) → Every (λ b. b < m) w → (a : ℕ) → occurs w a ≡ true → a < m
+  unfolding occurs
+  occurs-below [] below a h = clash refl h
+  occurs-below (b ∷ w) (less, below) a h = ⊎-elim (λ e. omega (arith, eqb-true (b % maxLetters) a e)) (occurs-below w below a)
+      (or-in (eqb (b % maxLetters) a) (occurs w a) h)
+
+  letters-among : (w : List ℕ) → Every (λ b. b < m) w → Subset (lettersOf w) all
+  letters-among w below a h = rw is (member-all m a (occurs-below w below a (letter-occurs w a h .1)))
+
+  -- the letters of u, and those of v joined to them
+  module _ (u : List ℕ) (lead : Every (λ b. b < m) u) where
+    pub lead-among : Subset (bitOr 0 (lettersOf u)) all
+    lead-among = union-subset 0 (lettersOf u) all (λ a h. clash (member-none a) h) (letters-among u lead)
+
+    pub walk-among : (v : List ℕ) → Every (λ b. b < m) v → (lead-letters : ℕ) → lead-letters ≡ bitOr 0 (lettersOf u)
+        → Subset (bitOr lead-letters (lettersOf v)) all
+    walk-among v tail lead-letters lead-are = union-subset lead-letters (lettersOf v) all (rw lead-are lead-among) (letters-among v tail)
 
 -- THEIR LOOK-UPS
 

@@ -29,7 +29,7 @@ pub fn walk_questions(table: &[u8], u: &[u8], v: &[u8], lookups: &mut Lookups) -
             if number != 0 {
                 return Reading::Refused(number);
             }
-            walk_lookups(&words, u, v, lookups);
+            walk_lookups(&words, header.letters, u, v, lookups);
             Reading::Rule(header)
         }
     }

@@ -10,8 +10,8 @@ use lib.Bits.{bitAnd, bitOr, or-step}
 use lib.Count.{ones, onesIn, ones-step}
 use lib.Dec.{eqb}
 use Rattle.base.specs.BitSet.{member, minus, Subset, ProperSubset}
-use Rattle.base.proofs.Logic.{look, clash, never, bool-ext, and-both, and-in, not-out, not-in}
-use Rattle.base.proofs.BitSet.{member-zero, member-suc, member-none, member-inter, member-minus, some-member, empty-set, set-ext}
+use Rattle.base.proofs.Logic.{look, clash, never, and-both, and-in, not-out, not-in}
+use Rattle.base.proofs.BitSet.{member-zero, member-suc, member-none, member-inter, member-minus, some-member, empty-set, subset-antisym}
 use Rattle.history.specs.Tree.{disjoint, strictlyInside}
 
 -- a set that tests empty has no member
@@ -32,10 +32,6 @@ minus-subset a b e q m = ⊎-elim (λ h. h)
     (λ h. clash (ap (λ (s : ℕ). member s q) e ∙ member-none q)
     (member-minus a b q ∙ and-both (member a q) (not (member b q)) m (not-out (member b q) h)))
     (look (member b q))
-
--- sets that are subsets of one another are the same
-subset-antisym : (a b : ℕ) → Subset a b → Subset b a → a ≡ b
-subset-antisym a b h k = set-ext a b (λ q. bool-ext (member a q) (member b q) (h q) (k q))
 
 -- a subset that is not the whole leaves a member out
 pub subset-proper : (a b : ℕ) → Subset a b → (a ≡ b → ⊥) → ProperSubset a b

@@ -3,17 +3,14 @@
 use mathlib.Core.Path.{_≡_, refl, sym, _∙_, ap, ap₂, fun-ext}
 use mathlib.Core.Bool.{Bool, true, false, _&&_, _||_, and-true, and-false, and-assoc, or-false, or-assoc}
 use mathlib.Core.List.{List, [], _∷_, _++_}
-use Prim.Native.Nat.{ℕ, zero, suc, _-_, _^_, _≤_, _<_}
-use native.Mathlib.Omega.{arith}
-use native.Mathlib.Nat.{pow-suc}
+use Prim.Native.Nat.{ℕ, _-_, _^_, _≤_, _<_}
 use borrow.Author.Tests.{ltb-true, lt-ltb}
 use lib.Bits.{bitAnd, bitOr}
 use lib.Dec.{ltb}
 use lib.ListN.{getD}
-use lib.Pow.{pow-pos}
 use Rattle.base.specs.BitSet.{member, collect}
 use Rattle.base.proofs.Logic.{bool-ext, and-both, and-in}
-use Rattle.base.proofs.BitSet.{member-union, member-inter, set-ext, member-collect, collect-ext}
+use Rattle.base.proofs.BitSet.{member-union, member-inter, set-ext, member-collect, collect-ext, collect-all, collect-none}
 use Rattle.rule.specs.Rule.{Rule}
 use Rattle.rule.specs.WellFormed.{WellFormed}
 use Rattle.history.specs.Forest.{size, names}
@@ -65,17 +62,6 @@ module _ (T : Tree) where
       both : (s x y : Bool) → ((s && x) || (s && y)) ≡ (s && (x || y))
       both true x y = refl
       both false x y = refl
-
--- all numbers below n, and none
-collect-all : (n : ℕ) → collect n (λ i. true) ≡ 2 ^ n - 1
-unfolding collect
-collect-all zero = refl
-collect-all (suc n) = omega (arith, collect-all n, pow-suc 2 n, pow-pos n)
-
-collect-none : (n : ℕ) → collect n (λ i. false) ≡ 0
-unfolding collect
-collect-none zero = refl
-collect-none (suc n) = omega (arith, collect-none n)
 
 -- THE MAPS THAT ARE FOLLOWED
 

@@ -10,7 +10,7 @@ use Rattle.history.specs.Rounds.{roundTree, FirstRepeat}
 use Rattle.history.specs.inner.Following.{witnessMap}
 use Rattle.tree.specs.inner.Nodes.{HoldsTree}
 use Rattle.tree.specs.declared.nodes.Tree.{Tree as CodeTree}
-use Rattle.treejudge.specs.inner.Reading.{HasSets}
+use Rattle.letters.specs.inner.Reading.{HasSets}
 use Rattle.treejudge.specs.declared.cycle.Cycle.{Cycle}
 
 -- the walk u v v v … is read, and x is its tree t(r)

@@ -7,22 +7,22 @@ use mathlib.Core.List.{List}
 use Prim.Native.Nat.{ℕ, _-_}
 use Rattle.rule.specs.Rule.{Rule}
 use Rattle.tree.specs.inner.Sides.{treeOn, Stands}
-use Rattle.treejudge.specs.inner.Reading.{Readable}
+use Rattle.letters.specs.inner.Reading.{Readable}
 use Rattle.treejudge.specs.inner.Cycles.{Bracket, Bracketed, EntryBetween}
-use Rattle.treejudge.proofs.LettersRead.{laid-first}
+use Rattle.letters.proofs.LettersRead.{laid-first}
 use Rattle.treejudge.proofs.RoundsRead.{round-reads, both-small}
 use Rattle.treejudge.proofs.EntrySearch.{entry-here, entry-later, bracket-more}
 use Rattle.treejudge.proofs.entry.entry_between.Statement.{statement}
 use Rattle.treejudge.proofs.entry.entry_between.Tie as tie
 
 abbrev Inv-loop : tie.InvT-loop
-Inv-loop lookups k v low high here₀ there₀ now₀ ahead₀ place₀ here there now ahead place =
+Inv-loop lookups k v low high root-first₀ here₀ there₀ now₀ ahead₀ place₀ root-first here there now ahead place =
     (Stands here now × Stands there ahead) × ((R : Rule) (u : List ℕ) (entry period : ℕ)
     → Bracket R u v lookups k entry period low high (treeOn here₀ now₀) (treeOn there₀ ahead₀)
     → Bracket R u v lookups k entry period place high (treeOn here now) (treeOn there ahead))
 
 abbrev μ-loop : tie.MeasureT-loop
-μ-loop lookups k v low high here₀ there₀ now₀ ahead₀ place₀ here there now ahead place = high - place
+μ-loop lookups k v low high root-first₀ here₀ there₀ now₀ ahead₀ place₀ root-first here there now ahead place = high - place
 
 -- the two trees at hand
 at-hand : (c : tie.At-loop Inv-loop μ-loop) → let args = c .before .before .before .before .before .before .args in
@@ -95,17 +95,17 @@ returns-2 c R u entry period B =
       B .upto,
     )
 
-read-letters-requires : tie.Need-read-letters-requires Inv-loop μ-loop
+read-round-requires : tie.Need-read-round-requires Inv-loop μ-loop
 unfolding Readable
-read-letters-requires c κs =
-    let at = c .before .before .before .before .before .before .before in
+read-round-requires c κs =
+    let at = c .before .before .before .before .before .before .before .before in
     let (R, u, entry, period, N) = known at in
     (at .loop .inv .0 .0, (R, _, round-reads (N .place)))
 
-read-letters-requires-2 : tie.Need-read-letters-requires-2 Inv-loop μ-loop
+read-round-requires-2 : tie.Need-read-round-requires-2 Inv-loop μ-loop
 unfolding Readable
-read-letters-requires-2 c κs =
-    let at = c .before .before .before .before .before .before .before .before .before in
+read-round-requires-2 c κs =
+    let at = c .before .before .before .before .before .before .before .before .before .before .before in
     let (R, u, entry, period, N) = known at in
     (at .loop .inv .0 .1, (R, _, round-reads (N .ahead)))
 
@@ -114,12 +114,12 @@ loop-less c = search needs
 
 loop-again : tie.Need-loop-again Inv-loop μ-loop
 loop-again c =
-    let read = c .before .before in
-    let differ = read .before .before .before in
+    let read = c .before .before .before in
+    let differ = read .before .before .before .before in
     let same = differ .before in
     let at = same .before .before .before .before in
-    let (here, to) = read .read-letters .ensures in
-    let (there, to-ahead) = c .read-letters2 .ensures in (
+    let (here, to) = read .read-round .ensures in
+    let (there, to-ahead) = c .read-round2 .ensures in (
       (here, there),
       λ R u entry period B. bracket-more (at .loop .inv .1 R u entry period B) (sym (same .same-on .ensures) ∙ differ .if1 .left) to to-ahead,
     )
@@ -145,8 +145,8 @@ entry-between-spec =
     returns
     add-place
     returns-2
-    read-letters-requires
-    read-letters-requires-2
+    read-round-requires
+    read-round-requires-2
     loop-less
     loop-again
     returns-3)

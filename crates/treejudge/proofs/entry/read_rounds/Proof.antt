@@ -6,20 +6,20 @@ use mathlib.Core.List.{List}
 use Prim.Native.Nat.{ℕ, _+_, _-_, _≤_}
 use Rattle.rule.specs.Rule.{Rule}
 use Rattle.tree.specs.inner.Sides.{treeOn, Stands}
-use Rattle.treejudge.specs.inner.Reading.{Readable}
+use Rattle.letters.specs.inner.Reading.{Readable}
 use Rattle.treejudge.specs.inner.Cycles.{AtRound, SomeRound, Ahead}
-use Rattle.treejudge.proofs.LettersRead.{laid-first}
+use Rattle.letters.proofs.LettersRead.{laid-first}
 use Rattle.treejudge.proofs.RoundsRead.{round-reads, round-read}
 use Rattle.treejudge.proofs.entry.read_rounds.Statement.{statement}
 use Rattle.treejudge.proofs.entry.read_rounds.Tie as tie
 
 abbrev Inv-loop : tie.InvT-loop
-Inv-loop lookups k v count sides₀ now₀ round₀ sides now round =
+Inv-loop lookups k v count root-first₀ sides₀ now₀ round₀ root-first sides now round =
     ((round ≤ count) × Stands sides now) × ((R : Rule) (u : List ℕ) (r : ℕ) → AtRound R u v lookups k r (treeOn sides₀ now₀)
     → AtRound R u v lookups k (r + round) (treeOn sides now))
 
 abbrev μ-loop : tie.MeasureT-loop
-μ-loop lookups k v count sides₀ now₀ round₀ sides now round = count - round
+μ-loop lookups k v count root-first₀ sides₀ now₀ round₀ root-first sides now round = count - round
 
 -- the tree at hand
 at-hand : (c : tie.At-loop Inv-loop μ-loop) → let args = c .before .before .before .before .args in (R : Rule) (u : List ℕ) (r : ℕ)
@@ -40,10 +40,10 @@ loop-holds c = (
   λ R u r A. let e : r + 0 ≡ r = omega arith in rw e A,
 )
 
-read-letters-requires : tie.Need-read-letters-requires Inv-loop μ-loop
+read-round-requires : tie.Need-read-round-requires Inv-loop μ-loop
 unfolding SomeRound Readable
-read-letters-requires c κs =
-    let at = c .before .before in
+read-round-requires c κs =
+    let at = c .before .before .before in
     let (R, u, r, A) = at .before .before .before .before .pre in
     (at .loop .inv .0 .1, (R, _, round-reads (at-hand at R u r A)))
 
@@ -55,8 +55,8 @@ loop-less c = search needs
 
 loop-again : tie.Need-loop-again Inv-loop μ-loop
 loop-again c =
-    let at = c .before .before .before in
-    let (on, to) = c .read-letters .ensures in (
+    let at = c .before .before .before .before in
+    let (on, to) = c .read-round .ensures in (
       (omega arith, on),
       λ R u r A.
           let e : r + at .loop .round + 1 ≡ r + (at .loop .round + 1) = omega arith in
@@ -86,7 +86,7 @@ read-rounds-spec =
     laid-requires
     on-first-side-requires
     loop-holds
-    read-letters-requires
+    read-round-requires
     add-round
     loop-less
     loop-again

@@ -6,10 +6,10 @@ use Rattle.rule.specs.Rule.{Rule}
 use Rattle.word.specs.inner.Prepared.{Prepared}
 use Rattle.history.specs.Tree.{startTree}
 use Rattle.tree.specs.inner.Sides.{treeOn}
-use Rattle.treejudge.specs.inner.Reading.{Reads, Readable, ReadsTo}
+use Rattle.letters.specs.inner.Reading.{Reads, Readable, ReadsTo}
 use Rattle.treejudge.specs.inner.Cycles.{AtRound, FirstRound}
 use Rattle.treejudge.specs.inner.Repeats.{RepeatFound}
-use Rattle.treejudge.proofs.LettersRead.{laid-first, reads-taken}
+use Rattle.letters.proofs.LettersRead.{laid-first, reads-taken}
 use Rattle.treejudge.proofs.Judging.{sets-small, lead-reads, first-round, says-no, some-node, says-yes}
 use Rattle.treejudge.proofs.judge.judge_walk.Statement.{statement}
 use Rattle.treejudge.proofs.judge.judge_walk.Tie as tie

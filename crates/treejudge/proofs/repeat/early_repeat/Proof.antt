@@ -6,11 +6,11 @@ use mathlib.Core.List.{[]}
 use Rattle.base.proofs.Tests.{told-yes}
 use Rattle.tree.specs.inner.Sides.{treeOn}
 use Rattle.tree.proofs.TreeNodes.{tree-small}
-use Rattle.treejudge.specs.inner.Reading.{Readable, ReadsTo}
-use Rattle.treejudge.specs.inner.Names.{allKept, Followable, FollowsTo}
+use Rattle.letters.specs.inner.Reading.{Readable, ReadsTo}
+use Rattle.letters.specs.inner.Names.{allKept, Followable, FollowsTo}
 use Rattle.treejudge.specs.inner.Cycles.{FirstRound}
 use Rattle.treejudge.specs.inner.Repeats.{RepeatFound}
-use Rattle.treejudge.proofs.LettersRead.{laid-first, reads-taken}
+use Rattle.letters.proofs.LettersRead.{laid-first, reads-taken}
 use Rattle.treejudge.proofs.RepeatSearch.{head-reads, cut-holds, rest-follows, head-follows, second-holds, again-holds, repeat-still, repeat-moved}
 use Rattle.treejudge.proofs.repeat.early_repeat.Statement.{statement}
 use Rattle.treejudge.proofs.repeat.early_repeat.Tie as tie

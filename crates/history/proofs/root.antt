@@ -1,0 +1,3 @@
+-- The root by itself: how it goes on, where it is the whole tree, and when it accepts.
+pub mod RootLetter
+pub mod RootLetters

@@ -1,0 +1,4 @@
+// Reading letters from tree to tree, and following the names of nodes through them.
+pub mod follow;
+pub mod read;
+mod root;
