@@ -27,7 +27,7 @@ use Rattle.history.proofs.root.RootLetter.{settled-active}
 use Rattle.history.proofs.root.RootLetters.{read-alone, root-maps}
 use Rattle.tree.specs.inner.Nodes.{nodesFrom, nodesOf, withoutOld, AreNodes, HoldsTree, blankNode}
 use Rattle.tree.specs.inner.PackedNodes.{unpacked, nodesIn, countedNodes}
-use Rattle.tree.specs.inner.Sides.{treeOn, TwoSides, Stands}
+use Rattle.tree.specs.inner.Sides.{treeOn, TwoSides}
 use Rattle.tree.specs.declared.nodes.Node.{Node as CodeNode}
 use Rattle.tree.specs.declared.nodes.Tree.{Tree as CodeTree}
 use Rattle.tree.proofs.PackedWords.{node-written}
@@ -50,17 +50,15 @@ module _ (sides : List (List ℕ)) (side : ℕ) (arrays : TwoSides sides) (on : 
   laid = set sides side (set (getD sides side []) 0 word)
 
   -- of a root without states
-  pub laid-dead : root .label ≡ 0 → Stands laid (record { side = side; count = 0 })
-      × IsLone (rootAs root) (treeOn laid (record { side = side; count = 0 }))
+  pub laid-dead : root .label ≡ 0 → TwoSides laid × IsLone (rootAs root) (treeOn laid (record { side = side; count = 0 }))
   unfolding loneTree size nodesOf nodesFrom
-  laid-dead none = ((sides-long arrays side on 0 word, on), record { counts = rw (eq-eqb _ 0 none); are = rw (eq-eqb _ 0 none) })
+  laid-dead none = (sides-long arrays side on 0 word, record { counts = rw (eq-eqb _ 0 none); are = rw (eq-eqb _ 0 none) })
 
   -- and of another
-  pub laid-alive : (root .label ≡ 0 → ⊥) → Stands laid (record { side = side; count = 1 })
-      × IsLone (rootAs root) (treeOn laid (record { side = side; count = 1 }))
+  pub laid-alive : (root .label ≡ 0 → ⊥) → TwoSides laid × IsLone (rootAs root) (treeOn laid (record { side = side; count = 1 }))
   unfolding loneTree size nodesOf nodesFrom labels
   laid-alive some = (
-    (sides-long arrays side on 0 word, on),
+    sides-long arrays side on 0 word,
     record {
       counts = rw (ne-eqb _ 0 some);
       are = rw (

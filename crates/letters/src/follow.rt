@@ -112,14 +112,13 @@ fn follow_each_letter(
 
 // Both maps at a place where only the root is left to follow; at place 0 they are as they were.
 fn root_maps(maps: Maps, skipped: Skipped) -> Maps
-    requires { ⌜ skipped .tree .count ≤ maxStates ⌝ }
-    ensures { λ r. ⌜ r ≡ rootMaps (skipped .place) (skipped .tree .count) (skipped .accepted) maps ⌝ }
+    requires { ⌜ skipped .count ≤ maxStates ⌝ }
+    ensures { λ r. ⌜ r ≡ rootMaps (skipped .place) (skipped .count) (skipped .accepted) maps ⌝ }
 {
     if skipped.place == 0 {
         return maps;
     }
-    let tree = skipped.tree;
-    let root = tree.count as u16;
+    let root = skipped.count as u16;
     let accepted = one_if(skipped.accepted) as u16;
     Maps {
         kept: root,
@@ -141,9 +140,13 @@ pub fn follow_letters(
         × FollowsTo (now (lookups .entry)) k (now (w .entry)) (treeOn (now (sides .entry)) (from .tree)) (from .maps)
         (treeOn (now (sides .exit)) (r .tree)) (r .maps) ⌝ }
 {
-    let skipped = skip_to_alone(lookups, k, w, sides, from.tree);
+    let before = from.tree;
+    let skipped = skip_to_alone(lookups, k, w, sides, before.side, before.count);
     let place = skipped.place;
-    let tree = skipped.tree;
+    let tree = OnSide {
+        side: before.side,
+        count: skipped.count,
+    };
     let there = Followed {
         tree: tree,
         maps: root_maps(from.maps, skipped),
@@ -166,9 +169,13 @@ pub fn follow_round(
         × FollowsTo (now (lookups .entry)) k (now (w .entry)) (treeOn (now (sides .entry)) (from .tree)) (from .maps)
         (treeOn (now (sides .exit)) (r .tree)) (r .maps) ⌝ }
 {
-    let skipped = skip_while_sparing(lookups, k, w, sides, from.tree, root_first);
+    let before = from.tree;
+    let skipped = skip_while_sparing(lookups, k, w, sides, before.side, before.count, root_first);
     let place = skipped.place;
-    let tree = skipped.tree;
+    let tree = OnSide {
+        side: before.side,
+        count: skipped.count,
+    };
     let there = Followed {
         tree: tree,
         maps: root_maps(from.maps, skipped),

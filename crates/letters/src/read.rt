@@ -45,9 +45,13 @@ pub fn read_letters(
     ensures { λ r. ⌜ Stands (now (sides .exit)) r
         × ReadsTo (now (lookups .entry)) k (now (w .entry)) (treeOn (now (sides .entry)) from) (treeOn (now (sides .exit)) r) ⌝ }
 {
-    let skipped = skip_to_alone(lookups, k, w, sides, from);
+    let skipped = skip_to_alone(lookups, k, w, sides, from.side, from.count);
     let place = skipped.place;
-    read_each_letter(lookups, k, &w[place..], sides, skipped.tree)
+    let there = OnSide {
+        side: from.side,
+        count: skipped.count,
+    };
+    read_each_letter(lookups, k, &w[place..], sides, there)
 }
 
 // The same for one of many rounds of the letters.
@@ -63,7 +67,11 @@ pub fn read_round(
     ensures { λ r. ⌜ Stands (now (sides .exit)) r
         × ReadsTo (now (lookups .entry)) k (now (w .entry)) (treeOn (now (sides .entry)) from) (treeOn (now (sides .exit)) r) ⌝ }
 {
-    let skipped = skip_while_sparing(lookups, k, w, sides, from, root_first);
+    let skipped = skip_while_sparing(lookups, k, w, sides, from.side, from.count, root_first);
     let place = skipped.place;
-    read_each_letter(lookups, k, &w[place..], sides, skipped.tree)
+    let there = OnSide {
+        side: from.side,
+        count: skipped.count,
+    };
+    read_each_letter(lookups, k, &w[place..], sides, there)
 }

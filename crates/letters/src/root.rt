@@ -9,7 +9,6 @@ use tree::nodes::DoubleBuffer;
 use tree::nodes::Node;
 use tree::packed::pack;
 use tree::packed::unpack;
-use tree::sides::OnSide;
 use word::lookups::Lookups;
 use word::walk::MAX_LENGTH;
 ghost use mathlib.Core.Path.{_≡_};
@@ -20,7 +19,7 @@ ghost use lib.ListN.{length};
 ghost use Rattle.rule.specs.Limits.{maxSets};
 ghost use Rattle.word.specs.Walk.{maxLength};
 ghost use Rattle.history.specs.inner.Root.{settledRoot};
-ghost use Rattle.tree.specs.inner.Sides.{treeOn, TwoSides, Stands};
+ghost use Rattle.tree.specs.inner.Sides.{treeOn, TwoSides};
 ghost use Rattle.letters.specs.inner.Reading.{Readable};
 ghost use Rattle.letters.specs.inner.RootPass.{rootAs, rootBy, Passable, AloneAt, LastAlone, placeIn, rootIn, rootFound, rootOn, IsLone, SkipsTo};
 
@@ -165,12 +164,11 @@ fn find_alone(lookups: &Lookups, k: u8, w: &[u8], first: Root) -> RootAt
 }
 
 // The root of a tree in place; of the dead tree, one without states.
-fn root_on(sides: &DoubleBuffer, on: OnSide) -> Root
-    requires { ⌜ Stands (now sides) on ⌝ }
-    ensures { λ r. ⌜ rootAs r ≡ rootOn (treeOn (now (sides .entry)) on) ⌝ }
+fn root_on(sides: &DoubleBuffer, side: usize, count: usize) -> Root
+    requires { ⌜ TwoSides (now sides) × (side < 2) ⌝ }
+    ensures { λ r. ⌜ rootAs r ≡ rootOn (treeOn (now (sides .entry)) (record { side = side; count = count })) ⌝ }
 {
-    let side = on.side;
-    if on.count == 0 {
+    if count == 0 {
         return Root {
             label: 0,
             kids: 0,
@@ -187,10 +185,10 @@ fn root_on(sides: &DoubleBuffer, on: OnSide) -> Root
     }
 }
 
-// The tree of a root that has no child, in place on a side: the root alone, or the dead tree.
-fn lay_alone(sides: &mut DoubleBuffer, side: usize, root: Root) -> OnSide
+// The tree of a root that has no child, put in place on a side; how many nodes it has: the root alone, or none.
+fn lay_alone(sides: &mut DoubleBuffer, side: usize, root: Root) -> usize
     requires { ⌜ TwoSides (now sides) × (side < 2) ⌝ }
-    ensures { λ r. ⌜ Stands (now (sides .exit)) r × IsLone (rootAs root) (treeOn (now (sides .exit)) r) ⌝ }
+    ensures { λ r. ⌜ TwoSides (now (sides .exit)) × IsLone (rootAs root) (treeOn (now (sides .exit)) (record { side = side; count = r })) ⌝ }
 {
     let node = Node {
         depth: 0,
@@ -200,16 +198,14 @@ fn lay_alone(sides: &mut DoubleBuffer, side: usize, root: Root) -> OnSide
         old: 0,
     };
     sides[side][0] = pack(node);
-    OnSide {
-        side: side,
-        count: if root.label == 0 { 0 } else { 1 },
-    }
+    if root.label == 0 { 0 } else { 1 }
 }
 
-// A tree in place behind some letters, and whether its root was accepting at one of them.
+// A tree behind some letters, on the side where the one before them stood: how many nodes it has, and whether its root was accepting at one
+// of the letters.
 pub struct Skipped {
     pub place: usize,
-    pub tree: OnSide,
+    pub count: usize,
     pub accepted: bool,
 }
 
@@ -220,29 +216,31 @@ pub fn skip_to_alone(
     k: u8,
     w: &[u8],
     sides: &mut DoubleBuffer,
-    from: OnSide,
+    side: usize,
+    count: usize,
 ) -> Skipped
-    requires { ⌜ Stands (now sides) from × Readable (now lookups) k (now w) (treeOn (now sides) from) ⌝ }
-    ensures { λ r. ⌜ Stands (now (sides .exit)) (r .tree)
-        × SkipsTo (now (lookups .entry)) k (now (w .entry)) (treeOn (now (sides .entry)) from)
-        (treeOn (now (sides .exit)) (r .tree)) (r .place) (r .accepted) ⌝ }
+    requires { ⌜ (TwoSides (now sides) × (side < 2))
+        × Readable (now lookups) k (now w) (treeOn (now sides) (record { side = side; count = count })) ⌝ }
+    ensures { λ r. ⌜ TwoSides (now (sides .exit))
+        × SkipsTo (now (lookups .entry)) k (now (w .entry)) (treeOn (now (sides .entry)) (record { side = side; count = count }))
+        (treeOn (now (sides .exit)) (record { side = side; count = r .count })) (r .place) (r .accepted) ⌝ }
 {
     if w.len() <= MAX_LENGTH {
-        let found = find_alone(lookups, k, w, root_on(sides, from));
+        let found = find_alone(lookups, k, w, root_on(sides, side, count));
         let place = found.place;
         if 0 < place {
             let root = found.root;
-            let tree = lay_alone(sides, from.side, root);
+            let alone = lay_alone(sides, side, root);
             return Skipped {
                 place: place,
-                tree: tree,
+                count: alone,
                 accepted: root.accepted,
             };
         }
     }
     Skipped {
         place: 0,
-        tree: from,
+        count: count,
         accepted: false,
     }
 }
@@ -254,22 +252,24 @@ pub fn skip_while_sparing(
     k: u8,
     w: &[u8],
     sides: &mut DoubleBuffer,
-    from: OnSide,
+    side: usize,
+    count: usize,
     root_first: &mut bool,
 ) -> Skipped
-    requires { ⌜ Stands (now sides) from × Readable (now lookups) k (now w) (treeOn (now sides) from) ⌝ }
-    ensures { λ r. ⌜ Stands (now (sides .exit)) (r .tree)
-        × SkipsTo (now (lookups .entry)) k (now (w .entry)) (treeOn (now (sides .entry)) from)
-        (treeOn (now (sides .exit)) (r .tree)) (r .place) (r .accepted) ⌝ }
+    requires { ⌜ (TwoSides (now sides) × (side < 2))
+        × Readable (now lookups) k (now w) (treeOn (now sides) (record { side = side; count = count })) ⌝ }
+    ensures { λ r. ⌜ TwoSides (now (sides .exit))
+        × SkipsTo (now (lookups .entry)) k (now (w .entry)) (treeOn (now (sides .entry)) (record { side = side; count = count }))
+        (treeOn (now (sides .exit)) (record { side = side; count = r .count })) (r .place) (r .accepted) ⌝ }
 {
     if !*root_first {
         return Skipped {
             place: 0,
-            tree: from,
+            count: count,
             accepted: false,
         };
     }
-    let skipped = skip_to_alone(lookups, k, w, sides, from);
+    let skipped = skip_to_alone(lookups, k, w, sides, side, count);
     *root_first = w.len() / 4 < skipped.place;
     skipped
 }

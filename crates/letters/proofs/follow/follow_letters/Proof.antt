@@ -6,12 +6,14 @@ use Rattle.letters.proofs.follow.follow_letters.Statement.{statement}
 use Rattle.letters.proofs.follow.follow_letters.Tie as tie
 
 skip-to-alone-requires : tie.Need-skip-to-alone-requires
-skip-to-alone-requires c κs = let start = c .before .before in (start .pre .0, followed-reads _ _ _ _ _ (start .pre .1))
+skip-to-alone-requires c κs =
+    let start = c .before .before .before in
+    (start .pre .0, followed-reads _ _ _ _ _ (start .pre .1))
 
 root-maps-requires : tie.Need-root-maps-requires
 root-maps-requires c κs =
     let start = c .before .before .before .before in
-    behind-few _ _ (start .args .w .now) _ _ (start .args .from .maps) _ _ (c .before .skip-to-alone .ensures .1) (start .pre .1)
+    behind-few _ _ (start .args .w .now) _ _ (start .args .from .maps) _ _ (c .skip-to-alone .ensures .1) (start .pre .1)
 
 sub-follow-each-letter : tie.Need-sub-follow-each-letter
 sub-follow-each-letter c = search needs
@@ -24,17 +26,17 @@ part-follow-each-letter-end c = search needs
 
 follow-each-letter-requires : tie.Need-follow-each-letter-requires
 follow-each-letter-requires c κs =
-    let skipped = c .before .before .before .before .skip-to-alone in
+    let skipped = c .before .before .before .skip-to-alone in
     let start = c .before .before .before .before .before .before .before in
-    let (stands, skips) = skipped .ensures in (
-      stands,
+    let (sides, skips) = skipped .ensures in (
+      (sides, start .pre .0 .1),
       rw (to-end (skipped .result .place) (start .args .w .now), c .before .before .root-maps .ensures)
           (behind-followable _ _ (start .args .w .now) _ _ (start .args .from .maps) _ _ skips (start .pre .1)),
     )
 
 returns : tie.Need-returns
 returns c =
-    let skipped = c .before .before .before .before .before .skip-to-alone in
+    let skipped = c .before .before .before .before .skip-to-alone in
     let start = c .before .before .before .before .before .before .before .before in
     let (stands, follows) = c .follow-each-letter .ensures in (
       stands,

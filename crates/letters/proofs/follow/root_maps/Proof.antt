@@ -18,11 +18,11 @@ one-if-requires : tie.Need-one-if-requires
 one-if-requires c κs = search needs
 
 cast-accepted : tie.Need-cast-accepted
-cast-accepted c = omega (arith, c .one-if .ensures, bit-small (c .before .before .before .before .before .args .skipped .accepted))
+cast-accepted c = omega (arith, c .one-if .ensures, bit-small (c .before .before .before .before .args .skipped .accepted))
 
 returns-2 : tie.Need-returns-2
 unfolding rootMaps
-returns-2 c = rw (ne-eqb _ 0 (c .before .before .before .before .if1 .left), c .before .one-if .ensures)
+returns-2 c = rw (ne-eqb _ 0 (c .before .before .before .if1 .left), c .before .one-if .ensures)
 
 pub root-maps-spec : {M : Type 1} → statement M
 root-maps-spec = tie.close (tie.spec returns cast-root one-if-requires cast-accepted returns-2)

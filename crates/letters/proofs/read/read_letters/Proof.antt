@@ -21,15 +21,21 @@ read-each-letter-requires : tie.Need-read-each-letter-requires
 read-each-letter-requires c κs =
     let skipped = c .before .before .skip-to-alone in
     let start = c .before .before .before .before .before in
-    let (stands, skips) = skipped .ensures in
-    (stands, rw (to-end (skipped .result .place) (start .args .w .now)) (behind-readable _ _ (start .args .w .now) _ _ _ _ skips (start .pre .1)))
+    let (sides, skips) = skipped .ensures in (
+      (sides, start .pre .0 .1),
+      rw (to-end (skipped .result .place) (start .args .w .now))
+          (behind-readable _ _ (start .args .w .now) _ _ _ _ skips (start .pre .1)),
+    )
 
 returns : tie.Need-returns
 returns c =
     let skipped = c .before .before .before .skip-to-alone in
     let start = c .before .before .before .before .before .before in
-    let (stands, reads) = c .read-each-letter .ensures in
-    (stands, reads-join _ _ (start .args .w .now) _ _ _ _ (skipped .ensures .1) _ (rw (to-end (skipped .result .place) (start .args .w .now)) at reads))
+    let (stands, reads) = c .read-each-letter .ensures in (
+      stands,
+      reads-join _ _ (start .args .w .now) _ _ _ _ (skipped .ensures .1) _
+          (rw (to-end (skipped .result .place) (start .args .w .now)) at reads),
+    )
 
 pub read-letters-spec : {M : Type 1} → statement M
 read-letters-spec =

@@ -17,10 +17,10 @@ index-2-sides : tie.Need-index-2-sides
 index-2-sides c = search needs
 
 returns : tie.Need-returns
-returns c = let start = c .before .before in laid-dead _ _ (start .pre .0) (start .pre .1) _ _ (c .before .pack .ensures) (c .if1 .taken)
+returns c = let start = c .before .before .before in laid-dead _ _ (start .pre .0) (start .pre .1) _ _ (c .before .before .pack .ensures) (c .if1 .taken)
 
 returns-2 : tie.Need-returns-2
-returns-2 c = let start = c .before .before in laid-alive _ _ (start .pre .0) (start .pre .1) _ _ (c .before .pack .ensures) (c .if1 .left)
+returns-2 c = let start = c .before .before .before in laid-alive _ _ (start .pre .0) (start .pre .1) _ _ (c .before .before .pack .ensures) (c .if1 .left)
 
 pub lay-alone-spec : {M : Type 1} → statement M
 lay-alone-spec =

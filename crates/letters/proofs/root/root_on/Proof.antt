@@ -27,8 +27,8 @@ unpack-requires c κs = search needs
 returns-2 : tie.Need-returns-2
 unfolding rootOn
 returns-2 c =
-    let args = c .before .before .before .before .args in
-    rw (ne-eqb _ _ (c .before .before .if1 .left), ← node-read (getD (args .sides .now) (args .on .side) []) 0 (c .unpack .ensures))
+    let args = c .before .before .before .args in
+    rw (ne-eqb _ _ (c .before .before .if1 .left), ← node-read (getD (args .sides .now) (args .side) []) 0 (c .unpack .ensures))
 
 pub root-on-spec : {M : Type 1} → statement M
 root-on-spec =

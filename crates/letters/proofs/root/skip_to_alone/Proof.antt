@@ -26,10 +26,10 @@ returns c =
     )
 
 returns-2 : tie.Need-returns-2
-returns-2 c = (c .before .before .before .before .before .before .pre .0, skips-none _ _ _ _)
+returns-2 c = (c .before .before .before .before .before .before .pre .0 .0, skips-none _ _ _ _)
 
 returns-3 : tie.Need-returns-3
-returns-3 c = (c .before .before .pre .0, skips-none _ _ _ _)
+returns-3 c = (c .before .before .pre .0 .0, skips-none _ _ _ _)
 
 pub skip-to-alone-spec : {M : Type 1} → statement M
 skip-to-alone-spec =

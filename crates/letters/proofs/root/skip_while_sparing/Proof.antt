@@ -5,7 +5,7 @@ use Rattle.letters.proofs.root.skip_while_sparing.Statement.{statement}
 use Rattle.letters.proofs.root.skip_while_sparing.Tie as tie
 
 returns : tie.Need-returns
-returns c = (c .before .before .pre .0, skips-none _ _ _ _)
+returns c = (c .before .before .pre .0 .0, skips-none _ _ _ _)
 
 skip-to-alone-requires : tie.Need-skip-to-alone-requires
 skip-to-alone-requires c κs = search needs
