@@ -110,19 +110,34 @@ fn follow_each_letter(
     }
 }
 
-// Both maps at a place where only the root is left to follow; at place 0 they are as they were.
-fn root_maps(maps: Maps, skipped: Skipped) -> Maps
+// The tree that is skipped to, on its side, and its followed nodes: only the root is left to follow. At place 0 all is as it was.
+fn followed_at(from: Followed, skipped: Skipped) -> Followed
     requires { ⌜ skipped .count ≤ maxStates ⌝ }
-    ensures { λ r. ⌜ r ≡ rootMaps (skipped .place) (skipped .count) (skipped .accepted) maps ⌝ }
+    ensures { λ r. ⌜ r ≡ record {
+      tree = record { side = from .tree .side; count = skipped .count };
+      maps = rootMaps (skipped .place) (skipped .count) (skipped .accepted) (from .maps);
+    } ⌝ }
 {
+    let before = from.tree;
+    let tree = OnSide {
+        side: before.side,
+        count: skipped.count,
+    };
+    let maps = from.maps;
     if skipped.place == 0 {
-        return maps;
+        return Followed {
+            tree: tree,
+            maps: maps,
+        };
     }
     let root = skipped.count as u16;
     let accepted = one_if(skipped.accepted) as u16;
-    Maps {
-        kept: root,
-        witnesses: (maps.witnesses | accepted) & root,
+    Followed {
+        tree: tree,
+        maps: Maps {
+            kept: root,
+            witnesses: (maps.witnesses | accepted) & root,
+        },
     }
 }
 
@@ -142,15 +157,8 @@ pub fn follow_letters(
 {
     let before = from.tree;
     let skipped = skip_to_alone(lookups, k, w, sides, before.side, before.count);
+    let there = followed_at(from, skipped);
     let place = skipped.place;
-    let tree = OnSide {
-        side: before.side,
-        count: skipped.count,
-    };
-    let there = Followed {
-        tree: tree,
-        maps: root_maps(from.maps, skipped),
-    };
     follow_each_letter(lookups, k, &w[place..], sides, there)
 }
 
@@ -171,14 +179,7 @@ pub fn follow_round(
 {
     let before = from.tree;
     let skipped = skip_while_sparing(lookups, k, w, sides, before.side, before.count, root_first);
+    let there = followed_at(from, skipped);
     let place = skipped.place;
-    let tree = OnSide {
-        side: before.side,
-        count: skipped.count,
-    };
-    let there = Followed {
-        tree: tree,
-        maps: root_maps(from.maps, skipped),
-    };
     follow_each_letter(lookups, k, &w[place..], sides, there)
 }

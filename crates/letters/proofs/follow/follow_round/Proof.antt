@@ -10,8 +10,8 @@ skip-while-sparing-requires c κs =
     let start = c .before .before .before .before in
     (start .pre .0, followed-reads _ _ _ _ _ (start .pre .1))
 
-root-maps-requires : tie.Need-root-maps-requires
-root-maps-requires c κs =
+followed-at-requires : tie.Need-followed-at-requires
+followed-at-requires c κs =
     let start = c .before .before .before .before .before in
     behind-few _ _ (start .args .w .now) _ _ (start .args .from .maps) _ _ (c .skip-while-sparing .ensures .1) (start .pre .1)
 
@@ -26,22 +26,24 @@ part-follow-each-letter-end c = search needs
 
 follow-each-letter-requires : tie.Need-follow-each-letter-requires
 follow-each-letter-requires c κs =
-    let skipped = c .before .before .before .skip-while-sparing in
-    let start = c .before .before .before .before .before .before .before .before in
-    let (sides, skips) = skipped .ensures in (
+    let followed = c .before .before in
+    let skipped = followed .before .skip-while-sparing in
+    let start = followed .before .before .before .before .before .before in
+    let (sides, skips) = skipped .ensures in
+    rw (followed .followed-at .ensures, to-end (skipped .result .place) (start .args .w .now)) (
       (sides, start .pre .0 .1),
-      rw (to-end (skipped .result .place) (start .args .w .now), c .before .before .root-maps .ensures)
-          (behind-followable _ _ (start .args .w .now) _ _ (start .args .from .maps) _ _ skips (start .pre .1)),
+      behind-followable _ _ (start .args .w .now) _ _ (start .args .from .maps) _ _ skips (start .pre .1),
     )
 
 returns : tie.Need-returns
 returns c =
-    let skipped = c .before .before .before .before .skip-while-sparing in
-    let start = c .before .before .before .before .before .before .before .before .before in
+    let followed = c .before .before .before in
+    let skipped = followed .before .skip-while-sparing in
+    let start = followed .before .before .before .before .before .before in
     let (stands, follows) = c .follow-each-letter .ensures in (
       stands,
       follows-join _ _ (start .args .w .now) _ _ (start .args .from .maps) _ _ (skipped .ensures .1) _ _
-          (rw (to-end (skipped .result .place) (start .args .w .now), c .before .before .before .root-maps .ensures) at follows),
+          (rw (followed .followed-at .ensures, to-end (skipped .result .place) (start .args .w .now)) at follows),
     )
 
 pub follow-round-spec : {M : Type 1} → statement M
@@ -49,7 +51,7 @@ follow-round-spec =
     tie.close
     (tie.spec
     skip-while-sparing-requires
-    root-maps-requires
+    followed-at-requires
     sub-follow-each-letter
     part-follow-each-letter-start
     part-follow-each-letter-end
