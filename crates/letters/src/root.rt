@@ -71,7 +71,7 @@ fn root_letter(lookup: &Lookup, k: u8, root: Root) -> Root
     settled_root(k, label, kids | sprout, root)
 }
 
-// The digit of a test.
+// 1 where a test holds, else 0.
 pub fn one_if(holds: bool) -> u64
     ensures { λ r. ⌜ r ≡ cond holds 1 0 ⌝ }
 {

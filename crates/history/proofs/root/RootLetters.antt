@@ -65,10 +65,10 @@ by-one x f = go (f []) refl
     go false e = rw e
 
 -- the root is number 0
-root-first : (T : Tree) (f : List ℕ → Bool) → (T ≡ nil → ⊥) → member (byNumber f T) 0 ≡ f []
+root-zero : (T : Tree) (f : List ℕ → Bool) → (T ≡ nil → ⊥) → member (byNumber f T) 0 ≡ f []
 unfolding names listing named size
-root-first nil f alive = absurd (alive refl)
-root-first (node x below younger) f alive =
+root-zero nil f alive = absurd (alive refl)
+root-zero (node x below younger) f alive =
     member-by (node x below younger) f 0 ∙ rw (lt-ltb 0 (size (node x below younger)) (omega arith))
 
 -- the lowest bit, one joined to it where b
@@ -108,8 +108,7 @@ module _ (R : Rule) (well : WellFormed R) (sets : 1 ≤ R .sets) where
       go true e = rw e (dead R _ _ kept shown (eqb-true _ 0 e))
       go false e = rw e (alone R _ _ kept shown none (eqb-false _ 0 e))
 
-  -- ITS NAME
-  -- it is stable at every letter, and accepting where it says so
+  -- ITS NAME: it is stable at every letter, and accepting where it says so
   pub root-followed : (w : List ℕ) (r : Root) (T : Tree) → isTreeOf R T ≡ true → Shows r T → (rootLetters R w r .label ≡ 0 → ⊥)
       → (stableThrough R T w [] ≡ true) × (rootLetters R w r .accepted ≡ (r .accepted || acceptingOnce R T w []))
   unfolding rootLetters stableThrough acceptingOnce
@@ -127,6 +126,9 @@ module _ (R : Rule) (well : WellFormed R) (sets : 1 ≤ R .sets) where
       (fresh : r .accepted ≡ false) (none : rootLetters R w r .kids ≡ 0) where
     abbrev there : Root
     there = rootLetters R w r
+
+    abbrev root : Node
+    root = record { label = there .label; active = there .active }
 
     read : readLetters R (before ++ w) T ≡ loneTree there
     read = read-append R before w T ∙ read-alone w r (readLetters R before T) (letters-keep R well sets before T tree) h none
@@ -154,7 +156,7 @@ module _ (R : Rule) (well : WellFormed R) (sets : 1 ≤ R .sets) where
           and-in (stableThrough R T before []) _ (sym (stable-append R T before w []) ∙ stable-all) .0 in
           let in-w : there .accepted ≡ acceptingOnce R (readLetters R before T) w [] =
           root-followed w r (readLetters R before T) (letters-keep R well sets before T tree) h alive .1 ∙ rw fresh in
-          accepting-append R T before w [] ∙ rw (root-first (readLetters R before T) _ alive-before, kept, in-w)
+          accepting-append R T before w [] ∙ rw (root-zero (readLetters R before T) _ alive-before, kept, in-w)
 
     pub root-maps : (keptMap R T (before ++ w) ≡ size (loneTree there))
         × (witnessMap R T (before ++ w) ≡ bitAnd (bitOr (witnessMap R T before) (cond (there .accepted) 1 0)) (size (loneTree there)))
@@ -165,7 +167,7 @@ module _ (R : Rule) (well : WellFormed R) (sets : 1 ≤ R .sets) where
             × (witnessMap R T (before ++ w) ≡ bitAnd (bitOr (witnessMap R T before) (cond (there .accepted) 1 0)) (size (loneTree there)))
         go true e = (rw (read, e), rw (read, e) (sym (and-zero-r (bitOr (witnessMap R T before) (cond (there .accepted) 1 0)))))
         go false e = let alive = eqb-false (there .label) 0 e in (
-          rw (read, e) (by-one (record { label = there .label; active = there .active }) (stableThrough R T (before ++ w)) ∙ rw (stable-all alive)),
-          rw (read, e) (by-one (record { label = there .label; active = there .active }) (λ p. stableThrough R T (before ++ w) p && acceptingOnce R T (before ++ w) p)
+          rw (read, e) (by-one root (stableThrough R T (before ++ w)) ∙ rw (stable-all alive)),
+          rw (read, e) (by-one root (λ p. stableThrough R T (before ++ w) p && acceptingOnce R T (before ++ w) p)
               ∙ rw (stable-all alive, once-all alive) (sym (low-bit (witnessMap R T before) (there .accepted)))),
         )

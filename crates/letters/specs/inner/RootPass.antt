@@ -40,7 +40,8 @@ rootsBy lookups k (a ∷ w) r = rootsBy lookups k w (rootBy (getD lookups a []) 
 
 -- WHERE THE ROOT IS ALONE
 
--- the letters can be read: each has its place in the look-ups, there are images for each active set, and a walk's places are enough
+-- the letters can be read for the root alone: each has its place in the look-ups, these have images for the active set, and the letters
+-- are no more than a walk's part has
 pub record Passable (k : ℕ) (w : List ℕ) (r : Root) : Type 0 where
   pub sets : k ≤ maxSets
   pub active : r .active ≤ maxSets
@@ -82,7 +83,7 @@ rootOn x =
     (record { label = 0; kids = 0; active = 1; accepted = false })
     (record { label = root .label; kids = root .kids; active = root .active; accepted = false })
 
--- the tree of a root that has no child
+-- the nodes that count are those of a root that has no child
 pub record IsLone (r : Root) (x : CodeTree) : Type 0 where
   pub counts : x .count ≡ size (loneTree r)
   pub are : AreNodes (countedNodes x) (loneTree r)
