@@ -2,6 +2,7 @@
 pub mod LocalStep
 pub mod LabelsOfStep
 pub mod StepsJoined
+pub mod OlderSiblingLaws
 pub mod OneNode
 pub mod BranchFits
 pub mod TreesKept

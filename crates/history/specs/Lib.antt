@@ -2,6 +2,7 @@
 pub mod Forest
 pub mod Tree
 pub mod Letter
+pub mod OlderSiblings
 pub mod Record
 pub mod Rounds
 pub mod Verdict

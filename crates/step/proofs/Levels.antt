@@ -1,8 +1,7 @@
--- The levels of a pass as they stand in three arrays by depth: what a store changes, and that the stores at a node that is read
--- leave the levels that the pass has there.
-use mathlib.Core.Path.{_≡_, refl, ap}
+-- The levels of a pass as they stand in arrays by depth: what the stores at a node that is read leave of them.
+use mathlib.Core.Path.{_≡_, refl, ap₂}
 use mathlib.Core.Bool.{Bool, false}
-use mathlib.Core.List.{List}
+use mathlib.Core.List.{List, _∷_}
 use Prim.Native.Nat.{ℕ, zero, suc, _+_, _<_, _≤_}
 use native.Mathlib.Omega.{arith}
 use native.Mathlib.Numerals.{add-one}
@@ -11,97 +10,87 @@ use lib.Bits.{bitOr}
 use lib.ListN.{length, getD, set, length-set}
 use lib.Seq.{getD-set-same, getD-set-other}
 use Rattle.rule.specs.Limits.{maxStates}
-use Rattle.step.specs.inner.Pass.{levelsOf, ByDepth, entered, Entered}
+use Rattle.step.specs.inner.Pass.{Level, entered}
+use Rattle.step.specs.inner.LevelArrays.{LevelArrays, levelArrays, EachDepth, levelAt, waitingLevels, levelsOf, Entered}
 use Rattle.step.specs.declared.pass.NewLabels.{NewLabels}
+use Rattle.step.specs.declared.pass.Standing.{Standing}
 
 -- as many levels as asked for
-pub levels-length : (c : ℕ) (taken sprout : List ℕ) (named : List Bool) → length (levelsOf c taken sprout named) ≡ c
-unfolding levelsOf
-levels-length zero taken sprout named = refl
-levels-length (suc c) taken sprout named = ap suc (levels-length c taken sprout named)
+pub waiting-length : (A : LevelArrays) (c : ℕ) → length (waitingLevels A c) ≡ c
+unfolding waitingLevels
+waiting-length A zero = refl
+waiting-length A (suc c) = let e = waiting-length A c in omega arith
 
--- a store at depth d leaves the levels above it
-levels-taken : (c d v : ℕ) (taken sprout : List ℕ) (named : List Bool) → c ≤ d
-    → levelsOf c (set taken d v) sprout named ≡ levelsOf c taken sprout named
-unfolding levelsOf
-levels-taken zero d v taken sprout named h = refl
-levels-taken (suc c) d v taken sprout named h =
-    rw (getD-set-other taken d c v 0 (λ e. omega arith), levels-taken c d v taken sprout named (omega arith))
-
-levels-sprout : (c d v : ℕ) (taken sprout : List ℕ) (named : List Bool) → c ≤ d
-    → levelsOf c taken (set sprout d v) named ≡ levelsOf c taken sprout named
-unfolding levelsOf
-levels-sprout zero d v taken sprout named h = refl
-levels-sprout (suc c) d v taken sprout named h =
-    rw (getD-set-other sprout d c v 0 (λ e. omega arith), levels-sprout c d v taken sprout named (omega arith))
-
-levels-named : (c d : ℕ) (v : Bool) (taken sprout : List ℕ) (named : List Bool) → c ≤ d
-    → levelsOf c taken sprout (set named d v) ≡ levelsOf c taken sprout named
-unfolding levelsOf
-levels-named zero d v taken sprout named h = refl
-levels-named (suc c) d v taken sprout named h =
-    rw (getD-set-other named d c v false (λ e. omega arith), levels-named c d v taken sprout named (omega arith))
+-- arrays that are the same up to a depth have the same levels there
+waiting-same : (A B : LevelArrays) (c : ℕ)
+    → ((d : ℕ) → d < c → levelAt A d (getD (A .waiting) d 0) ≡ levelAt B d (getD (B .waiting) d 0)) → waitingLevels A c ≡ waitingLevels B c
+unfolding waitingLevels
+waiting-same A B zero same = refl
+waiting-same A B (suc c) same =
+    ap₂ (λ (l : Level) (levels : List Level). l ∷ levels) (same c (omega arith)) (waiting-same A B c (λ d h. same d (omega arith)))
 
 -- what `enter` leaves in the arrays
-module _ (m : NewLabels) (top : ℕ) (taken sprout : List ℕ) (named : List Bool) (room : top < maxStates) (sizes : ByDepth taken sprout named) where
-  abbrev before : ℕ
-  before = getD taken top 0
+module _ (m : NewLabels) (at : Standing) (A : LevelArrays) (room : at .top < maxStates) (sizes : EachDepth A) where
+  abbrev top : ℕ
+  top = at .top
 
-  abbrev name : Bool
-  name = getD named top false
-
-  abbrev joined : List ℕ
-  joined = set taken top (bitOr (getD taken top 0) (m .label))
+  abbrev joined : ℕ
+  joined = bitOr (at .older) (m .label)
 
   -- where the node is removed: the names at its depth are lost
-  pub enter-removed : m .label ≡ 0 → Entered m top taken sprout named top taken sprout (set named top false)
-  unfolding levelsOf entered
+  abbrev unnamed : LevelArrays
+  unnamed = levelArrays (A .above) (A .waiting) (A .sprout) (set (A .named) top false)
+
+  pub enter-removed : m .label ≡ 0 → Entered m at A at unnamed
+  unfolding entered
   enter-removed gone = record {
     deeper = omega arith;
+    written = refl;
     sizes = simp length-set sizes;
     levels = rw (
       eq-eqb _ _ gone,
-      getD-set-same named top false false (omega arith),
-      levels-named top top false taken sprout named (omega arith),
+      getD-set-same (A .named) top false false (omega arith),
+      waiting-same unnamed A top (λ d h. rw (getD-set-other (A .named) top d false false (λ e. omega arith))),
     );
   }
 
-  -- where it accepts: its states are taken
-  pub enter-accepting : (m .label ≡ 0 → ⊥) → m .label ≡ m .kids → Entered m top taken sprout named top joined sprout named
-  unfolding levelsOf entered
-  enter-accepting stays full = record {
-    deeper = omega arith;
-    sizes = simp length-set sizes;
-    levels = rw (
-      ne-eqb _ _ stays,
-      eq-eqb _ _ full,
-      getD-set-same taken top (bitOr before (m .label)) 0 (omega arith),
-      levels-taken top top (bitOr before (m .label)) taken sprout named (omega arith),
-    );
-  }
+  -- where it accepts: its states join the running set
+  pub enter-accepting : (m .label ≡ 0 → ⊥) → m .label ≡ m .kids
+      → Entered m at A (record { top = top; older = joined; written = at .written }) A
+  unfolding entered
+  enter-accepting stays full =
+      record { deeper = omega arith; written = refl; sizes = sizes; levels = rw (ne-eqb _ _ stays, eq-eqb _ _ full) }
 
-  -- where it keeps its children: their level is opened besides
+  -- where it keeps its children: their level is opened besides, one deeper
+  abbrev opened : ℕ → LevelArrays
+  opened below = levelArrays (set (A .above) below (bitOr (getD (A .above) top 0) (at .older))) (set (A .waiting) top joined)
+      (set (A .sprout) below (m .sprout)) (set (A .named) below (getD (A .named) top false))
+
+  waiting-still : waitingLevels (opened (suc top)) top ≡ waitingLevels A top
+  waiting-still = waiting-same (opened (suc top)) A top (λ d h. rw (
+    getD-set-other (A .above) (suc top) d (bitOr (getD (A .above) top 0) (at .older)) 0 (λ e. omega arith),
+    getD-set-other (A .waiting) top d joined 0 (λ e. omega arith),
+    getD-set-other (A .sprout) (suc top) d (m .sprout) 0 (λ e. omega arith),
+    getD-set-other (A .named) (suc top) d (getD (A .named) top false) false (λ e. omega arith),
+  ))
+
   pub enter-kept : (m .label ≡ 0 → ⊥) → (m .label ≡ m .kids → ⊥)
-      → Entered m top taken sprout named
-      (top + 1) (set joined (top + 1) before) (set sprout (top + 1) (m .sprout)) (set named (top + 1) name)
-  unfolding levelsOf entered
-  enter-kept stays other = record {
+      → Entered m at A (record { top = top + 1; older = 0; written = at .written }) (opened (top + 1))
+  unfolding entered waitingLevels
+  enter-kept stays other = rw (add-one top) (record {
     deeper = omega arith;
+    written = refl;
     sizes = simp length-set sizes;
     levels = rw (
-      add-one,
       ne-eqb _ _ stays,
       ne-eqb _ _ other,
-      getD-set-same joined (suc top) before 0 (simp length-set (omega arith)),
-      getD-set-same sprout (suc top) (m .sprout) 0 (omega arith),
-      getD-set-same named (suc top) name false (omega arith),
-      getD-set-other joined (suc top) top before 0 (λ e. omega arith),
-      getD-set-other sprout (suc top) top (m .sprout) 0 (λ e. omega arith),
-      getD-set-other named (suc top) top name false (λ e. omega arith),
-      levels-taken top (suc top) before joined (set sprout (suc top) (m .sprout)) (set named (suc top) name) (omega arith),
-      levels-sprout top (suc top) (m .sprout) joined sprout (set named (suc top) name) (omega arith),
-      levels-named top (suc top) name joined sprout named (omega arith),
-      getD-set-same taken top (bitOr before (m .label)) 0 (omega arith),
-      levels-taken top top (bitOr before (m .label)) taken sprout named (omega arith),
+      waiting-still,
+      getD-set-same (A .above) (suc top) (bitOr (getD (A .above) top 0) (at .older)) 0 (omega arith),
+      getD-set-same (A .sprout) (suc top) (m .sprout) 0 (omega arith),
+      getD-set-same (A .named) (suc top) (getD (A .named) top false) false (omega arith),
+      getD-set-other (A .above) (suc top) top (bitOr (getD (A .above) top 0) (at .older)) 0 (λ e. omega arith),
+      getD-set-other (A .sprout) (suc top) top (m .sprout) 0 (λ e. omega arith),
+      getD-set-other (A .named) (suc top) top (getD (A .named) top false) false (λ e. omega arith),
+      getD-set-same (A .waiting) top joined 0 (omega arith),
     );
-  }
+  })

@@ -5,9 +5,14 @@ pub mod CallNumbers
 pub mod StepOfNodes
 pub mod Levels
 pub mod PassSteps
+pub mod ClosingLoop
 pub mod PassLoop
 pub mod PassNode
 pub mod PassTree
+-- The running set: the siblings in the order in which the pass reaches them.
+pub mod SiblingPlaces
+pub mod AlongSiblings
+pub mod RunningSet
 pub mod GrownNodes
 pub mod Renamed
 pub mod OldNumbers

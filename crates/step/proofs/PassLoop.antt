@@ -1,17 +1,16 @@
--- The loop of `step_nodes`: what is written so far, with the pass over the nodes left, is the pass over all nodes. One law
--- for each way through the loop's body.
+-- The loop of `step_nodes`: what stands in its variables is the pass over the nodes read so far. One law for each way through the loop's
+-- body.
 use mathlib.Core.Path.{_≡_, refl, sym, _∙_, ap}
-use mathlib.Core.Logic.{_⊎_, ⊎-elim}
-use mathlib.Core.Bool.{Bool, false, cond}
-use mathlib.Core.List.{List, [], _∷_, _++_, append-nil}
+use mathlib.Core.Bool.{Bool, false}
+use mathlib.Core.List.{List, [], _∷_, _++_}
 use Prim.Native.Nat.{ℕ, suc, _+_, _*_, _-_, _≤_, _<_}
 use native.Mathlib.Omega.{arith}
-use native.Mathlib.Decide.{decLt}
 use native.Mathlib.Numerals.{add-one}
-use borrow.Author.Tests.{lt-ltb, le-ltb, eq-eqb, ne-eqb}
-use lib.Dec.{eqb, ltb}
-use lib.ListN.{length, getD, set, take, drop, length-set, length-take, drop-of-length-le}
-use lib.Seq.{drop-cons, getD-take, getD-set-other, take-suc-set, drop-drop, drop-set-lt, length-take-le}
+use borrow.Author.Tests.{eq-eqb, ne-eqb}
+use lib.Bits.{bitOr}
+use lib.Dec.{eqb}
+use lib.ListN.{length, getD, set, take, drop, length-take}
+use lib.Seq.{getD-take, take-suc, take-all, length-take-le}
 use Rattle.rule.specs.Limits.{maxStates, maxSets}
 use Rattle.rule.specs.inner.Lookup.{Lookup, lookUp}
 use Rattle.tree.specs.inner.Nodes.{blankNode}
@@ -19,293 +18,208 @@ use Rattle.tree.specs.inner.PackedNodes.{unpacked, nodesIn}
 use Rattle.tree.specs.inner.RecordNodes.{places}
 use Rattle.tree.specs.inner.Sides.{TwoSides}
 use Rattle.tree.specs.declared.nodes.Node.{Node as CodeNode}
-use Rattle.tree.proofs.PackedWords.{node-read, node-written, nodes-many}
-use Rattle.tree.proofs.TreeNodes.{side-written, sides-long}
-use Rattle.step.specs.inner.Pass.{SetsFit, newLabels, sproutNode, settledNode, written, joinedIf, Level, outermost, deepest, Pass, passedNode, passOver, atStart, steppedNodes, levelsOf, ByDepth, Entered}
+use Rattle.tree.proofs.PackedWords.{node-read, nodes-many}
+use Rattle.tree.proofs.TreeNodes.{sides-long}
+use Rattle.step.specs.inner.Pass.{newLabels, settledNode, joinedIf, outermost, deepest, Pass, closedTo, passedNode, readNode, readNodes, atStart, steppedNodes}
+use Rattle.step.specs.inner.LevelArrays.{LevelArrays, levelArrays, EachDepth, waitingLevels, levelsOf, Entered, passAt, Closable, Closing}
 use Rattle.step.specs.inner.Stepping.{nodesOn, Steppable, Stepping}
 use Rattle.step.specs.declared.pass.NewLabels.{NewLabels}
-use Rattle.step.proofs.Levels.{levels-length}
-use Rattle.step.proofs.PassSteps.{Closes, sproutOfLevel, none-closed, pass-closes, pass-skips, pass-reads}
+use Rattle.step.specs.declared.pass.Standing.{Standing}
+use Rattle.step.proofs.Levels.{waiting-length}
+use Rattle.step.proofs.PassSteps.{read-skips, read-deepest, read-append}
+use Rattle.step.proofs.ClosingLoop.{drop-later, other-kept, behind-kept, front-more}
 
--- NODES IN AN ARRAY
-
--- one more node behind the first j
-node-behind : (out : List CodeNode) (j : ℕ) (x : CodeNode) → j < length out → take (j + 1) (set out j x) ≡ take j out ++ (x ∷ [])
-node-behind out j x room = rw (add-one, take-suc-set out j x room)
-
--- the nodes from i on, of the first `count`: one, with those behind it, or none
-left-some : (nodes : List CodeNode) (count i : ℕ) → i < count → count ≤ length nodes
-    → drop i (take count nodes) ≡ getD nodes i blankNode ∷ drop (suc i) (take count nodes)
-left-some nodes count i h all =
-    drop-cons (take count nodes) i blankNode (simp length-take (omega arith)) ∙ rw (getD-take count nodes i blankNode h)
-
-left-none : (nodes : List CodeNode) (count i : ℕ) → count ≤ i → drop i (take count nodes) ≡ []
-left-none nodes count i h = drop-of-length-le (take count nodes) {i = i} (simp length-take (omega arith))
-
--- the loop goes on for a node or for an open level: where this does not close it, there is a node
-pub node-left : (i count top depth own : ℕ) → depth ≡ cond (ltb i count) own 0 → (i < count) ⊎ (0 < top) → top ≤ depth → i < count
-node-left i count top depth own is going deep = go (decLt i count)
-  where
-    go : Dec (i < count) → i < count
-    go (yes less) = less
-    go (no more) = let end : depth ≡ 0 = is ∙ rw (le-ltb i count (omega arith)) in
-        ⊎-elim (λ less. less) (λ open-level. absurd (omega arith)) going
-
--- that node's active set has its images in the look-up
-pub set-fits : (nodes : List CodeNode) (count i : ℕ) → SetsFit (take count nodes) → i < count → getD nodes i blankNode .active ≤ maxSets
-set-fits nodes count i fit less = rw (getD-take count nodes i blankNode less) at (fit i)
-
--- the deepest level of the arrays
-deepest-is : (top : ℕ) (taken sprout : List ℕ) (named : List Bool) → deepest (levelsOf (suc top) taken sprout named)
-    ≡ record { taken = getD taken top 0; sprout = getD sprout top 0; named = getD named top false }
-unfolding levelsOf deepest
-deepest-is top taken sprout named = refl
-
--- lists that are the same from a place on are the same from the next on
-drop-more : (a b : List ℕ) (j : ℕ) → drop j a ≡ drop j b → drop (suc j) a ≡ drop (suc j) b
-drop-more a b j e = rw (← add-one j) (sym (drop-drop 1 j a) ∙ ap (drop 1) e ∙ drop-drop 1 j b)
-
--- THE LOOP
-
--- what the code's variables hold
-abbrev pub passAt : List CodeNode → List ℕ → List ℕ → List Bool → ℕ → ℕ → ℕ → ℕ → Pass
-passAt out taken sprout named accepting stable top j =
-    record { levels = levelsOf (suc top) taken sprout named; nodes = take j out; accepting = accepting; stable = stable }
-
-module _ (lookup : Lookup) (k count : ℕ) (nodes : List CodeNode) where
-  -- the pass over all nodes
-  abbrev whole : Pass
-  whole = passOver (lookUp lookup) k 0 atStart (take count nodes)
-
-  -- the loop's variables: nodes read, levels open and nodes written keep within bounds; and the pass from here over the nodes left
-  -- is the pass over all nodes
-  pub record Reading (out : List CodeNode) (taken sprout : List ℕ) (named : List Bool) (accepting stable top i j : ℕ) : Type 0 where
-    pub few : count ≤ maxStates
-    pub long : length nodes ≡ places
-    pub within : i ≤ count
-    pub shallow : top ≤ i
-    pub fewer : j + top ≤ 2 * i
-    pub by-depth : ByDepth taken sprout named
-    pub size : length out ≡ places
-    pub rest : passOver (lookUp lookup) k i (passAt out taken sprout named accepting stable top j) (drop i (take count nodes))
-        ≡ passOver (lookUp lookup) k 0 atStart (take count nodes)
-
-  module _ {out : List CodeNode} {taken sprout : List ℕ} {named : List Bool} {accepting stable top i j : ℕ}
-      (v : Reading out taken sprout named accepting stable top i j)
-      (depth : ℕ) (is : depth ≡ cond (ltb i count) (getD nodes i blankNode .depth) 0) where
-    -- where the next node is shallower, or none is left, the deepest level is closed
-    closes : depth < top → Closes top (drop i (take count nodes))
-    closes h = go (decLt i count)
-      where
-        go : Dec (i < count) → Closes top (drop i (take count nodes))
-        go (yes less) = rw (left-some nodes count i less (omega (arith, v .few, v .long))) (rw (is, lt-ltb i count less) at h)
-        go (no more) = rw (left-none nodes count i (omega arith)) (omega arith)
-
-    -- what is left of the pass then
-    closed : depth < top
-        → passOver (lookUp lookup) k i (record {
-          levels = levelsOf top taken sprout named;
-          nodes = take j out ++ written (sproutNode top (getD sprout top 0) (getD taken top 0));
-          accepting = accepting;
-          stable = stable;
-        }) (drop i (take count nodes)) ≡ whole
-    unfolding levelsOf sproutOfLevel
-    closed h =
-        let n : length (levelsOf top taken sprout named) ≡ top = levels-length top taken sprout named in
-        rw n at (sym (pass-closes (lookUp lookup) k i _ (levelsOf top taken sprout named) (take j out) accepting stable
-        (drop i (take count nodes)) (rw n (closes h))) ∙ v .rest)
-
-    module _ (h : depth < top) (s : CodeNode) (made : s ≡ sproutNode top (getD sprout top 0) (getD taken top 0)) where
-      open-levels : suc (top - 1) ≡ top
-      open-levels = omega arith
-
-      -- nothing is left for the sprouted child
-      pub close-none : s .label ≡ 0 → Reading out taken sprout named accepting stable (top - 1) i j
-      unfolding written
-      close-none gone = record {
-        few = v .few;
-        long = v .long;
-        within = v .within;
-        shallow = omega (arith, v .shallow);
-        fewer = omega (arith, v .fewer);
-        by-depth = v .by-depth;
-        size = v .size;
-        rest = rw open-levels (rw (← made, eq-eqb (s .label) 0 gone, append-nil (take j out)) at (closed h));
-      }
-
-      -- the sprouted child is written
-      pub close-some : (s .label ≡ 0 → ⊥) → Reading (set out j s) taken sprout named accepting stable (top - 1) i (j + 1)
-      unfolding written
-      close-some stays = let room : j < length out = omega (arith, v .fewer, v .within, v .few, v .size) in record {
-        few = v .few;
-        long = v .long;
-        within = v .within;
-        shallow = omega (arith, v .shallow);
-        fewer = omega (arith, v .fewer);
-        by-depth = v .by-depth;
-        size = length-set out j s ∙ v .size;
-        rest = rw (open-levels, node-behind out j s room) (rw (← made, ne-eqb (s .label) 0 stays) at (closed h));
-      }
-
-    -- else the next node is read: the node x, with some behind it
-    module _ (less : i < count) where
-      abbrev x : CodeNode
-      x = getD nodes i blankNode
-
-      abbrev behind : List CodeNode
-      behind = drop (suc i) (take count nodes)
-
-      abbrev now : Pass
-      now = passAt out taken sprout named accepting stable top j
-
-      depth-is : depth ≡ x .depth
-      depth-is = is ∙ rw (lt-ltb i count less)
-
-      opened : passOver (lookUp lookup) k i now (x ∷ behind) ≡ whole
-      opened = rw (← left-some nodes count i less (omega (arith, v .few, v .long))) (v .rest)
-
-      -- a node below a node without descendants is passed over
-      pub node-skipped : top ≤ depth → (depth ≡ top → ⊥) → Reading out taken sprout named accepting stable top (i + 1) j
-      node-skipped deep other = let d = depth-is in record {
-        few = v .few;
-        long = v .long;
-        within = omega arith;
-        shallow = omega (arith, v .shallow);
-        fewer = omega (arith, v .fewer);
-        by-depth = v .by-depth;
-        size = v .size;
-        rest = rw (add-one i) (sym (pass-skips (lookUp lookup) k i now x behind
-            (rw (levels-length (suc top) taken sprout named) (omega arith))) ∙ opened);
-      }
-
-      module _ (here : depth ≡ top) (m : NewLabels) (made : m ≡ newLabels (lookUp lookup) x (getD taken top 0))
-          {next : ℕ} {taken′ sprout′ : List ℕ} {named′ : List Bool}
-          (in-arrays : Entered m top taken sprout named next taken′ sprout′ named′) where
-        -- a node of the deepest level is read,
-        passed-whole : passOver (lookUp lookup) k (suc i) (passedNode k i x m now) behind ≡ whole
-        passed-whole = let d = depth-is in
-            rw (made, ← ap (λ (l : Level). l .taken) (deepest-is top taken sprout named))
-            (sym (pass-reads (lookUp lookup) k i now x behind (levels-length (suc top) taken sprout named ∙ omega arith)) ∙ opened)
-
-        -- and its node is removed,
-        pub node-removed : m .label ≡ 0 → Reading out taken′ sprout′ named′ accepting stable next (i + 1) j
-        unfolding passedNode
-        node-removed gone = record {
-          few = v .few;
-          long = v .long;
-          within = omega arith;
-          shallow = omega (arith, v .shallow, in-arrays .deeper);
-          fewer = omega (arith, v .fewer, in-arrays .deeper);
-          by-depth = in-arrays .sizes;
-          size = v .size;
-          rest = rw (add-one i, in-arrays .levels) (rw (eq-eqb (m .label) 0 gone) at passed-whole);
-        }
-
-        -- or written
-        pub node-kept : (m .label ≡ 0 → ⊥) → (y : CodeNode) → y ≡ settledNode k x m i → (accepting′ stable′ : ℕ)
-            → accepting′ ≡ joinedIf accepting i (eqb (m .label) (m .kids)) → stable′ ≡ joinedIf stable i (getD named top false)
-            → Reading (set out j y) taken′ sprout′ named′ accepting′ stable′ next (i + 1) (j + 1)
-        unfolding passedNode
-        node-kept stays y settled accepting′ stable′ accepts keeps =
-            let room : j < length out = omega (arith, v .fewer, v .few, v .size) in record {
-              few = v .few;
-              long = v .long;
-              within = omega arith;
-              shallow = omega (arith, v .shallow, in-arrays .deeper);
-              fewer = omega (arith, v .fewer, in-arrays .deeper);
-              by-depth = in-arrays .sizes;
-              size = length-set out j y ∙ v .size;
-              rest = rw (add-one i, in-arrays .levels, node-behind out j y room, settled, accepts, keeps)
-                  (rw (ne-eqb (m .label) 0 stays, deepest-is top taken sprout named) at passed-whole);
-            }
-
-  -- where the loop ends the pass is over
-  pub pass-over : {out : List CodeNode} {taken sprout : List ℕ} {named : List Bool} {accepting stable top i j : ℕ}
-      → Reading out taken sprout named accepting stable top i j → count ≤ i → top ≤ 0
-      → passAt out taken sprout named accepting stable top j ≡ whole
-  unfolding passOver
-  pass-over {out} {taken} {sprout} {named} {accepting} {stable} {top} {i} {j} v end bottom =
-      sym (none-closed 0 _ (rw (levels-length (suc top) taken sprout named) (omega arith)))
-      ∙ (rw (left-none nodes count i end) at (v .rest))
-
--- ON TWO SIDES
+-- one more node
+read-next : (E : ℕ → ℕ → ℕ) (k : ℕ) (nodes : List CodeNode) (i : ℕ) → i < length nodes
+    → readNodes E k 0 atStart (take (i + 1) nodes)
+    ≡ readNode E k i (getD nodes i blankNode) (closedTo (getD nodes i blankNode .depth) (readNodes E k 0 atStart (take i nodes)))
+unfolding readNodes
+read-next E k nodes i h =
+    let e : 0 + length (take i nodes) ≡ i = omega (arith, length-take-le i nodes (omega arith)) in
+    rw (add-one, take-suc nodes i blankNode h, read-append E k 0 atStart (take i nodes) (getD nodes i blankNode ∷ []), e)
 
 module _ (lookup : Lookup) (k count from : ℕ) (before : List (List ℕ)) where
-  -- the loop reads the nodes of one side and writes those of the other; words not written are as they were
-  pub record OnSides (sides : List (List ℕ)) (taken sprout : List ℕ) (named : List Bool) (accepting stable top i j : ℕ) : Type 0 where
-    pub side : from < 2
+  abbrev to : ℕ
+  to = 1 - from
+
+  -- the nodes of the side that is read
+  abbrev nodes : List CodeNode
+  nodes = nodesIn (getD before from [])
+
+  -- the pass over the first i of those that count
+  abbrev readTo : ℕ → Pass
+  readTo i = readNodes (lookUp lookup) k 0 atStart (take i (take count nodes))
+
+  -- the loop reads the nodes of one side and writes those of the other; words not written are as they were. Nodes read, levels open and
+  -- nodes written keep within bounds; what the variables hold is the pass over the nodes read
+  pub record OnSides (sides : List (List ℕ)) (A : LevelArrays) (accepting stable : ℕ) (at : Standing) (i : ℕ) : Type 0 where
+    pub ready : Steppable before from count
     pub arrays : TwoSides sides
     pub kept : getD sides from [] ≡ getD before from []
-    pub behind : drop j (getD sides (1 - from) []) ≡ drop j (getD before (1 - from) [])
-    pub reading : Reading lookup k count (nodesIn (getD before from [])) (nodesIn (getD sides (1 - from) [])) taken sprout named
-        accepting stable top i j
+    pub behind : drop (at .written) (getD sides (1 - from) []) ≡ drop (at .written) (getD before (1 - from) [])
+    pub within : i ≤ count
+    pub shallow : at .top ≤ i
+    pub fewer : at .written + at .top ≤ 2 * i
+    pub by-depth : EachDepth A
+    pub pass : passAt (getD sides (1 - from) []) A at accepting stable
+        ≡ readNodes (lookUp lookup) k 0 atStart (take i (nodesOn before from count))
 
   -- before the first node
-  pub sides-start : Steppable before from count → (taken sprout : List ℕ) (named : List Bool) → ByDepth taken sprout named
-      → levelsOf 1 taken sprout named ≡ outermost ∷ [] → OnSides before taken sprout named 0 0 0 0 0
-  sides-start ready taken sprout named sizes top-level =
-      let one = ready .side in
-      record {
-        side = ready .side;
-        arrays = ready .arrays;
-        kept = refl;
-        behind = refl;
-        reading = record {
-          few = ready .few;
-          long = nodes-many (getD before from []) (ready .arrays .long from one);
+  pub sides-start : Steppable before from count → (A : LevelArrays) → EachDepth A
+      → levelsOf A (record { top = 0; older = 0; written = 0 }) ≡ outermost ∷ []
+      → OnSides before A 0 0 (record { top = 0; older = 0; written = 0 }) 0
+  unfolding readNodes
+  sides-start ready A sizes root = record {
+    ready = ready;
+    arrays = ready .arrays;
+    kept = refl;
+    behind = refl;
+    within = omega arith;
+    shallow = omega arith;
+    fewer = omega arith;
+    by-depth = sizes;
+    pass = rw root;
+  }
+
+  module _ {sides : List (List ℕ)} {A : LevelArrays} {accepting stable : ℕ} {at : Standing} {i : ℕ}
+      (v : OnSides sides A accepting stable at i) where
+    -- levels can be closed
+    pub closable : Closable sides (1 - from) (A .above) (A .waiting) (A .sprout) at
+    closable = record {
+      arrays = v .arrays;
+      side = omega (arith, v .ready .side);
+      by-depth = (v .by-depth .0, (v .by-depth .1 .0, v .by-depth .1 .1 .0));
+      shallow = omega (arith, v .shallow, v .within, v .ready .few);
+      room = omega (arith, v .fewer, v .within, v .ready .few);
+    }
+
+    -- THE NODE THAT IS READ
+
+    module _ (less : i < count) where
+      long : length nodes ≡ places
+      long = nodes-many (getD before from []) (v .ready .arrays .long from (v .ready .side))
+
+      pub side-read : (x : CodeNode) → x ≡ unpacked (getD (getD sides from []) i 0) → x ≡ getD nodes i blankNode
+      side-read x is = node-read (getD before from []) i (is ∙ ap (λ (words : List ℕ). unpacked (getD words i 0)) (v .kept))
+
+      -- its active set has its images in the look-up
+      pub set-fits : getD nodes i blankNode .active ≤ maxSets
+      set-fits = rw (getD-take count nodes i blankNode less) at (v .ready .fits i)
+
+      next-read : (x : CodeNode) → x ≡ getD nodes i blankNode
+          → readTo (i + 1) ≡ readNode (lookUp lookup) k i x (closedTo (x .depth) (readTo i))
+      next-read x is =
+          let all : count ≤ length nodes = omega (arith, long, v .ready .few) in
+          let n : length (take count nodes) ≡ count = length-take-le count nodes all in
+          rw (is, ← getD-take count nodes i blankNode less) (read-next (lookUp lookup) k (take count nodes) i (omega arith))
+
+      module _ (x : CodeNode) (is : x ≡ getD nodes i blankNode) (after : List (List ℕ)) (next : Standing)
+          (closing : Closing (A .above) (A .waiting) (A .sprout) to (x .depth) at sides next after) where
+        -- deeper levels are closed first
+        abbrev now : Pass
+        now = passAt (getD after to []) A next accepting stable
+
+        closed : now ≡ closedTo (x .depth) (readTo i)
+        closed = closing .pass (A .named) accepting stable ∙ ap (closedTo (x .depth)) (v .pass)
+
+        other : getD after from [] ≡ getD before from []
+        other = let e : 1 - to ≡ from = omega (arith, v .ready .side) in (rw e at (closing .kept)) ∙ v .kept
+
+        rest : drop (next .written) (getD after to []) ≡ drop (next .written) (getD before to [])
+        rest = closing .behind ∙ drop-later (getD sides to []) (getD before to []) (at .written) (next .written) (closing .more) (v .behind)
+
+        levels-open : length (now .levels) ≡ suc (next .top)
+        levels-open = let n = waiting-length A (next .top) in omega arith
+
+        -- a node below a node without descendants is passed over
+        pub node-skipped : (x .depth ≡ next .top → ⊥) → OnSides after A accepting stable next (i + 1)
+        node-skipped deeper = record {
+          ready = v .ready;
+          arrays = closing .arrays;
+          kept = other;
+          behind = rest;
           within = omega arith;
-          shallow = omega arith;
-          fewer = omega arith;
-          by-depth = sizes;
-          size = nodes-many (getD before (1 - from) []) (ready .arrays .long (1 - from) (omega arith));
-          rest = rw top-level;
-        };
-      }
-
-  module _ {sides : List (List ℕ)} {taken sprout : List ℕ} {named : List Bool} {accepting stable top i j : ℕ}
-      (v : OnSides sides taken sprout named accepting stable top i j) where
-    -- the node that is read
-    pub side-read : (x : CodeNode) → x ≡ unpacked (getD (getD sides from []) i 0) → x ≡ getD (nodesIn (getD before from [])) i blankNode
-    side-read x is = node-read (getD before from []) i (is ∙ ap (λ (words : List ℕ). unpacked (getD words i 0)) (v .kept))
-
-    -- no node is written, whatever else has changed
-    pub sides-kept : {taken′ sprout′ : List ℕ} {named′ : List Bool} {top′ i′ : ℕ}
-        → Reading lookup k count (nodesIn (getD before from [])) (nodesIn (getD sides (1 - from) [])) taken′ sprout′ named′
-        accepting stable top′ i′ j → OnSides sides taken′ sprout′ named′ accepting stable top′ i′ j
-    sides-kept r = record { side = v .side; arrays = v .arrays; kept = v .kept; behind = v .behind; reading = r }
-
-    -- a node is written
-    pub sides-written : {taken′ sprout′ : List ℕ} {named′ : List Bool} {accepting′ stable′ top′ i′ : ℕ} (x : CodeNode) (word : ℕ)
-        → unpacked word ≡ x
-        → Reading lookup k count (nodesIn (getD before from [])) (set (nodesIn (getD sides (1 - from) [])) j x) taken′ sprout′ named′
-        accepting′ stable′ top′ i′ (j + 1)
-        → OnSides (set sides (1 - from) (set (getD sides (1 - from) []) j word)) taken′ sprout′ named′ accepting′ stable′ top′ i′ (j + 1)
-    sides-written x word is r =
-        let other = side-written (v .arrays) (1 - from) (omega arith) j word in
-        record {
-          side = v .side;
-          arrays = sides-long (v .arrays) (1 - from) (omega arith) j word;
-          kept = getD-set-other sides (1 - from) from _ [] (λ e. omega arith) ∙ v .kept;
-          behind = rw (other, add-one) (drop-set-lt (suc j) (getD sides (1 - from) []) j word (omega arith)
-              ∙ drop-more (getD sides (1 - from) []) (getD before (1 - from) []) j (v .behind));
-          reading = rw (other, node-written (getD sides (1 - from) []) j word is) r;
+          shallow = omega (arith, v .shallow, closing .shallower);
+          fewer = omega (arith, v .fewer, closing .room);
+          by-depth = v .by-depth;
+          pass = sym (next-read x is ∙ rw (← closed) (read-skips (lookUp lookup) k i now x (omega (arith, levels-open, closing .shallow))));
         }
 
-    -- at the end
-    pub sides-done : count ≤ i → top ≤ 0
-        → Stepping (steppedNodes lookup k (nodesOn before from count)) from before (record { count = j; accepting = accepting; stable = stable }) sides
+        module _ (here : x .depth ≡ next .top) (m : NewLabels)
+            (made : m ≡ newLabels (lookUp lookup) x (bitOr (getD (A .above) (next .top) 0) (next .older)))
+            {entering : Standing} {B : LevelArrays} (in-arrays : Entered m next A entering B) where
+          -- a node of the deepest level is read
+          passed : readTo (i + 1) ≡ passedNode k i x m now
+          unfolding deepest
+          passed = next-read x is ∙ rw (← closed, made) (read-deepest (lookUp lookup) k i now x (omega (arith, levels-open)))
+
+          -- it is removed
+          pub node-removed : m .label ≡ 0 → OnSides after B accepting stable entering (i + 1)
+          unfolding passedNode
+          node-removed gone = let w = in-arrays .written in record {
+            ready = v .ready;
+            arrays = closing .arrays;
+            kept = other;
+            behind = rw w rest;
+            within = omega arith;
+            shallow = omega (arith, v .shallow, closing .shallower, in-arrays .deeper);
+            fewer = omega (arith, v .fewer, closing .room, in-arrays .deeper);
+            by-depth = in-arrays .sizes;
+            pass = sym (passed ∙ rw (eq-eqb (m .label) 0 gone, w, in-arrays .levels));
+          }
+
+          -- or written: there is room
+          pub node-room : entering .written < places
+          node-room = omega (arith, in-arrays .written, v .fewer, closing .room, v .ready .few)
+
+          pub node-kept : (m .label ≡ 0 → ⊥) → (word : ℕ) → unpacked word ≡ settledNode k x m i → (accepting′ stable′ : ℕ)
+              → accepting′ ≡ joinedIf accepting i (eqb (m .label) (m .kids)) → stable′ ≡ joinedIf stable i (getD (A .named) (next .top) false)
+              → OnSides (set after to (set (getD after to []) (entering .written) word)) B accepting′ stable′
+              (record { top = entering .top; older = entering .older; written = entering .written + 1 }) (i + 1)
+          unfolding passedNode deepest
+          node-kept stays word settled accepting′ stable′ accepts keeps =
+              let w = in-arrays .written in
+              let one : to < 2 = omega (arith, v .ready .side) in
+              record {
+                ready = v .ready;
+                arrays = sides-long (closing .arrays) to one (entering .written) word;
+                kept = other-kept (closing .arrays) to one (entering .written) word from (λ e. omega arith) ∙ other;
+                behind = behind-kept (closing .arrays) to one (entering .written) word (getD before to []) (rw w rest);
+                within = omega arith;
+                shallow = omega (arith, v .shallow, closing .shallower, in-arrays .deeper);
+                fewer = omega (arith, v .fewer, closing .room, in-arrays .deeper);
+                by-depth = in-arrays .sizes;
+                pass = sym (passed ∙ rw (
+                  ne-eqb (m .label) 0 stays,
+                  in-arrays .levels,
+                  accepts,
+                  keeps,
+                  front-more (closing .arrays) to one (entering .written) word (settledNode k x m i) settled node-room,
+                  w,
+                ));
+              }
+
+    -- THE END
+
+    pub sides-done : count ≤ i → (after : List (List ℕ)) (end : Standing)
+        → Closing (A .above) (A .waiting) (A .sprout) to 0 at sides end after
+        → Stepping (steppedNodes lookup k (nodesOn before from count)) from before
+        (record { count = end .written; accepting = accepting; stable = stable }) after
     unfolding steppedNodes
-    sides-done end bottom =
-        let p = pass-over lookup k count (nodesIn (getD before from [])) (v .reading) end bottom in
-        let out : List CodeNode = nodesIn (getD sides (1 - from) []) in
-        let r = v .reading in
-        let front : take j out ≡ passOver (lookUp lookup) k 0 atStart (nodesOn before from count) .nodes = ap (λ (q : Pass). q .nodes) p in
+    sides-done over after end closing =
+        let size : length (nodesIn (getD after to [])) ≡ places = nodes-many (getD after to []) (closing .arrays .long to (omega (arith, v .ready .side))) in
+        let same : 1 - to ≡ from = omega (arith, v .ready .side) in
+        let all : take i (take count nodes) ≡ take count nodes = take-all i (take count nodes) (omega (arith, length-take count nodes)) in
+        let p : passAt (getD after to []) A end accepting stable ≡ closedTo 0 (readNodes (lookUp lookup) k 0 atStart (take count nodes)) =
+        closing .pass (A .named) accepting stable ∙ ap (closedTo 0) (v .pass ∙ ap (readNodes (lookUp lookup) k 0 atStart) all) in
+        let front = ap (λ (q : Pass). q .nodes) p in
         record {
-          arrays = v .arrays;
+          arrays = closing .arrays;
           nodes = front;
-          count = sym (length-take-le j out (omega (arith, r .size, r .fewer, r .within, r .few))) ∙ ap length front;
+          count = sym (length-take-le (end .written) (nodesIn (getD after to []))
+              (omega (arith, size, closing .room, v .fewer, v .within, v .ready .few))) ∙ ap length front;
           accepting = ap (λ (q : Pass). q .accepting) p;
           stable = ap (λ (q : Pass). q .stable) p;
-          kept = v .kept;
-          behind = v .behind;
+          kept = (rw same at (closing .kept)) ∙ v .kept;
+          behind = closing .behind ∙ drop-later (getD sides to []) (getD before to []) (at .written) (end .written) (closing .more) (v .behind);
         }

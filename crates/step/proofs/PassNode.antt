@@ -19,9 +19,9 @@ use Rattle.history.proofs.step.LabelsOfStep.{labels-step}
 use Rattle.history.proofs.step.StepsJoined.{plain, earlierNode, grown, advanced, grown-step, oldNode, begunFrom, earlier-begunFrom}
 use Rattle.tree.specs.inner.Nodes.{nodesFrom}
 use Rattle.tree.specs.declared.nodes.Node.{Node as CodeNode}
-use Rattle.step.specs.inner.Pass.{newLabels, Level, joinedIf, deepest, Pass, passedNode, passOver}
+use Rattle.step.specs.inner.Pass.{newLabels, Level, joinedIf, deepest, Pass, closedTo, passedNode, readNode, readNodes}
 use Rattle.step.specs.declared.pass.NewLabels.{NewLabels}
-use Rattle.step.proofs.PassSteps.{level, pass, pass-skips, pass-reads, passed-removed, passed-accepting, passed-kept}
+use Rattle.step.proofs.PassSteps.{level, pass, none-closed, read-skips, read-deepest, read-nil, read-cons, read-append, passed-removed, passed-accepting, passed-kept}
 use Rattle.step.proofs.GrownNodes.{grownNodes, acceptingOf, stableOf, nodesHere, acceptingHere, stableHere}
 
 -- a node at depth d, as the code has it
@@ -36,17 +36,19 @@ labels-below R a older sprout F = set-ext _ _ (λ q. labels-step R a older sprou
     (member-union (successors R a (labels F)) sprout q)))
 
 -- a pass goes over nodes that are deeper than its levels
-pass-below : (E : ℕ → ℕ → ℕ) (k i : ℕ) (p : Pass) (d : ℕ) (F : Tree) (left : List CodeNode) → length (p .levels) ≤ d
-    → passOver E k i p (nodesFrom d F ++ left) ≡ passOver E k (i + size F) p left
-unfolding nodesFrom size
-pass-below E k i p d nil left h = let e : i ≡ i + 0 = omega arith in ap (λ (n : ℕ). passOver E k n p left) e
-pass-below E k i p d (node x below younger) left h =
-    pass-skips E k i p (nodeAt d x below) ((nodesFrom (suc d) below ++ nodesFrom d younger) ++ left) h
-    ∙ rw (append-assoc (nodesFrom (suc d) below) (nodesFrom d younger) left)
-    (pass-below E k (suc i) p (suc d) below (nodesFrom d younger ++ left) (omega arith)
-    ∙ pass-below E k (suc i + size below) p d younger left h
-    ∙ (let e : suc i + size below + size younger ≡ i + suc (size below + size younger) = omega arith in
-    ap (λ (n : ℕ). passOver E k n p left) e))
+pub reads-none : (E : ℕ → ℕ → ℕ) (k i : ℕ) (p : Pass) (d : ℕ) (F : Tree) → length (p .levels) ≤ d → readNodes E k i p (nodesFrom d F) ≡ p
+unfolding nodesFrom
+reads-none E k i p d nil h = read-nil E k i p
+reads-none E k i p d (node x below younger) h =
+    let same : readNode E k i (nodeAt d x below) (closedTo d p) ≡ p =
+    ap (readNode E k i (nodeAt d x below)) (none-closed d p (omega arith)) ∙ read-skips E k i p (nodeAt d x below) h in
+    read-cons E k i p (nodeAt d x below) (nodesFrom (suc d) below ++ nodesFrom d younger)
+    ∙ rw (same, read-append E k (suc i) p (nodesFrom (suc d) below) (nodesFrom d younger), reads-none E k (suc i) p (suc d) below (omega arith))
+    (reads-none E k (suc i + length (nodesFrom (suc d) below)) p d younger h)
+
+passes-none : (E : ℕ → ℕ → ℕ) (k i : ℕ) (p : Pass) (d : ℕ) (F : Tree) → length (p .levels) ≤ suc d
+    → closedTo d (readNodes E k i p (nodesFrom (suc d) F)) ≡ p
+passes-none E k i p d F h = ap (closedTo d) (reads-none E k i p (suc d) F h) ∙ none-closed d p h
 
 -- what is joined to a map
 joined-or : (map i : ℕ) (b : Bool) → joinedIf map i b ≡ bitOr map (cond b (2 ^ i) 0)
@@ -82,90 +84,93 @@ module _ (R : Rule) (a older : ℕ) (v : List ℕ) (x : Node) (below : Tree) whe
   full-is = rw (grown-step R a older (child R a (oldNode v x)) (begunFrom v 0 below) refl, earlier-begunFrom v 0 below)
 
 module _ (R : Rule) (a : ℕ) (E : ℕ → ℕ → ℕ) (number : Origin → ℕ) where
-  -- the pass over siblings at depth d, and over all below them, with some nodes behind: their level is closed
-  abbrev pub Passes : Tree → List ℕ → ℕ → ℕ → ℕ → ℕ → Grown → Bool → List Level → List CodeNode → ℕ → ℕ → List CodeNode → Type 0
-  Passes F p c i d older y b levels nodes accepting stable left =
-      passOver E (R .sets) i (pass (level older (child R a y .label) b ∷ levels) nodes accepting stable) (nodesFrom d F ++ left)
-      ≡ passOver E (R .sets) (i + size F) (pass levels (nodes ++ grownNodes number d (grown R a older (child R a y) (begunFrom p c F)))
-      (bitOr accepting (acceptingOf number (grown R a older (child R a y) (begunFrom p c F))))
-      (bitOr stable (cond b (stableOf number p c (grown R a older (child R a y) (begunFrom p c F))) 0))) left
+  -- the pass over siblings below depth d, and over all below them: then their level is closed
+  abbrev pub Passes : Tree → List ℕ → ℕ → ℕ → ℕ → ℕ → ℕ → ℕ → Grown → Bool → List Level → List CodeNode → ℕ → ℕ → Type 0
+  Passes F p c i d held above older y b levels nodes accepting stable =
+      closedTo d (readNodes E (R .sets) i (pass (level above older (child R a y .label) b ∷ levels) nodes accepting stable) (nodesFrom (suc d) F))
+      ≡ pass levels (nodes ++ grownNodes number (suc d) (grown R a held (child R a y) (begunFrom p c F)))
+      (bitOr accepting (acceptingOf number (grown R a held (child R a y) (begunFrom p c F))))
+      (bitOr stable (cond b (stableOf number p c (grown R a held (child R a y) (begunFrom p c F))) 0))
 
 module _ (R : Rule) (a : ℕ) (E : ℕ → ℕ → ℕ) (number : Origin → ℕ)
     (all : (s : ℕ) → E 0 s ≡ successors R a s)
     (of : (i s : ℕ) → 1 ≤ i → i ≤ R .sets → E i s ≡ successorsIn R i a s) where
-  module _ (v : List ℕ) (x : Node) (below : Tree) (low : 1 ≤ x .active) (high : x .active ≤ R .sets) (older : ℕ) where
+  module _ (v : List ℕ) (x : Node) (below : Tree) (low : 1 ≤ x .active) (high : x .active ≤ R .sets) (held : ℕ) where
     abbrev pub N : Grown
-    N = here R a older v x below
+    N = here R a held v x below
 
     abbrev pub B : Forest Grown
-    B = newKids R a older v x below
+    B = newKids R a held v x below
 
-    abbrev made : NewLabels
-    made = record { label = newLabel R a older x; kids = labels (plain B); sprout = successorsIn R (x .active) a (x .label) }
+    abbrev pub made : NewLabels
+    made = record { label = newLabel R a held x; kids = labels (plain B); sprout = successorsIn R (x .active) a (x .label) }
 
     -- steps 1 to 3 at it
-    made-node : (d : ℕ) → newLabels E (nodeAt d x below) older ≡ made
+    made-node : (d : ℕ) → newLabels E (nodeAt d x below) held ≡ made
     unfolding newLabels newLabel child oldNode
     made-node d = rw (
       all (x .label),
       all (labels below),
       of (x .active) (x .label) low high,
-      grown-step R a older (child R a (oldNode v x)) (begunFrom v 0 below) refl,
+      grown-step R a held (child R a (oldNode v x)) (begunFrom v 0 below) refl,
       earlier-begunFrom v 0 below,
-      labels-below R a older (successorsIn R (x .active) a (x .label)) below,
+      labels-below R a held (successorsIn R (x .active) a (x .label)) below,
     )
 
     abbrev pub g : Bool
-    g = gone R a older v x below
+    g = gone R a held v x below
 
     abbrev pub f : Bool
-    f = full R a older v x below
+    f = full R a held v x below
 
-    -- the pass over it and all below it, given the pass over its children
-    pub pass-branch : (i d sprout : ℕ) (b : Bool) (levels : List Level) (nodes : List CodeNode) (accepting stable : ℕ) (left : List CodeNode)
-        → length levels ≡ d → number (was v) ≡ i
-        → ((inner : List Level) (nodes : List CodeNode) (accepting stable : ℕ) → length inner ≡ suc d
-        → Passes R a E number below v 0 (suc i) (suc d) older (oldNode v x) b inner nodes accepting stable left)
-        → passOver E (R .sets) i (pass (level older sprout b ∷ levels) nodes accepting stable)
-        (nodeAt d x below ∷ (nodesFrom (suc d) below ++ left))
-        ≡ passOver E (R .sets) (suc i + size below) (pass (level (bitOr older (newLabel R a older x)) sprout (cond g false b) ∷ levels)
-        (nodes ++ nodesHere number (R .sets) d g f N B)
-        (bitOr accepting (acceptingHere number (R .sets) g f N B))
-        (bitOr stable (cond b (stableHere number (R .sets) v g f N B) 0))) left
-    unfolding deepest nodesHere acceptingHere stableHere advanced child oldNode earlierNode
-    pass-branch i d sprout b levels nodes accepting stable left deep own ih =
-        pass-reads E (R .sets) i now (nodeAt d x below) (nodesFrom (suc d) below ++ left) (ap suc deep)
-        ∙ rw (made-node d) (go g f refl refl)
-      where
-        now : Pass
-        now = pass (level older sprout b ∷ levels) nodes accepting stable
+    module _ (above older : ℕ) (sum : bitOr above older ≡ held) (i d sprout : ℕ) (b : Bool) (levels : List Level)
+        (nodes : List CodeNode) (accepting stable : ℕ) (deep : length levels ≡ d) where
+      abbrev now : Pass
+      now = pass (level above older sprout b ∷ levels) nodes accepting stable
 
-        go : (g′ f′ : Bool) → g ≡ g′ → f ≡ f′
-            → passOver E (R .sets) (suc i) (passedNode (R .sets) i (nodeAt d x below) made now) (nodesFrom (suc d) below ++ left)
-            ≡ passOver E (R .sets) (suc i + size below) (pass (level (bitOr older (newLabel R a older x)) sprout (cond g′ false b) ∷ levels)
-            (nodes ++ nodesHere number (R .sets) d g′ f′ N B)
-            (bitOr accepting (acceptingHere number (R .sets) g′ f′ N B))
-            (bitOr stable (cond b (stableHere number (R .sets) v g′ f′ N B) 0))) left
-        go true f′ e _ =
-            rw (
-              passed-removed (R .sets) i (nodeAt d x below) made (level older sprout b) levels nodes accepting stable e,
-              eqb-true (newLabel R a older x) 0 e,
-              or-zero-r older,
-              append-nil nodes,
-              or-zero-r accepting,
-              cond-none b,
-              or-zero-r stable,
-            )
-            (pass-below E (R .sets) (suc i) _ (suc d) below left (omega arith))
-        go false true e e′ =
-            rw (
-              passed-accepting (R .sets) i (nodeAt d x below) made (level older sprout b) levels nodes accepting stable e e′,
-              own,
-              joined-or stable i b,
-            )
-            (pass-below E (R .sets) (suc i) _ (suc d) below left (omega arith))
-        go false false e e′ =
-            rw (passed-kept (R .sets) i (nodeAt d x below) made (level older sprout b) levels nodes accepting stable e e′, own)
-            (ih (level (bitOr older (newLabel R a older x)) sprout b ∷ levels) (nodes ++ (_ ∷ [])) accepting (joinedIf stable i b)
-            (ap suc deep)
-            ∙ rw (append-assoc nodes, joined-more stable i (stableOf number v 0 B) b))
+      -- it is read,
+      pub node-read : readNode E (R .sets) i (nodeAt d x below) (closedTo d now) ≡ passedNode (R .sets) i (nodeAt d x below) made now
+      unfolding deepest
+      node-read = rw (none-closed d now (omega arith), read-deepest E (R .sets) i now (nodeAt d x below) (ap suc deep), sum, made-node d)
+
+      -- and all below it, given the pass over its children
+      pub pass-branch : number (was v) ≡ i
+          → ((inner : List Level) (nodes : List CodeNode) (accepting stable : ℕ) → length inner ≡ suc d
+          → Passes R a E number below v 0 (suc i) d held (bitOr above older) 0 (oldNode v x) b inner nodes accepting stable)
+          → closedTo d (readNodes E (R .sets) i now (nodeAt d x below ∷ nodesFrom (suc d) below))
+          ≡ pass (level above (bitOr older (newLabel R a held x)) sprout (cond g false b) ∷ levels)
+          (nodes ++ nodesHere number (R .sets) d g f N B)
+          (bitOr accepting (acceptingHere number (R .sets) g f N B))
+          (bitOr stable (cond b (stableHere number (R .sets) v g f N B) 0))
+      unfolding nodesHere acceptingHere stableHere advanced child oldNode earlierNode
+      pass-branch own ih = rw (read-cons E (R .sets) i now (nodeAt d x below) (nodesFrom (suc d) below), node-read) (go g f refl refl)
+        where
+          go : (g′ f′ : Bool) → g ≡ g′ → f ≡ f′
+              → closedTo d (readNodes E (R .sets) (suc i) (passedNode (R .sets) i (nodeAt d x below) made now) (nodesFrom (suc d) below))
+              ≡ pass (level above (bitOr older (newLabel R a held x)) sprout (cond g′ false b) ∷ levels)
+              (nodes ++ nodesHere number (R .sets) d g′ f′ N B)
+              (bitOr accepting (acceptingHere number (R .sets) g′ f′ N B))
+              (bitOr stable (cond b (stableHere number (R .sets) v g′ f′ N B) 0))
+          go true f′ e _ =
+              rw (
+                passed-removed (R .sets) i (nodeAt d x below) made (level above older sprout b) levels nodes accepting stable e,
+                eqb-true (newLabel R a held x) 0 e,
+                or-zero-r older,
+                append-nil nodes,
+                or-zero-r accepting,
+                cond-none b,
+                or-zero-r stable,
+              )
+              (passes-none E (R .sets) (suc i) _ d below (omega arith))
+          go false true e e′ =
+              rw (
+                passed-accepting (R .sets) i (nodeAt d x below) made (level above older sprout b) levels nodes accepting stable e e′,
+                own,
+                joined-or stable i b,
+              )
+              (passes-none E (R .sets) (suc i) _ d below (omega arith))
+          go false false e e′ =
+              rw (passed-kept (R .sets) i (nodeAt d x below) made (level above older sprout b) levels nodes accepting stable e e′, own)
+              (ih (level above (bitOr older (newLabel R a held x)) sprout b ∷ levels) (nodes ++ (_ ∷ [])) accepting (joinedIf stable i b)
+              (ap suc deep)
+              ∙ rw (append-assoc nodes, joined-more stable i (stableOf number v 0 B) b))

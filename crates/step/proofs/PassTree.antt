@@ -21,8 +21,9 @@ use Rattle.history.proofs.step.StepsJoined.{grown, advanced, grown-new, oldNode
 use Rattle.history.proofs.names.Origins.{grownBranch, grown-begun, steps-dead, steps-root}
 use Rattle.tree.specs.inner.Nodes.{nodesFrom, nodesOf}
 use Rattle.tree.specs.declared.nodes.Node.{Node as CodeNode}
-use Rattle.step.specs.inner.Pass.{Level, sproutNode, written, Pass, closedTo, levelsTo, sproutsTo, passOver, atStart}
-use Rattle.step.proofs.PassSteps.{level, pass, Closes, sproutOfLevel, none-closed, pass-closes}
+use Rattle.tree.proofs.TreeNodes.{size-from}
+use Rattle.step.specs.inner.Pass.{Level, sproutNode, written, Pass, closedTo, levelsTo, sproutsTo, readNode, readNodes, atStart}
+use Rattle.step.proofs.PassSteps.{level, pass, sproutOfLevel, closed-level, none-closed, closed-again, read-nil, read-cons, read-append}
 use Rattle.step.proofs.GrownNodes.{marked, grownNodes, acceptingOf, stableOf, stableIn, Gives, nodesHere, acceptingHere, stableHere, nodes-kept, accepting-kept, stable-kept, stable-root}
 use Rattle.step.proofs.Renamed.{new-none, renamed}
 use Rattle.step.proofs.PassNode.{nodeAt, cond-none, here, newKids, gone, full, full-is, Passes, pass-branch}
@@ -34,12 +35,14 @@ Numbered number p c i (node x below younger) =
     (number (was (p ++ (c ∷ []))) ≡ i) × Numbered number (p ++ (c ∷ [])) 0 (suc i) below
     × Numbered number p (suc c) (suc i + size below) younger
 
--- nodes behind siblings at depth d close the level below them
-closes-below : (d : ℕ) (F : Tree) (left : List CodeNode) → Closes d left → Closes (suc d) (nodesFrom d F ++ left)
-unfolding nodesFrom
-closes-below d nil [] h = omega arith
-closes-below d nil (x ∷ left) h = omega arith
-closes-below d (node x below younger) left h = omega arith
+-- siblings at depth d close deeper levels, and so does their end
+pub closes-first : (E : ℕ → ℕ → ℕ) (k i d : ℕ) (p : Pass) (F : Tree)
+    → closedTo d (readNodes E k i (closedTo (suc d) p) (nodesFrom (suc d) F)) ≡ closedTo d (readNodes E k i p (nodesFrom (suc d) F))
+unfolding nodesFrom readNodes
+closes-first E k i d p nil = closed-again d (suc d) p (omega arith)
+closes-first E k i d p (node x below younger) =
+    ap (λ (q : Pass). closedTo d (readNodes E k (suc i) (readNode E k i (nodeAt (suc d) x below) q)
+    (nodesFrom (suc (suc d)) below ++ nodesFrom (suc d) younger))) (closed-again (suc d) (suc d) p (omega arith))
 
 module _ (R : Rule) (a : ℕ) (E : ℕ → ℕ → ℕ) (number : Origin → ℕ) (none : number sprouted ≡ noNode)
     (all : (s : ℕ) → E 0 s ≡ successors R a s)
@@ -65,23 +68,23 @@ module _ (R : Rule) (a : ℕ) (E : ℕ → ℕ → ℕ) (number : Origin → ℕ
   abbrev lastChild : ℕ → Grown → Grown
   lastChild older y = record { origin = sprouted; before = 0; label = minus (child R a y .label) older; active = 1; accepting = false }
 
-  pass-last : (p : List ℕ) (c i d older : ℕ) (y : Grown) (b : Bool) (levels : List Level) (nodes : List CodeNode) (accepting stable : ℕ)
-      (left : List CodeNode) → length levels ≡ d → Closes d left
-      → Passes R a E number nil p c i d older y b levels nodes accepting stable left
-  unfolding nodesFrom size begunFrom namedFrom change sproutOfLevel sproutNode child
-  pass-last p c i d older y b levels nodes accepting stable left deep h =
-      let same : i + 0 ≡ i = omega arith in
+  pass-last : (p : List ℕ) (c i d held above older : ℕ) → bitOr above older ≡ held → (y : Grown) (b : Bool) (levels : List Level)
+      (nodes : List CodeNode) (accepting stable : ℕ) → length levels ≡ suc d
+      → Passes R a E number nil p c i d held above older y b levels nodes accepting stable
+  unfolding nodesFrom begunFrom namedFrom change sproutOfLevel sproutNode child
+  pass-last p c i d held above older sum y b levels nodes accepting stable deep =
       rw (
-        same,
-        grown-new R a older (child R a y),
-        new-nodes (R .sets) d (lastChild older y) refl refl,
-        new-accepting (R .sets) (eqb (lastChild older y .label) 0) (lastChild older y) refl,
-        new-none number (R .sets) p c (eqb (lastChild older y .label) 0) (eqb (lastChild older y .label) 0) (lastChild older y) refl,
+        grown-new R a held (child R a y),
+        new-nodes (R .sets) (suc d) (lastChild held y) refl refl,
+        new-accepting (R .sets) (eqb (lastChild held y .label) 0) (lastChild held y) refl,
+        new-none number (R .sets) p c (eqb (lastChild held y .label) 0) (eqb (lastChild held y .label) 0) (lastChild held y) refl,
         or-zero-r accepting,
         cond-none b,
         or-zero-r stable,
+        read-nil E (R .sets) i (pass (level above older (child R a y .label) b ∷ levels) nodes accepting stable),
       )
-      (pass-closes E (R .sets) i (level older (child R a y .label) b) levels nodes accepting stable left (rw deep h) ∙ rw deep)
+      (closed-level d (level above older (child R a y .label) b) levels nodes accepting stable (omega arith)
+      ∙ none-closed d _ (omega arith) ∙ rw (deep, sum))
 
   child-new : (y : Grown) → child R a y .origin ≡ sprouted
   unfolding child
@@ -96,86 +99,103 @@ module _ (R : Rule) (a : ℕ) (E : ℕ → ℕ → ℕ) (number : Origin → ℕ
   joined-both map here on lost false false e = or-zero-r (bitOr map 0)
 
   -- a node and its younger siblings
-  pass-first : (x : Node) (below younger : Tree) (p : List ℕ) (c i d older : ℕ) (y : Grown) (b : Bool)
-      (levels : List Level) (nodes : List CodeNode) (accepting stable : ℕ) (left : List CodeNode)
-      (low : 1 ≤ x .active) (high : x .active ≤ R .sets) → number (was (p ++ (c ∷ []))) ≡ i → length levels ≡ d
-      → ((inner : List Level) (nodes : List CodeNode) (accepting stable : ℕ) → length inner ≡ suc d
-      → Passes R a E number below (p ++ (c ∷ [])) 0 (suc i) (suc d) older (oldNode (p ++ (c ∷ [])) x) b inner nodes accepting stable
-      (nodesFrom d younger ++ left))
+  pass-first : (x : Node) (below younger : Tree) (p : List ℕ) (c i d held above older : ℕ) → bitOr above older ≡ held → (y : Grown) (b : Bool)
+      (levels : List Level) (nodes : List CodeNode) (accepting stable : ℕ)
+      (low : 1 ≤ x .active) (high : x .active ≤ R .sets) → number (was (p ++ (c ∷ []))) ≡ i → length levels ≡ suc d
+      → ((inner : List Level) (nodes : List CodeNode) (accepting stable : ℕ) → length inner ≡ suc (suc d)
+      → Passes R a E number below (p ++ (c ∷ [])) 0 (suc i) (suc d) held (bitOr above older) 0 (oldNode (p ++ (c ∷ [])) x) b inner
+      nodes accepting stable)
       → ((b : Bool) (nodes : List CodeNode) (accepting stable : ℕ)
-      → Passes R a E number younger p (suc c) (suc i + size below) d (bitOr older (newLabel R a older x)) y b levels
-      nodes accepting stable left)
-      → Passes R a E number (node x below younger) p c i d older y b levels nodes accepting stable left
-  unfolding nodesFrom size grownBranch advanced oldNode
-  pass-first x below younger p c i d older y b levels nodes accepting stable left low high own deep down on =
+      → Passes R a E number younger p (suc c) (suc i + size below) d (bitOr held (newLabel R a held x)) above
+      (bitOr older (newLabel R a held x)) y b levels nodes accepting stable)
+      → Passes R a E number (node x below younger) p c i d held above older y b levels nodes accepting stable
+  unfolding nodesFrom grownBranch advanced oldNode
+  pass-first x below younger p c i d held above older sum y b levels nodes accepting stable low high own deep down on =
       rw (
-        append-assoc (nodesFrom (suc d) below) (nodesFrom d younger) left,
-        grown-begun R a older (child R a y) p c x below younger,
-        full-is R a older v x below,
-        nodes-kept number (R .sets) d g f N B Y,
+        grown-begun R a held (child R a y) p c x below younger,
+        full-is R a held v x below,
+        nodes-kept number (R .sets) (suc d) g f N B Y,
         accepting-kept number (R .sets) g f N B Y refl,
         stable-kept number (R .sets) p c g f N B Y refl,
       )
-      (pass-branch R a E number all of v x below low high older i d (child R a y .label) b levels nodes accepting stable
-      (nodesFrom d younger ++ left) deep own down
-      ∙ on (cond g false b) (nodes ++ nodesHere number (R .sets) d g f N B) (bitOr accepting (acceptingHere number (R .sets) g f N B))
-      (bitOr stable (cond b (stableHere number (R .sets) v g f N B) 0))
+      (branch-first ∙ on (cond g false b) (nodes ++ nodesHere number (R .sets) (suc d) g f N B)
+      (bitOr accepting (acceptingHere number (R .sets) g f N B)) (bitOr stable (cond b (stableHere number (R .sets) v g f N B) 0))
       ∙ rw (
-        append-assoc nodes (nodesHere number (R .sets) d g f N B) (grownNodes number d Y),
+        append-assoc nodes (nodesHere number (R .sets) (suc d) g f N B) (grownNodes number (suc d) Y),
         ← union-assoc accepting (acceptingHere number (R .sets) g f N B) (acceptingOf number Y),
         joined-both stable (stableHere number (R .sets) v g f N B) (stableOf number p (suc c) Y) (stableOf number p c Y) g b lost,
-        count,
       ))
     where
       v : List ℕ
       v = p ++ (c ∷ [])
 
       g : Bool
-      g = gone R a older v x below
+      g = gone R a held v x below
 
       f : Bool
-      f = full R a older v x below
+      f = full R a held v x below
 
       N : Grown
-      N = here R a older v x below
+      N = here R a held v x below
 
       B : Forest Grown
-      B = newKids R a older v x below
+      B = newKids R a held v x below
 
       Y : Forest Grown
-      Y = grown R a (bitOr older (newLabel R a older x)) (child R a y) (begunFrom p (suc c) younger)
+      Y = grown R a (bitOr held (newLabel R a held x)) (child R a y) (begunFrom p (suc c) younger)
 
       lost : stableOf number p c Y ≡ 0
-      lost = renamed number R a younger p p (suc c) c (bitOr older (newLabel R a older x)) (child R a y) (child-new y)
+      lost = renamed number R a younger p p (suc c) c (bitOr held (newLabel R a held x)) (child R a y) (child-new y)
           (λ same. omega arith)
 
-      count : suc i + size below + size younger ≡ i + suc (size below + size younger)
-      count = omega arith
+      now : Pass
+      now = pass (level above older (child R a y .label) b ∷ levels) nodes accepting stable
 
-  pass-siblings : (F : Tree) (p : List ℕ) (c i d older : ℕ) (y : Grown) (b : Bool)
-      (levels : List Level) (nodes : List CodeNode) (accepting stable : ℕ) (left : List CodeNode)
-      → Fits (R .sets) F → Numbered number p c i F → length levels ≡ d → Closes d left
-      → Passes R a E number F p c i d older y b levels nodes accepting stable left
-  pass-siblings nil p c i d older y b levels nodes accepting stable left fits numbered deep h =
-      pass-last p c i d older y b levels nodes accepting stable left deep h
-  pass-siblings (node x below younger) p c i d older y b levels nodes accepting stable left (own, down, on) (is, inner, after) deep h =
-      pass-first x below younger p c i d older y b levels nodes accepting stable left (own .from-one) (own .up-to) is deep
-      (λ inside nodes accepting stable deeper. pass-siblings below (p ++ (c ∷ [])) 0 (suc i) (suc d) older (oldNode (p ++ (c ∷ [])) x) b
-      inside nodes accepting stable (nodesFrom d younger ++ left) down inner deeper (closes-below d younger left h))
-      (λ b nodes accepting stable. pass-siblings younger p (suc c) (suc i + size below) d (bitOr older (newLabel R a older x)) y b
-      levels nodes accepting stable left on after deep h)
+      branch : List CodeNode
+      branch = nodeAt (suc d) x below ∷ nodesFrom (suc (suc d)) below
+
+      -- first the node with all below it
+      branch-first : closedTo d (readNodes E (R .sets) i now (branch ++ nodesFrom (suc d) younger))
+          ≡ closedTo d (readNodes E (R .sets) (suc i + size below)
+          (pass (level above (bitOr older (newLabel R a held x)) (child R a y .label) (cond g false b) ∷ levels)
+          (nodes ++ nodesHere number (R .sets) (suc d) g f N B)
+          (bitOr accepting (acceptingHere number (R .sets) g f N B))
+          (bitOr stable (cond b (stableHere number (R .sets) v g f N B) 0))) (nodesFrom (suc d) younger))
+      branch-first =
+          let count : i + length branch ≡ suc i + size below = omega (arith, size-from (suc (suc d)) below) in
+          ap (closedTo d) (read-append E (R .sets) i now branch (nodesFrom (suc d) younger))
+          ∙ sym (closes-first E (R .sets) (i + length branch) d (readNodes E (R .sets) i now branch) younger)
+          ∙ rw (
+            pass-branch R a E number all of v x below low high held above older sum i (suc d) (child R a y .label) b levels nodes
+                accepting stable deep own down,
+            count,
+          )
+
+  pub pass-siblings : (F : Tree) (p : List ℕ) (c i d held above older : ℕ) → bitOr above older ≡ held → (y : Grown) (b : Bool)
+      (levels : List Level) (nodes : List CodeNode) (accepting stable : ℕ)
+      → Fits (R .sets) F → Numbered number p c i F → length levels ≡ suc d
+      → Passes R a E number F p c i d held above older y b levels nodes accepting stable
+  pass-siblings nil p c i d held above older sum y b levels nodes accepting stable fits numbered deep =
+      pass-last p c i d held above older sum y b levels nodes accepting stable deep
+  pass-siblings (node x below younger) p c i d held above older sum y b levels nodes accepting stable (own, down, on) (is, inner, after) deep =
+      pass-first x below younger p c i d held above older sum y b levels nodes accepting stable (own .from-one) (own .up-to) is deep
+      (λ inside nodes accepting stable deeper. pass-siblings below (p ++ (c ∷ [])) 0 (suc i) (suc d) held (bitOr above older) 0
+      (or-zero-r (bitOr above older) ∙ sum) (oldNode (p ++ (c ∷ [])) x) b inside nodes accepting stable down inner deeper)
+      (λ b nodes accepting stable. pass-siblings younger p (suc c) (suc i + size below) d (bitOr held (newLabel R a held x)) above
+      (bitOr older (newLabel R a held x)) (union-assoc above older (newLabel R a held x) ∙ ap (λ (s : ℕ). bitOr s (newLabel R a held x)) sum)
+      y b levels nodes accepting stable on after deep)
 
   -- A WHOLE TREE
 
   -- the dead tree
-  pub pass-dead : Gives number (passOver E (R .sets) 0 atStart (nodesOf nil)) (fiveSteps R a nil)
-  unfolding passOver nodesOf nodesFrom closedTo levelsTo sproutsTo grownNodes acceptingOf stableIn marked named
+  pub pass-dead : Gives number (closedTo 0 (readNodes E (R .sets) 0 atStart (nodesOf nil))) (fiveSteps R a nil)
+  unfolding readNodes nodesOf nodesFrom closedTo levelsTo sproutsTo grownNodes acceptingOf stableIn marked named
   pass-dead = rw (steps-dead R a) (record { nodes = refl; accepting = refl; stable = refl })
 
   -- one root with all below it
   pub pass-root : (x : Node) (below : Tree) → Fits (R .sets) (node x below nil) → number (was []) ≡ 0 → Numbered number [] 0 1 below
-      → Gives number (passOver E (R .sets) 0 atStart (nodesOf (node x below nil))) (fiveSteps R a (node x below nil))
-  unfolding nodesOf nodesFrom passOver grownBranch advanced oldNode grownNodes acceptingOf marked
+      → Gives number (closedTo 0 (readNodes E (R .sets) 0 atStart (nodesOf (node x below nil)))) (fiveSteps R a (node x below nil))
+  unfolding nodesOf nodesFrom grownBranch advanced oldNode grownNodes acceptingOf marked
   pass-root x below (own, down, on) is inner = record {
     nodes = ap (λ (p : Pass). p .nodes) read
         ∙ sym (ap (grownNodes number 0) root ∙ nodes-kept number (R .sets) 0 g f N B nil ∙ append-nil (nodesHere number (R .sets) 0 g f N B));
@@ -201,10 +221,10 @@ module _ (R : Rule) (a : ℕ) (E : ℕ → ℕ → ℕ) (number : Origin → ℕ
       root : fiveSteps R a (node x below nil) ≡ kept (R .sets) g f N B nil
       root = steps-root R a x below ∙ rw (full-is R a 0 [] x below)
 
-      read : passOver E (R .sets) 0 atStart (nodeAt 0 x below ∷ (nodesFrom 1 below ++ []))
-          ≡ pass (level (bitOr 0 (newLabel R a 0 x)) 0 (cond g false true) ∷ []) (nodesHere number (R .sets) 0 g f N B)
+      read : closedTo 0 (readNodes E (R .sets) 0 atStart (nodeAt 0 x below ∷ (nodesFrom 1 below ++ [])))
+          ≡ pass (level 0 (bitOr 0 (newLabel R a 0 x)) 0 (cond g false true) ∷ []) (nodesHere number (R .sets) 0 g f N B)
           (bitOr 0 (acceptingHere number (R .sets) g f N B)) (bitOr 0 (stableHere number (R .sets) [] g f N B))
-      read = pass-branch R a E number all of [] x below (own .from-one) (own .up-to) 0 0 0 0 true [] [] 0 0 [] refl is
-          (λ inside nodes accepting stable deeper. pass-siblings below [] 0 1 1 0 (oldNode [] x) true inside nodes accepting stable []
-          down inner deeper (omega arith))
-          ∙ none-closed 0 _ (omega arith)
+      read = rw (append-nil (nodesFrom 1 below))
+          (pass-branch R a E number all of [] x below (own .from-one) (own .up-to) 0 0 0 refl 0 0 0 true [] [] 0 0 refl is
+          (λ inside nodes accepting stable deeper. pass-siblings below [] 0 1 0 0 0 0 refl (oldNode [] x) true inside nodes accepting stable
+          down inner deeper))

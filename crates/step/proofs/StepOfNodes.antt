@@ -32,7 +32,7 @@ use Rattle.tree.specs.declared.nodes.Tree.{Tree as CodeTree}
 use Rattle.tree.specs.declared.sides.OnSide.{OnSide}
 use Rattle.tree.proofs.TreeNodes.{nodes-size, are-nodes-size, tree-small}
 use Rattle.step.specs.inner.Stepping.{StepsTo, nodesOn, Steppable, Stepping}
-use Rattle.step.specs.inner.Pass.{newLabels, joinedIf, settledNode, deepest, Pass, closedTo, passedNode, readNode, passOver, atStart, SetsFit, steppedNodes}
+use Rattle.step.specs.inner.Pass.{newLabels, held, joinedIf, settledNode, deepest, Pass, closedTo, passedNode, readNode, readNodes, atStart, SetsFit, steppedNodes}
 use Rattle.step.specs.declared.pass.Stepped.{Stepped}
 use Rattle.step.proofs.GrownNodes.{Gives, grown-nodes, grown-olds}
 use Rattle.step.proofs.PassTree.{pass-dead, pass-root}
@@ -42,10 +42,10 @@ use Rattle.step.proofs.MapsByNumber.{accepting-map, stable-map}
 -- ANY NODES
 
 -- the old numbers of the nodes read do not count
-pass-without-old : (E : ℕ → ℕ → ℕ) (k i : ℕ) (p : Pass) (nodes : List CodeNode) → passOver E k i p (map withoutOld nodes) ≡ passOver E k i p nodes
-unfolding passOver readNode passedNode newLabels settledNode
-pass-without-old E k i p [] = refl
-pass-without-old E k i p (x ∷ nodes) = pass-without-old E k (suc i) (readNode E k i x (closedTo (x .depth) p)) nodes
+pub read-without-old : (E : ℕ → ℕ → ℕ) (k i : ℕ) (p : Pass) (nodes : List CodeNode) → readNodes E k i p (map withoutOld nodes) ≡ readNodes E k i p nodes
+unfolding readNodes readNode passedNode newLabels settledNode
+read-without-old E k i p [] = refl
+read-without-old E k i p (x ∷ nodes) = read-without-old E k (suc i) (readNode E k i x (closedTo (x .depth) p)) nodes
 
 -- the maps have numbers of nodes read
 abbrev MapsBelow : ℕ → Pass → Type 0
@@ -65,14 +65,14 @@ unfolding readNode passedNode
 read-below E k i x p (a, s) =
     let more : MapsBelow (suc i) p = (omega (arith, pow-suc 2 i), omega (arith, pow-suc 2 i)) in
     either-below (suc i) (ltb (x .depth) (length (p .levels))) _ p
-    (either-below (suc i) (eqb (newLabels E x (deepest (p .levels) .taken) .label) 0) _ _ more
+    (either-below (suc i) (eqb (newLabels E x (held (deepest (p .levels))) .label) 0) _ _ more
     (joined-below (p .accepting) i _ a, joined-below (p .stable) i _ s)) more
 
-pass-below : (E : ℕ → ℕ → ℕ) (k i : ℕ) (p : Pass) (nodes : List CodeNode) → MapsBelow i p → MapsBelow (i + length nodes) (passOver E k i p nodes)
-unfolding passOver closedTo
-pass-below E k i p [] h = let e : i + 0 ≡ i = omega arith in rw e h
-pass-below E k i p (x ∷ nodes) h = let e : i + suc (length nodes) ≡ suc i + length nodes = omega arith in
-    rw e (pass-below E k (suc i) (readNode E k i x (closedTo (x .depth) p)) nodes (read-below E k i x (closedTo (x .depth) p) h))
+nodes-below : (E : ℕ → ℕ → ℕ) (k i : ℕ) (p : Pass) (nodes : List CodeNode) → MapsBelow i p → MapsBelow (i + length nodes) (readNodes E k i p nodes)
+unfolding readNodes closedTo
+nodes-below E k i p [] h = let e : i + 0 ≡ i = omega arith in rw e h
+nodes-below E k i p (x ∷ nodes) h = let e : i + suc (length nodes) ≡ suc i + length nodes = omega arith in
+    rw e (nodes-below E k (suc i) (readNode E k i x (closedTo (x .depth) p)) nodes (read-below E k i x (closedTo (x .depth) p) h))
 
 -- THE NODES OF A TREE
 
@@ -117,7 +117,7 @@ module _ {R : Rule} (limits : WithinLimits R) (a : ℕ) (T : Tree) (tree : isTre
   E = lookUp (letterLookup (getD (padded (R .grid)) a []))
 
   abbrev whole : Pass
-  whole = passOver E (R .sets) 0 atStart (nodesOf T)
+  whole = closedTo 0 (readNodes E (R .sets) 0 atStart (nodesOf T))
 
   few : size T < noNode
   few = omega (arith, of-few R T tree, limits .states)
@@ -132,7 +132,7 @@ module _ {R : Rule} (limits : WithinLimits R) (a : ℕ) (T : Tree) (tree : isTre
   gives = let t = of-out R T tree in rw (survivors-steps R a T) (go T none (t .one-root) (t .fits) few)
     where
       go : (F : Tree) → oldNumber F sprouted ≡ noNode → OneRoot F → Fits (R .sets) F → size F < noNode
-          → Gives (oldNumber F) (passOver E (R .sets) 0 atStart (nodesOf F)) (fiveSteps R a F)
+          → Gives (oldNumber F) (closedTo 0 (readNodes E (R .sets) 0 atStart (nodesOf F))) (fiveSteps R a F)
       go nil e one fits small = pass-dead R a E (oldNumber nil) e (look-up-successors R (limits .well) (limits .states) a)
           (λ i s low high. look-up-successors-in R (limits .well) (limits .states) i a s low (omega (arith, limits .sets)))
       go (node x below nil) e one fits small = let (root, inner) = tree-numbered x below small in
@@ -142,9 +142,10 @@ module _ {R : Rule} (limits : WithinLimits R) (a : ℕ) (T : Tree) (tree : isTre
 
   -- the maps have no number past the last node's
   maps-below : MapsBelow (size T) whole
+  unfolding closedTo
   maps-below =
       let e : 0 + length (nodesOf T) ≡ size T = omega (arith, nodes-size T) in
-      subst (λ (n : ℕ). MapsBelow n whole) e (pass-below E (R .sets) 0 atStart (nodesOf T) (pow-pos 0, pow-pos 0))
+      subst (λ (n : ℕ). MapsBelow n whole) e (nodes-below E (R .sets) 0 atStart (nodesOf T) (pow-pos 0, pow-pos 0))
 
   -- so a tree that has its nodes, and an answer that has its maps, are the letter's step
   steps : (y : CodeTree) (r : Stepped) → countedNodes y ≡ whole .nodes → y .count ≡ length (whole .nodes)
@@ -182,9 +183,10 @@ module _ {R : Rule} (limits : WithinLimits R) {T : Tree} (sides : List (List ℕ
   module _ (lookup : Lookup) (k a : ℕ) (sets : R .sets ≡ k) (by : lookup ≡ letterLookup (getD (padded (R .grid)) a []))
       (r : Stepped) (after : List (List ℕ)) (step : Stepping (steppedNodes lookup k nodes) (x .side) sides r after) where
     -- the pass over its nodes
-    over-tree : steppedNodes lookup k nodes ≡ passOver (lookUp (letterLookup (getD (padded (R .grid)) a []))) (R .sets) 0 atStart (nodesOf T)
+    over-tree : steppedNodes lookup k nodes
+        ≡ closedTo 0 (readNodes (lookUp (letterLookup (getD (padded (R .grid)) a []))) (R .sets) 0 atStart (nodesOf T))
     unfolding steppedNodes
-    over-tree = rw (← sets, by, ← here .are) (sym (pass-without-old _ (R .sets) 0 atStart nodes))
+    over-tree = rw (← sets, by, ← here .are) (ap (closedTo 0) (sym (read-without-old _ (R .sets) 0 atStart nodes)))
 
     -- is the letter's step, to the next tree on the other side
     pub place-steps : StepsTo R a T (treeOn after (record { side = 1 - x .side; count = r .count })) r

@@ -1,3 +1,4 @@
 -- What the contracts of inner functions cite.
 pub mod Pass
+pub mod LevelArrays
 pub mod Stepping

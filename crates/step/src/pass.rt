@@ -1,5 +1,5 @@
 // One letter: the nodes of the next tree in one forward pass over the nodes of a tree, oldest first.
-// The document's five steps are fused: steps 1 to 3 at a node need only what older nodes have taken, and the union of the
+// The document's five steps are fused: steps 1 to 3 at a node need only what older nodes hold, and the union of the
 // new children's labels, which step 4 asks for, is known from the old one.
 use rule::lanes::map_of;
 use rule::lookup::Lookup;
@@ -17,7 +17,8 @@ ghost use Rattle.base.specs.BitSet.{minus};
 ghost use Rattle.rule.specs.Limits.{maxStates, maxSets};
 ghost use Rattle.rule.specs.inner.Lookup.{lookUp};
 ghost use Rattle.history.specs.Letter.{nextSet};
-ghost use Rattle.step.specs.inner.Pass.{newLabels, sproutNode, settledNode, joinedIf, ByDepth, Entered, steppedNodes};
+ghost use Rattle.step.specs.inner.Pass.{newLabels, sproutNode, settledNode, joinedIf, steppedNodes};
+ghost use Rattle.step.specs.inner.LevelArrays.{levelArrays, EachDepth, Entered, Closable, Closing};
 ghost use Rattle.step.specs.inner.Stepping.{nodesOn, Steppable, Stepping};
 
 // The number of no node.
@@ -47,30 +48,30 @@ fn minus(a: u16, b: u16) -> u16
     a ^ (a & b)
 }
 
-// Steps 1 to 3 at a node, where older siblings of it and of its ancestors have taken the states `taken`.
-fn new_labels(lookup: &Lookup, x: Node, taken: u16) -> NewLabels
+// Steps 1 to 3 at a node, where older siblings of it and of its ancestors hold the states `held`.
+fn new_labels(lookup: &Lookup, x: Node, held: u16) -> NewLabels
     requires { ⌜ x .active ≤ maxSets ⌝ }
-    ensures { λ r. ⌜ r ≡ newLabels (lookUp (now (lookup .entry))) x taken ⌝ }
+    ensures { λ r. ⌜ r ≡ newLabels (lookUp (now (lookup .entry))) x held ⌝ }
 {
     let images = look_up(lookup, x.label);
     let label = map_of(images, 0);
     let sprout = map_of(images, x.active as usize);
     let kids = map_of(look_up(lookup, x.kids), 0);
     NewLabels {
-        label: minus(label, taken),
-        kids: minus(kids | sprout, taken),
+        label: minus(label, held),
+        kids: minus(kids | sprout, held),
         sprout: sprout,
     }
 }
 
-// A sprouted child (step 2), once its older siblings have taken their states (step 3).
-fn sprout_node(depth: usize, sprout: u16, taken: u16) -> Node
+// A sprouted child (step 2), once the states that older nodes hold have left it (step 3).
+fn sprout_node(depth: usize, sprout: u16, held: u16) -> Node
     requires { ⌜ depth ≤ maxStates ⌝ }
-    ensures { λ r. ⌜ r ≡ sproutNode depth sprout taken ⌝ }
+    ensures { λ r. ⌜ r ≡ sproutNode depth sprout held ⌝ }
 {
     Node {
         depth: depth as u16,
-        label: minus(sprout, taken),
+        label: minus(sprout, held),
         kids: 0,
         active: 1,
         old: NONE,
@@ -117,41 +118,89 @@ fn joined_if(map: u16, old: usize, holds: bool) -> u16
     if holds { map | (1u16 << old) } else { map }
 }
 
-// The depth of the node that is read next; the end closes all depths.
-fn next_depth(x: Node, i: usize, count: usize) -> usize
-    ensures { λ r. ⌜ r ≡ cond (ltb i count) (x .depth) 0 ⌝ }
-{
-    if i < count { x.depth as usize } else { 0 }
+// Siblings are passed from the oldest to the youngest, and each node's children before its younger siblings: a level is the children
+// of one node, and the levels above the deepest one wait. Where a pass stands: the depth of the deepest level; the running set of its
+// siblings; how many nodes are written. "When a sibling is reached, this set is the union of its older siblings' labels, both as they
+// were before these siblings lost states to one another and as they are after": `running-set` in proofs/RunningSet.antt.
+pub struct Standing {
+    pub top: usize,
+    pub older: u16,
+    pub written: usize,
 }
 
-// What is known by depth once a node at depth `top` is read, and the depth of the next nodes. A removed node costs its younger
-// siblings their names (step 5); another takes its states from them (step 3); a kept one is followed by its children.
+// Where the pass stands once a node of the deepest level is read. A removed node costs its younger siblings their names (step 5);
+// another joins the running set (step 3); a kept one is followed by its children, whose running set is empty at first. By depth: what
+// older siblings of the ancestors hold, the running sets of the levels that wait, the states of the child that the parent sprouts,
+// whether names are kept.
 fn enter(
-    taken: &mut ByDepth,
+    above: &mut ByDepth,
+    waiting: &mut ByDepth,
     sprout: &mut ByDepth,
     named: &mut [bool; Tree::NODES + 1],
-    top: usize,
+    at: Standing,
     made: NewLabels,
-) -> usize
-    requires { ⌜ (top < maxStates) × ByDepth (now taken) (now sprout) (now named) ⌝ }
-    ensures { λ r. ⌜ Entered made top (now (taken .entry)) (now (sprout .entry)) (now (named .entry))
-        r (now (taken .exit)) (now (sprout .exit)) (now (named .exit)) ⌝ }
+) -> Standing
+    requires { ⌜ (at .top < maxStates) × EachDepth (levelArrays (now above) (now waiting) (now sprout) (now named)) ⌝ }
+    ensures { λ r. ⌜ Entered made at (levelArrays (now (above .entry)) (now (waiting .entry)) (now (sprout .entry)) (now (named .entry)))
+        r (levelArrays (now (above .exit)) (now (waiting .exit)) (now (sprout .exit)) (now (named .exit))) ⌝ }
 {
+    let top = at.top;
     if made.label == 0 {
         named[top] = false;
-        return top;
+        return at;
     }
-    let before = taken[top];
-    taken[top] = before | made.label;
+    let joined = at.older | made.label;
     if made.label == made.kids {
-        return top;
+        return Standing {
+            top: top,
+            older: joined,
+            written: at.written,
+        };
     }
-    let name = named[top];
     let below = top + 1;
-    taken[below] = before;
+    waiting[top] = joined;
+    above[below] = above[top] | at.older;
     sprout[below] = made.sprout;
-    named[below] = name;
-    below
+    named[below] = named[top];
+    Standing {
+        top: below,
+        older: 0,
+        written: at.written,
+    }
+}
+
+// Levels deeper than `depth` are closed, the deepest first: all below a parent is read, the child that it sprouts is the youngest
+// (step 2), and the level that has waited goes on.
+fn close_levels(
+    sides: &mut DoubleBuffer,
+    to: usize,
+    above: &ByDepth,
+    waiting: &ByDepth,
+    sprout: &ByDepth,
+    depth: usize,
+    at: Standing,
+) -> Standing
+    requires { ⌜ Closable (now sides) to (now above) (now waiting) (now sprout) at ⌝ }
+    ensures { λ r. ⌜ Closing (now (above .entry)) (now (waiting .entry)) (now (sprout .entry)) to depth
+        at (now (sides .entry)) r (now (sides .exit)) ⌝ }
+{
+    let mut top = at.top;
+    let mut older = at.older;
+    let mut written = at.written;
+    while depth < top {
+        let s = sprout_node(top, sprout[top], above[top] | older);
+        top -= 1;
+        older = waiting[top];
+        if s.label != 0 {
+            sides[to][written] = pack(s);
+            written += 1;
+        }
+    }
+    Standing {
+        top: top,
+        older: older,
+        written: written,
+    }
 }
 
 fn answered(count: usize, accepting: u16, stable: u16) -> Stepped
@@ -164,8 +213,7 @@ fn answered(count: usize, accepting: u16, stable: u16) -> Stepped
     }
 }
 
-// One letter over the first `count` nodes of a side; there are k sets. By depth, as siblings are read from the oldest to the
-// youngest: the states taken from the younger ones, the states of the child that their parent sprouts, and whether names are kept.
+// One letter over the first `count` nodes of a side; there are k sets.
 pub fn step_nodes(
     lookup: &Lookup,
     k: u8,
@@ -178,41 +226,39 @@ pub fn step_nodes(
         from (now (sides .entry)) r (now (sides .exit)) ⌝ }
 {
     let to = 1 - from;
-    let mut taken = [0u16; Tree::NODES + 1];
+    let mut above = [0u16; Tree::NODES + 1];
+    let mut waiting = [0u16; Tree::NODES + 1];
     let mut sprout = [0u16; Tree::NODES + 1];
     let mut named = [true; Tree::NODES + 1];
     let mut accepting = 0u16;
     let mut stable = 0u16;
-    let mut top = 0usize;
+    let mut at = Standing {
+        top: 0usize,
+        older: 0u16,
+        written: 0usize,
+    };
     let mut i = 0usize;
-    let mut j = 0usize;
-    while i < count || 0 < top {
+    while i < count {
         let x = unpack(sides[from][i]);
-        let depth = next_depth(x, i, count);
-        if depth < top {
-            // All below a parent is read: the child that it sprouts is the youngest (step 2).
-            let s = sprout_node(top, sprout[top], taken[top]);
-            top -= 1;
-            if s.label != 0 {
-                sides[to][j] = pack(s);
-                j += 1;
-            }
-            continue;
-        }
+        let depth = x.depth as usize;
+        at = close_levels(sides, to, &above, &waiting, &sprout, depth, at);
+        let top = at.top;
         let old = i;
         i += 1;
         // A deeper node is below a node that was removed or that has lost its descendants (step 4).
         if depth == top {
-            let made = new_labels(lookup, x, taken[top]);
+            let made = new_labels(lookup, x, above[top] | at.older);
             let name = named[top];
-            top = enter(&mut taken, &mut sprout, &mut named, top, made);
+            at = enter(&mut above, &mut waiting, &mut sprout, &mut named, at, made);
             if made.label != 0 {
+                let j = at.written;
                 sides[to][j] = pack(settled_node(k, x, made, old));
-                j += 1;
+                at.written = j + 1;
                 accepting = joined_if(accepting, old, made.label == made.kids);
                 stable = joined_if(stable, old, name);
             }
         }
     }
-    answered(j, accepting, stable)
+    let end = close_levels(sides, to, &above, &waiting, &sprout, 0, at);
+    answered(end.written, accepting, stable)
 }

@@ -24,7 +24,7 @@ use Rattle.tree.proofs.PackedWords.{nodes-many}
 -- THE NODES OF A TREE
 
 -- as many as the tree has
-size-from : (d : ℕ) (T : Tree) → length (nodesFrom d T) ≡ size T
+pub size-from : (d : ℕ) (T : Tree) → length (nodesFrom d T) ≡ size T
 unfolding nodesFrom size
 size-from d nil = refl
 size-from d (node x below younger) =

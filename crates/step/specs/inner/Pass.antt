@@ -1,14 +1,13 @@
 -- One letter over nodes in one forward pass: what the code computes, for any nodes. The document's five steps are fused;
 -- that the pass over the nodes of a tree gives its next tree is a law (proofs/StepOfNodes.antt).
-use mathlib.Core.Path.{_≡_}
 use mathlib.Core.Bool.{Bool, true, false, cond}
 use mathlib.Core.List.{List, [], _∷_, _++_}
-use Prim.Native.Nat.{ℕ, zero, suc, _^_, _≤_}
+use Prim.Native.Nat.{ℕ, suc, _^_, _≤_}
 use lib.Bits.{bitOr}
 use lib.Dec.{eqb, ltb}
 use lib.ListN.{length, getD}
 use Rattle.base.specs.BitSet.{minus}
-use Rattle.rule.specs.Limits.{maxStates, maxSets}
+use Rattle.rule.specs.Limits.{maxSets}
 use Rattle.rule.specs.inner.Lookup.{Lookup, lookUp}
 use Rattle.history.specs.Letter.{nextSet}
 use Rattle.history.specs.inner.OldNumbers.{noNode}
@@ -22,29 +21,35 @@ SetsFit nodes = (i : ℕ) → getD nodes i blankNode .active ≤ maxSets
 
 -- STEPS 1 TO 3 AT A NODE
 
--- the states of a node that older nodes have not taken, those of its children, and those of its sprouted child
+-- the states of a node that older nodes do not hold, those of its children, and those of its sprouted child
 unfoldable pub newLabels : (ℕ → ℕ → ℕ) → CodeNode → ℕ → NewLabels
-newLabels E x taken =
+newLabels E x held =
     record {
-      label = minus (E 0 (x .label)) taken;
-      kids = minus (bitOr (E 0 (x .kids)) (E (x .active) (x .label))) taken;
+      label = minus (E 0 (x .label)) held;
+      kids = minus (bitOr (E 0 (x .kids)) (E (x .active) (x .label))) held;
       sprout = E (x .active) (x .label);
     }
 
--- the siblings at one depth, as the pass reads them from the oldest to the youngest: the states that older nodes have
--- taken, the states of the child that their parent sprouts, and whether the names are kept up to here
+-- a level: the siblings at one depth, as the pass reads them from the oldest to the youngest. What older siblings of their ancestors
+-- hold; the running set, which is the union of the labels of those that are read; the states of the child that their parent sprouts;
+-- and whether the names are kept up to here
 pub record Level : Type 0 where
-  pub taken : ℕ
+  pub above : ℕ
+  pub older : ℕ
   pub sprout : ℕ
   pub named : Bool
 
--- the siblings at a depth where nothing is taken yet, nor is a child to come
+-- the level of the root
 abbrev pub outermost : Level
-outermost = record { taken = 0; sprout = 0; named = true }
+outermost = record { above = 0; older = 0; sprout = 0; named = true }
+
+-- what leaves the sibling that is reached (step 3): what its own older siblings hold, and those of its ancestors
+abbrev pub held : Level → ℕ
+held l = bitOr (l .above) (l .older)
 
 -- a sprouted child at depth d, once its older siblings are read
 unfoldable pub sproutNode : ℕ → ℕ → ℕ → CodeNode
-sproutNode d sprout taken = record { depth = d; label = minus sprout taken; kids = 0; active = 1; old = noNode }
+sproutNode d sprout held = record { depth = d; label = minus sprout held; kids = 0; active = 1; old = noNode }
 
 -- STEP 4 AT A NODE
 
@@ -63,19 +68,19 @@ written x = cond (eqb (x .label) 0) [] (x ∷ [])
 unfoldable pub joinedIf : ℕ → ℕ → Bool → ℕ
 joinedIf map i b = cond b (bitOr map (2 ^ i)) map
 
--- THE DEPTHS
+-- THE LEVELS
 
--- the levels, the deepest first, once a node of the deepest is read: a removed node costs its younger siblings their names;
--- another one takes its states; and where it keeps its children their level is opened
+-- the levels, the deepest first, once a node of the deepest is read: a removed node costs its younger siblings their names; another
+-- one joins the running set; and where it keeps its children their level is opened
 unfoldable pub entered : NewLabels → List Level → List Level
 entered m [] = []
 entered m (l ∷ levels) =
     cond (eqb (m .label) 0)
-    (record { taken = l .taken; sprout = l .sprout; named = false } ∷ levels)
+    (record { above = l .above; older = l .older; sprout = l .sprout; named = false } ∷ levels)
     (cond (eqb (m .label) (m .kids))
-    (record { taken = bitOr (l .taken) (m .label); sprout = l .sprout; named = l .named } ∷ levels)
-    (record { taken = l .taken; sprout = m .sprout; named = l .named }
-    ∷ record { taken = bitOr (l .taken) (m .label); sprout = l .sprout; named = l .named } ∷ levels))
+    (record { above = l .above; older = bitOr (l .older) (m .label); sprout = l .sprout; named = l .named } ∷ levels)
+    (record { above = held l; older = 0; sprout = m .sprout; named = l .named }
+    ∷ record { above = l .above; older = bitOr (l .older) (m .label); sprout = l .sprout; named = l .named } ∷ levels))
 
 -- levels deeper than d are closed: what is left of them, and the sprouted children that this writes
 unfoldable pub levelsTo : ℕ → List Level → List Level
@@ -85,7 +90,7 @@ levelsTo d (l ∷ levels) = cond (ltb d (length levels)) (levelsTo d levels) (l 
 unfoldable pub sproutsTo : ℕ → List Level → List CodeNode
 sproutsTo d [] = []
 sproutsTo d (l ∷ levels) =
-    cond (ltb d (length levels)) (written (sproutNode (length levels) (l .sprout) (l .taken)) ++ sproutsTo d levels) []
+    cond (ltb d (length levels)) (written (sproutNode (length levels) (l .sprout) (held l)) ++ sproutsTo d levels) []
 
 -- the deepest level
 unfoldable pub deepest : List Level → Level
@@ -126,37 +131,17 @@ passedNode k i x m p =
 -- a node below a node that was removed, or that has lost its descendants, is passed over
 unfoldable pub readNode : (ℕ → ℕ → ℕ) → ℕ → ℕ → CodeNode → Pass → Pass
 readNode E k i x p =
-    cond (ltb (x .depth) (length (p .levels))) (passedNode k i x (newLabels E x (deepest (p .levels) .taken)) p) p
+    cond (ltb (x .depth) (length (p .levels))) (passedNode k i x (newLabels E x (held (deepest (p .levels)))) p) p
 
--- nodes numbered from i on: a node closes the deeper levels, and so does the end
-unfoldable pub passOver : (ℕ → ℕ → ℕ) → ℕ → ℕ → Pass → List CodeNode → Pass
-passOver E k i p [] = closedTo 0 p
-passOver E k i p (x ∷ nodes) = passOver E k (suc i) (readNode E k i x (closedTo (x .depth) p)) nodes
+-- nodes numbered from i on are read; each closes the levels that are deeper
+unfoldable pub readNodes : (ℕ → ℕ → ℕ) → ℕ → ℕ → Pass → List CodeNode → Pass
+readNodes E k i p [] = p
+readNodes E k i p (x ∷ nodes) = readNodes E k (suc i) (readNode E k i x (closedTo (x .depth) p)) nodes
 
 -- before the first node
 abbrev pub atStart : Pass
 atStart = record { levels = outermost ∷ []; nodes = []; accepting = 0; stable = 0 }
 
--- one letter over nodes, by the letter's look-up; there are k sets
+-- one letter over nodes, by the letter's look-up; there are k sets. The end closes all levels but the root's
 unfoldable pub steppedNodes : Lookup → ℕ → List CodeNode → Pass
-steppedNodes lookup k nodes = passOver (lookUp lookup) k 0 atStart nodes
-
--- THE LEVELS IN ARRAYS
-
--- the first c levels of three arrays by depth, the deepest first
-unfoldable pub levelsOf : ℕ → List ℕ → List ℕ → List Bool → List Level
-levelsOf zero taken sprout named = []
-levelsOf (suc c) taken sprout named =
-    record { taken = getD taken c 0; sprout = getD sprout c 0; named = getD named c false } ∷ levelsOf c taken sprout named
-
--- the three arrays have a place for each depth
-abbrev pub ByDepth : List ℕ → List ℕ → List Bool → Type 0
-ByDepth taken sprout named =
-    (length taken ≡ suc maxStates) × ((length sprout ≡ suc maxStates) × (length named ≡ suc maxStates))
-
--- the arrays, and the depth of the deepest level, once a node at depth `top` is read
-pub record Entered (m : NewLabels) (top : ℕ) (taken sprout : List ℕ) (named : List Bool)
-    (next : ℕ) (taken′ sprout′ : List ℕ) (named′ : List Bool) : Type 0 where
-  pub deeper : next ≤ suc top
-  pub sizes : ByDepth taken′ sprout′ named′
-  pub levels : levelsOf (suc next) taken′ sprout′ named′ ≡ entered m (levelsOf (suc top) taken sprout named)
+steppedNodes lookup k nodes = closedTo 0 (readNodes (lookUp lookup) k 0 atStart nodes)

@@ -1,94 +1,104 @@
 -- `step_nodes` meets its contract, by the laws of PassLoop: one for each way through the loop's body.
-use mathlib.Core.Path.{_≡_, refl}
-use mathlib.Core.Logic.{inl, inr, ⊎-elim}
-use Prim.Native.Nat.{_+_, _*_, _-_, _<_}
+use mathlib.Core.Path.{_≡_, refl, _∙_}
+use mathlib.Core.List.{[]}
+use Prim.Native.Nat.{_-_, _<_}
 use native.Mathlib.Omega.{arith}
 use borrow.Author.Needs.{needs}
-use borrow.Author.Tests.{ltb-true, ltb-false}
-use mathlib.Core.List.{[]}
 use lib.ListN.{getD}
+use Rattle.rule.specs.Limits.{maxStates}
 use Rattle.tree.specs.inner.Nodes.{blankNode}
 use Rattle.tree.specs.inner.PackedNodes.{nodesIn}
-use Rattle.tree.proofs.packed.pack.Reads as pack-reads
-use Rattle.tree.proofs.packed.unpack.Reads as unpack-reads
-use Rattle.step.specs.inner.Pass.{levelsOf}
-use Rattle.step.proofs.PassLoop.{node-left, set-fits, close-none, close-some, node-skipped, node-removed, node-kept, OnSides, sides-start, side-read, sides-kept, sides-written, sides-done}
+use Rattle.tree.specs.inner.RecordNodes.{places}
+use Rattle.step.specs.inner.LevelArrays.{levelArrays, waitingLevels, Reached}
+use Rattle.step.specs.inner.Stepping.{nodesOn}
+use Rattle.step.proofs.PassLoop.{OnSides, sides-start, closable, side-read, set-fits, node-skipped, node-removed, node-room, node-kept, sides-done}
+use Rattle.step.proofs.RunningSet.{reached-reading}
 use Rattle.step.proofs.pass.step_nodes.Statement.{statement}
 use Rattle.step.proofs.pass.step_nodes.Tie as tie
 use Rattle.step.proofs.pass.step_nodes.Reads as reads
 use Rattle.step.proofs.pass.step_nodes.Lts as lts
+use Rattle.step.proofs.pass.answered.Reads as answered-reads
+use Rattle.step.proofs.pass.close_levels.Reads as close-levels-reads
 use Rattle.step.proofs.pass.enter.Reads as enter-reads
 use Rattle.step.proofs.pass.joined_if.Reads as joined-if-reads
 use Rattle.step.proofs.pass.new_labels.Reads as new-labels-reads
-use Rattle.step.proofs.pass.next_depth.Reads as next-depth-reads
 use Rattle.step.proofs.pass.settled_node.Reads as settled-node-reads
-use Rattle.step.proofs.pass.sprout_node.Reads as sprout-node-reads
-use Rattle.step.proofs.pass.answered.Reads as answered-reads
+use Rattle.tree.proofs.packed.pack.Reads as pack-reads
+use Rattle.tree.proofs.packed.unpack.Reads as unpack-reads
 
 abbrev Inv-loop : tie.InvT-loop
-Inv-loop lookup k sides₀ from count to taken₀ sprout₀ named₀ accepting₀ stable₀ top₀ i₀ j₀ sides taken sprout named accepting stable top i j =
-    OnSides lookup k count from sides₀ sides taken sprout named accepting stable top i j
+Inv-loop lookup k sides₀ from count to above₀ waiting₀ sprout₀ named₀ accepting₀ stable₀ at₀ i₀ sides above waiting sprout named accepting stable at i =
+    OnSides lookup k count from sides₀ sides (levelArrays above waiting sprout named) accepting stable at i
 
 abbrev μ-loop : tie.MeasureT-loop
-μ-loop lookup k sides₀ from count to taken₀ sprout₀ named₀ accepting₀ stable₀ top₀ i₀ j₀ sides taken sprout named accepting stable top i j =
-    2 * (count - i) + top
+μ-loop lookup k sides₀ from count to above₀ waiting₀ sprout₀ named₀ accepting₀ stable₀ at₀ i₀ sides above waiting sprout named accepting stable at i =
+    count - i
 
--- the node that is read
-read : (c : lts.After-unpack (
+-- once the deeper levels are closed
+module _ (q : lts.After-close-levels (
   unpack-reads.Asked,
   unpack-reads.Learnt,
-  next-depth-reads.Asked,
-  next-depth-reads.Learnt,
-  sprout-node-reads.Asked,
-  sprout-node-reads.Learnt,
-  pack-reads.Asked,
-  pack-reads.Learnt,
+  close-levels-reads.Asked,
+  close-levels-reads.Learnt,
   new-labels-reads.Asked,
   new-labels-reads.Learnt,
   enter-reads.Asked,
   enter-reads.Learnt,
   settled-node-reads.Asked,
   settled-node-reads.Learnt,
+  pack-reads.Asked,
+  pack-reads.Learnt,
   joined-if-reads.Asked,
   joined-if-reads.Learnt,
   answered-reads.Asked,
   answered-reads.Learnt,
-) reads.Pre reads.Post Inv-loop μ-loop)
-    → let s = c .before .before .before .before in
-    c .unpack .result ≡ getD (nodesIn (getD (s .args .sides .now) (s .args .from) [])) (c .before .before .before .loop .i) blankNode
-read c = side-read _ _ _ _ _ (c .before .before .before .loop .inv) _ (c .unpack .ensures)
+) reads.Pre reads.Post Inv-loop μ-loop) where
+  -- the node that is read
+  read : q .before .before .before .before .before .before .unpack .result
+      ≡ getD (nodesIn (getD (q .before .before .before .before .before .before .before .before .before .before .args .sides .now) (q .before .before .before .before .before .before .before .before .before .before .args .from) [])) (q .before .before .before .before .before .before .before .before .before .loop .i) blankNode
+  read = side-read _ _ _ _ _ (q .before .before .before .before .before .before .before .before .before .loop .inv) (q .before .before .before .before .before .before .before .before .loop-test .taken) _ (q .before .before .before .before .before .before .unpack .ensures)
 
--- where no level is closed, a node is left
-less : (c : lts.Else3 (
+  -- there are few nodes
+  few : q .before .before .before .before .before .before .before .before .before .loop .i < maxStates
+  few = omega (arith, q .before .before .before .before .before .before .before .before .loop-test .taken, q .before .before .before .before .before .before .before .before .before .loop .inv .ready .few)
+
+  -- a node of the deepest level is a sibling that is reached: `running-set` (RunningSet.antt) speaks of `at .older` here
+  pub sibling-reached : q .before .before .before .before .before .before .unpack .result .depth ≡ q .close-levels .result .top
+      → Reached (q .before .before .before .before .before .before .before .before .before .before .args .lookup .now) (q .before .before .before .before .before .before .before .before .before .before .args .k)
+      (nodesOn (q .before .before .before .before .before .before .before .before .before .before .args .sides .now) (q .before .before .before .before .before .before .before .before .before .before .args .from) (q .before .before .before .before .before .before .before .before .before .before .args .count)) (q .before .before .before .before .before .before .before .before .before .loop .i) (q .close-levels .result)
+  sibling-reached here = reached-reading (q .before .before .before .before .before .before .before .before .before .loop .inv) (q .close-levels .ensures) here
+
+-- there is room for the node that is written
+room : (e : lts.After-enter (
   unpack-reads.Asked,
   unpack-reads.Learnt,
-  next-depth-reads.Asked,
-  next-depth-reads.Learnt,
-  sprout-node-reads.Asked,
-  sprout-node-reads.Learnt,
-  pack-reads.Asked,
-  pack-reads.Learnt,
+  close-levels-reads.Asked,
+  close-levels-reads.Learnt,
   new-labels-reads.Asked,
   new-labels-reads.Learnt,
   enter-reads.Asked,
   enter-reads.Learnt,
   settled-node-reads.Asked,
   settled-node-reads.Learnt,
+  pack-reads.Asked,
+  pack-reads.Learnt,
   joined-if-reads.Asked,
   joined-if-reads.Learnt,
   answered-reads.Asked,
   answered-reads.Learnt,
-) reads.Pre reads.Post Inv-loop μ-loop)
-    → c .before .before .before .before .before .loop .i < c .before .before .before .before .before .before .args .count
-less c = node-left _ _ _ _ _ (c .before .next-depth .ensures)
-    (⊎-elim (λ w. inl (w .taken)) (λ w. inr (ltb-true _ _ (w .1 .taken))) (c .before .before .before .before .if1 .came)) (c .if3 .left)
+) reads.Pre reads.Post Inv-loop μ-loop) → e .enter .result .written < places
+room e =
+    let m = e .before .before .before .before .before in
+    let q = m .before .before .before in
+    node-room _ _ _ _ _ (q .before .before .before .before .before .before .before .before .before .loop .inv) (q .before .before .before .before .before .before .before .before .loop-test .taken) _ (read q) _ _ (q .close-levels .ensures)
+    (m .before .before .if1 .taken) _ (m .new-labels .ensures) (e .enter .ensures)
 
 sub-to : tie.Need-sub-to Inv-loop μ-loop
 sub-to c = search needs
 
 loop-holds : tie.Need-loop-holds Inv-loop μ-loop
-unfolding levelsOf
-loop-holds c = sides-start _ _ _ _ _ (c .pre) _ _ _ (search needs) refl
+unfolding waitingLevels
+loop-holds c = sides-start _ _ _ _ _ (c .pre) _ (search needs) refl
 
 mul-unpack : tie.Need-mul-unpack Inv-loop μ-loop
 mul-unpack c = search needs
@@ -105,68 +115,11 @@ index-2-unpack c = search needs
 unpack-requires : tie.Need-unpack-requires Inv-loop μ-loop
 unpack-requires c κs = search needs
 
-next-depth-requires : tie.Need-next-depth-requires Inv-loop μ-loop
-next-depth-requires c κs = search needs
+cast-depth : tie.Need-cast-depth Inv-loop μ-loop
+cast-depth c = search needs
 
-mul-sprout-node : tie.Need-mul-sprout-node Inv-loop μ-loop
-mul-sprout-node c = search needs
-
-array-read-sprout-node : tie.Need-array-read-sprout-node Inv-loop μ-loop
-array-read-sprout-node c = search needs
-
-mul-sprout-node-2 : tie.Need-mul-sprout-node-2 Inv-loop μ-loop
-mul-sprout-node-2 c = search needs
-
-array-read-sprout-node-2 : tie.Need-array-read-sprout-node-2 Inv-loop μ-loop
-array-read-sprout-node-2 c = search needs
-
-sprout-node-requires : tie.Need-sprout-node-requires Inv-loop μ-loop
-sprout-node-requires c κs = search needs
-
-sub-top : tie.Need-sub-top Inv-loop μ-loop
-sub-top c = search needs
-
-pack-requires : tie.Need-pack-requires Inv-loop μ-loop
-pack-requires c κs = search needs
-
-mul-sides : tie.Need-mul-sides Inv-loop μ-loop
-mul-sides c = search needs
-
-mul-sides-2 : tie.Need-mul-sides-2 Inv-loop μ-loop
-mul-sides-2 c = search needs
-
-index-1-sides : tie.Need-index-1-sides Inv-loop μ-loop
-index-1-sides c = search needs
-
-index-2-sides : tie.Need-index-2-sides Inv-loop μ-loop
-index-2-sides c = search needs
-
-add-j : tie.Need-add-j Inv-loop μ-loop
-add-j c = search needs
-
-loop-less : tie.Need-loop-less Inv-loop μ-loop
-loop-less c = search needs
-
-loop-again : tie.Need-loop-again Inv-loop μ-loop
-loop-again c =
-    let d = c .before .before .before .before .before in
-    let v = d .before .before .before .before .loop .inv in
-    let s = c .before .before .before in
-    sides-written _ _ _ _ _ v _ _ (c .pack .ensures)
-    (close-some _ _ _ _ (v .reading) _ (rw (read (d .before)) at (d .next-depth .ensures)) (s .before .if3 .taken) _ (s .sprout-node .ensures)
-    (c .before .if4 .taken))
-
-loop-less-2 : tie.Need-loop-less-2 Inv-loop μ-loop
-loop-less-2 c = search needs
-
-loop-again-2 : tie.Need-loop-again-2 Inv-loop μ-loop
-loop-again-2 c =
-    let d = c .before .before .before .before in
-    let v = d .before .before .before .before .loop .inv in
-    let s = c .before .before in
-    sides-kept _ _ _ _ _ v
-    (close-none _ _ _ _ (v .reading) _ (rw (read (d .before)) at (d .next-depth .ensures)) (s .before .if3 .taken) _ (s .sprout-node .ensures)
-    (c .if4 .left))
+close-levels-requires : tie.Need-close-levels-requires Inv-loop μ-loop
+close-levels-requires c κs = closable _ _ _ _ _ (c .before .before .before .before .before .before .before .before .loop .inv)
 
 add-i : tie.Need-add-i Inv-loop μ-loop
 add-i c = search needs
@@ -179,113 +132,87 @@ array-read-new-labels c = search needs
 
 new-labels-requires : tie.Need-new-labels-requires Inv-loop μ-loop
 new-labels-requires c κs =
-    let u = c .before .before .before in
-    rw (read u) (set-fits _ _ _ (u .before .before .before .before .pre .fits) (less (c .before)))
+    let q = c .before .before in
+    rw (read q) (set-fits _ _ _ _ _ (q .before .before .before .before .before .before .before .before .before .loop .inv) (q .before .before .before .before .before .before .before .before .loop-test .taken))
 
 array-read-name : tie.Need-array-read-name Inv-loop μ-loop
 array-read-name c = search needs
 
 enter-requires : tie.Need-enter-requires Inv-loop μ-loop
-enter-requires c κs =
-    let r = c .before .before .before .before .before in
-    (omega (arith, less r), r .before .before .before .before .before .loop .inv .reading .by-depth)
+enter-requires c κs = search needs
 
 settled-node-requires : tie.Need-settled-node-requires Inv-loop μ-loop
 settled-node-requires c κs =
-    let r = c .before .before .before .before .before .before .before .before in
-    let u = r .before .before in
-    (rw (read u) (set-fits _ _ _ (u .before .before .before .before .pre .fits) (less r)), omega (arith, less r))
+    let q = c .before .before .before .before .before .before .before .before .before .before in
+    (rw (read q) (set-fits _ _ _ _ _ (q .before .before .before .before .before .before .before .before .before .loop .inv) (q .before .before .before .before .before .before .before .before .loop-test .taken)), few q)
 
-pack-requires-2 : tie.Need-pack-requires-2 Inv-loop μ-loop
-pack-requires-2 c κs = search needs
+pack-requires : tie.Need-pack-requires Inv-loop μ-loop
+pack-requires c κs = search needs
 
-mul-sides-3 : tie.Need-mul-sides-3 Inv-loop μ-loop
-mul-sides-3 c =
-    let r = c .before .before .before .before .before .before .before .before .before .before in
-    search (needs, less r, r .before .before .before .before .before .loop .inv .reading .fewer)
+mul-sides : tie.Need-mul-sides Inv-loop μ-loop
+mul-sides c = search needs
 
-mul-sides-4 : tie.Need-mul-sides-4 Inv-loop μ-loop
-mul-sides-4 c =
-    let r = c .before .before .before .before .before .before .before .before .before .before in
-    search (needs, less r, r .before .before .before .before .before .loop .inv .reading .fewer)
+mul-sides-2 : tie.Need-mul-sides-2 Inv-loop μ-loop
+mul-sides-2 c = search (needs, room (c .before .before .before .before))
 
-index-1-sides-2 : tie.Need-index-1-sides-2 Inv-loop μ-loop
-index-1-sides-2 c =
-    let r = c .before .before .before .before .before .before .before .before .before .before in
-    search (needs, less r, r .before .before .before .before .before .loop .inv .reading .fewer)
+index-1-sides : tie.Need-index-1-sides Inv-loop μ-loop
+index-1-sides c = search needs
 
-index-2-sides-2 : tie.Need-index-2-sides-2 Inv-loop μ-loop
-index-2-sides-2 c =
-    let r = c .before .before .before .before .before .before .before .before .before .before in
-    search (needs, less r, r .before .before .before .before .before .loop .inv .reading .fewer)
+index-2-sides : tie.Need-index-2-sides Inv-loop μ-loop
+index-2-sides c = search (needs, room (c .before .before .before .before))
 
-add-j-2 : tie.Need-add-j-2 Inv-loop μ-loop
-add-j-2 c =
-    let r = c .before .before .before .before .before .before .before .before .before .before in
-    search (needs, less r, r .before .before .before .before .before .loop .inv .reading .fewer)
+add-at : tie.Need-add-at Inv-loop μ-loop
+add-at c = search (needs, room (c .before .before .before .before))
 
 joined-if-requires : tie.Need-joined-if-requires Inv-loop μ-loop
-joined-if-requires c κs =
-    let r = c .before .before .before .before .before .before .before .before .before .before .before in
-    omega (arith, less r)
+joined-if-requires c κs = few (c .before .before .before .before .before .before .before .before .before .before .before .before .before)
 
 joined-if-requires-2 : tie.Need-joined-if-requires-2 Inv-loop μ-loop
-joined-if-requires-2 c κs =
-    let r = c .before .before .before .before .before .before .before .before .before .before .before .before in
-    omega (arith, less r)
+joined-if-requires-2 c κs = few (c .before .before .before .before .before .before .before .before .before .before .before .before .before .before)
+
+loop-less : tie.Need-loop-less Inv-loop μ-loop
+loop-less c = omega (arith, c .before .before .before .before .before .before .before .before .before .before .before .before .before .before .before .before .before .before .before .before .before .before .before .loop-test .taken)
+
+loop-again : tie.Need-loop-again Inv-loop μ-loop
+loop-again c =
+    let p = c .before .before .before in
+    let e = p .before .before .before .before in
+    let m = e .before .before .before .before .before in
+    let q = m .before .before .before in
+    node-kept _ _ _ _ _ (q .before .before .before .before .before .before .before .before .before .loop .inv) (q .before .before .before .before .before .before .before .before .loop-test .taken) _ (read q) _ _ (q .close-levels .ensures)
+    (m .before .before .if1 .taken) _ (m .new-labels .ensures) (e .enter .ensures) (p .before .before .if2 .taken)
+    _ (p .pack .ensures ∙ p .before .settled-node .ensures) _ _ (c .before .joined-if .ensures) (c .joined-if2 .ensures)
+
+loop-less-2 : tie.Need-loop-less-2 Inv-loop μ-loop
+loop-less-2 c = omega (arith, c .before .before .before .before .before .before .before .before .before .before .before .before .before .before .before .before .before .before .loop-test .taken)
+
+loop-again-2 : tie.Need-loop-again-2 Inv-loop μ-loop
+loop-again-2 c =
+    let e = c .before .before in
+    let m = e .before .before .before .before .before in
+    let q = m .before .before .before in
+    node-removed _ _ _ _ _ (q .before .before .before .before .before .before .before .before .before .loop .inv) (q .before .before .before .before .before .before .before .before .loop-test .taken) _ (read q) _ _ (q .close-levels .ensures)
+    (m .before .before .if1 .taken) _ (m .new-labels .ensures) (e .enter .ensures) (c .if2 .left)
 
 loop-less-3 : tie.Need-loop-less-3 Inv-loop μ-loop
-loop-less-3 c =
-    let e = c .before .before .before .before .before .before .before in
-    omega (arith, less (e .before .before .before .before .before .before), e .enter .ensures .deeper)
+loop-less-3 c = search needs
 
 loop-again-3 : tie.Need-loop-again-3 Inv-loop μ-loop
 loop-again-3 c =
-    let e = c .before .before .before .before .before .before .before in
-    let m = e .before .before .before .before in
-    let d = m .before .before .before in
-    let x = read (d .before) in
-    let v = d .before .before .before .before .loop .inv in
-    let w = c .before .before .before in
-    sides-written _ _ _ _ _ v _ _ (w .pack2 .ensures)
-    (node-kept _ _ _ _ (v .reading) _ (rw x at (d .next-depth .ensures)) (less (m .before .before)) (m .before .if5 .taken)
-    _ (rw x at (m .new-labels .ensures)) (e .enter .ensures) (w .before .before .if6 .taken)
-    _ (rw x at (w .before .settled-node .ensures)) _ _ (c .before .joined-if .ensures) (c .joined-if2 .ensures))
+    let q = c .before in
+    node-skipped _ _ _ _ _ (q .before .before .before .before .before .before .before .before .before .loop .inv) (q .before .before .before .before .before .before .before .before .loop-test .taken) _ (read q) _ _ (q .close-levels .ensures) (c .if1 .left)
 
-loop-less-4 : tie.Need-loop-less-4 Inv-loop μ-loop
-loop-less-4 c =
-    let e = c .before .before in
-    omega (arith, less (e .before .before .before .before .before .before), e .enter .ensures .deeper)
-
-loop-again-4 : tie.Need-loop-again-4 Inv-loop μ-loop
-loop-again-4 c =
-    let e = c .before .before in
-    let m = e .before .before .before .before in
-    let d = m .before .before .before in
-    let x = read (d .before) in
-    let v = d .before .before .before .before .loop .inv in
-    sides-kept _ _ _ _ _ v
-    (node-removed _ _ _ _ (v .reading) _ (rw x at (d .next-depth .ensures)) (less (m .before .before)) (m .before .if5 .taken)
-    _ (rw x at (m .new-labels .ensures)) (e .enter .ensures) (c .if6 .left))
-
-loop-less-5 : tie.Need-loop-less-5 Inv-loop μ-loop
-loop-less-5 c = omega (arith, less (c .before))
-
-loop-again-5 : tie.Need-loop-again-5 Inv-loop μ-loop
-loop-again-5 c =
-    let d = c .before .before in
-    let v = d .before .before .before .before .loop .inv in
-    sides-kept _ _ _ _ _ v
-    (node-skipped _ _ _ _ (v .reading) _ (rw (read (d .before)) at (d .next-depth .ensures)) (less (c .before))
-    (c .before .if3 .left) (c .if5 .left))
+close-levels-requires-2 : tie.Need-close-levels-requires-2 Inv-loop μ-loop
+close-levels-requires-2 c κs = closable _ _ _ _ _ (c .before .before .before .before .before .loop .inv)
 
 answered-requires : tie.Need-answered-requires Inv-loop μ-loop
 answered-requires c κs = search needs
 
 returns : tie.Need-returns Inv-loop μ-loop
 returns c =
-    rw (c .answered .ensures)
-    (sides-done _ _ _ _ _ (c .before .before .before .loop .inv) (c .before .before .if1 .left) (ltb-false _ _ (c .before .if2 .left)))
+    let q = c .before in
+    let after = q .before .before .before .before .before in
+    rw (c .answered .ensures) (sides-done _ _ _ _ _ (after .before .loop .inv) (after .loop-test .left) _ _ (q .close-levels2 .ensures))
 
 pub step-nodes-spec : {M : Type 1} → statement M
 step-nodes-spec =
@@ -300,23 +227,8 @@ step-nodes-spec =
     index-1-unpack
     index-2-unpack
     unpack-requires
-    next-depth-requires
-    mul-sprout-node
-    array-read-sprout-node
-    mul-sprout-node-2
-    array-read-sprout-node-2
-    sprout-node-requires
-    sub-top
-    pack-requires
-    mul-sides
-    mul-sides-2
-    index-1-sides
-    index-2-sides
-    add-j
-    loop-less
-    loop-again
-    loop-less-2
-    loop-again-2
+    cast-depth
+    close-levels-requires
     add-i
     mul-new-labels
     array-read-new-labels
@@ -324,19 +236,20 @@ step-nodes-spec =
     array-read-name
     enter-requires
     settled-node-requires
-    pack-requires-2
-    mul-sides-3
-    mul-sides-4
-    index-1-sides-2
-    index-2-sides-2
-    add-j-2
+    pack-requires
+    mul-sides
+    mul-sides-2
+    index-1-sides
+    index-2-sides
+    add-at
     joined-if-requires
     joined-if-requires-2
+    loop-less
+    loop-again
+    loop-less-2
+    loop-again-2
     loop-less-3
     loop-again-3
-    loop-less-4
-    loop-again-4
-    loop-less-5
-    loop-again-5
+    close-levels-requires-2
     answered-requires
     returns)

@@ -1,0 +1,30 @@
+-- The running set of the step (document 02, U4): "keep the union of all older labels as a running set while passing from the oldest to the
+-- youngest. Show that, when a sibling is reached, this set is the union of its older siblings' labels, both as they were before these
+-- siblings lost states to one another and as they are after."
+use mathlib.Core.Path.{_≡_}
+use mathlib.Core.Bool.{Bool, true, false, cond}
+use mathlib.Core.List.{List, [], _∷_}
+use Prim.Native.Nat.{ℕ, suc, _<_}
+use lib.ListN.{length, getD, take}
+use Rattle.rule.specs.Rule.{Rule}
+use Rattle.history.specs.Forest.{size, listing, names}
+use Rattle.history.specs.Tree.{Tree}
+use Rattle.history.specs.Letter.{Origin, was, sprouted, Grown}
+use Rattle.history.specs.OlderSiblings.{twoSteps, OlderUnion}
+
+-- was a node there before the letter?
+unfoldable pub wasThere : Origin → Bool
+wasThere (was w) = true
+wasThere sprouted = false
+
+-- how many of these nodes were there before the letter
+unfoldable pub oldOnes : List Grown → ℕ
+oldOnes [] = 0
+oldOnes (x ∷ nodes) = cond (wasThere (x .origin)) (suc (oldOnes nodes)) (oldOnes nodes)
+
+-- The siblings are the nodes after steps 1 and 2, sprouted ones among them; the root is by itself. Once i nodes are read, the sibling
+-- that is reached at depth d is the one of that depth that i old nodes stand before. `set` is then the union of its older siblings' labels.
+abbrev pub RunningSet : Rule → ℕ → Tree → ℕ → ℕ → ℕ → Type 0
+RunningSet R a T i d set =
+    (n : ℕ) → n < size (twoSteps R a T) → oldOnes (take n (listing (twoSteps R a T))) ≡ i
+    → length (getD (names (twoSteps R a T)) n []) ≡ d → OlderUnion R a T n set
