@@ -131,6 +131,10 @@ module _ (lookup : Lookup) (k count from : ℕ) (before : List (List ℕ)) where
         levels-open : length (now .levels) ≡ suc (next .top)
         levels-open = let n = waiting-length A (next .top) in omega arith
 
+        -- there is room for one more
+        pub node-room : {many : ℕ} → many ≡ next .written → many < places
+        node-room same = omega (arith, v .fewer, closing .room, v .ready .few)
+
         -- a node below a node without descendants is passed over
         pub node-skipped : (x .depth ≡ next .top → ⊥) → OnSides after A accepting stable next (i + 1)
         node-skipped deeper = record {
@@ -168,10 +172,7 @@ module _ (lookup : Lookup) (k count from : ℕ) (before : List (List ℕ)) where
             pass = sym (passed ∙ rw (eq-eqb (m .label) 0 gone, w, in-arrays .levels));
           }
 
-          -- or written: there is room
-          pub node-room : entering .written < places
-          node-room = omega (arith, in-arrays .written, v .fewer, closing .room, v .ready .few)
-
+          -- or written
           pub node-kept : (m .label ≡ 0 → ⊥) → (word : ℕ) → unpacked word ≡ settledNode k x m i → (accepting′ stable′ : ℕ)
               → accepting′ ≡ joinedIf accepting i (eqb (m .label) (m .kids)) → stable′ ≡ joinedIf stable i (getD (A .named) (next .top) false)
               → OnSides (set after to (set (getD after to []) (entering .written) word)) B accepting′ stable′
@@ -194,7 +195,7 @@ module _ (lookup : Lookup) (k count from : ℕ) (before : List (List ℕ)) where
                   in-arrays .levels,
                   accepts,
                   keeps,
-                  front-more (closing .arrays) to one (entering .written) word (settledNode k x m i) settled node-room,
+                  front-more (closing .arrays) to one (entering .written) word (settledNode k x m i) settled (node-room w),
                   w,
                 ));
               }

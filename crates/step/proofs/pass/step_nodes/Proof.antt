@@ -88,10 +88,8 @@ room : (e : lts.After-enter (
   answered-reads.Learnt,
 ) reads.Pre reads.Post Inv-loop μ-loop) → e .enter .result .written < places
 room e =
-    let m = e .before .before .before .before .before in
-    let q = m .before .before .before in
-    node-room _ _ _ _ _ (q .before .before .before .before .before .before .before .before .before .loop .inv) (q .before .before .before .before .before .before .before .before .loop-test .taken) _ (read q) _ _ (q .close-levels .ensures)
-    (m .before .before .if1 .taken) _ (m .new-labels .ensures) (e .enter .ensures)
+    let q = e .before .before .before .before .before .before .before .before in
+    node-room _ _ _ _ _ (q .before .before .before .before .before .before .before .before .before .loop .inv) (q .before .before .before .before .before .before .before .before .loop-test .taken) _ (read q) _ _ (q .close-levels .ensures) (e .enter .ensures .written)
 
 sub-to : tie.Need-sub-to Inv-loop μ-loop
 sub-to c = search needs
