@@ -1,37 +1,35 @@
 -- The pass along the siblings of a tree, in the order in which it reaches them: at each of them that it reaches, the running set is the union
 -- of the older siblings' labels.
 use mathlib.Core.Path.{_≡_, refl, sym, _∙_, ap}
-use mathlib.Core.Bool.{Bool, true, false, cond}
-use mathlib.Core.List.{List, [], _∷_, _++_, map}
+use mathlib.Core.Bool.{Bool, true, false}
+use mathlib.Core.List.{List, [], _∷_, _++_}
 use Prim.Native.Nat.{ℕ, zero, suc, _+_, _≤_, _<_}
 use native.Mathlib.Omega.{arith}
 use lib.Bits.{bitOr, or-zero-r}
-use lib.Dec.{eqb}
-use lib.ListN.{length, getD, take, length-append, length-map, List·getD-map}
+use lib.ListN.{length, getD, take}
 use Rattle.base.proofs.BitSet.{union-assoc}
 use Rattle.rule.specs.Rule.{Rule, successors, successorsIn}
-use Rattle.history.specs.Forest.{nil, node, size, listing, Named, named, names}
+use Rattle.history.specs.Forest.{nil, node, size}
 use Rattle.history.specs.Tree.{Node, Tree}
-use Rattle.history.specs.Letter.{Origin, was, sprouted, Grown}
+use Rattle.history.specs.Letter.{Origin, sprouted}
 use Rattle.history.specs.inner.OldNumbers.{noNode}
-use Rattle.history.specs.OlderSiblings.{twoSteps, threeSteps, olderLabels, OlderUnion}
+use Rattle.history.specs.OlderSiblings.{twoSteps, threeSteps}
 use Rattle.history.proofs.step.LocalStep.{newLabel}
 use Rattle.history.proofs.step.OlderSiblingLaws.{older-labels-same}
-use Rattle.history.proofs.step.StepsJoined.{oldNode, noSprout}
+use Rattle.history.proofs.step.StepsJoined.{oldNode}
 use Rattle.history.proofs.tree.Conditions.{Fits}
-use Rattle.history.proofs.names.NamesDistinct.{length-listing}
 use Rattle.tree.specs.inner.Nodes.{nodesFrom, nodesOf}
 use Rattle.tree.specs.declared.nodes.Node.{Node as CodeNode}
 use Rattle.tree.proofs.TreeNodes.{size-from}
-use Rattle.step.specs.RunningSet.{wasThere, oldOnes, RunningSet}
+use Rattle.step.specs.RunningSet.{RunningSet}
 use Rattle.step.specs.declared.pass.NewLabels.{NewLabels}
 use Rattle.step.specs.inner.Pass.{Level, deepest, Pass, closedTo, passedNode, readNode, readNodes, atStart}
-use Rattle.step.proofs.PassSteps.{level, pass, none-closed, closed-again, read-skips, read-nil, read-cons, passed-removed, passed-accepting, passed-kept}
+use Rattle.step.proofs.PassSteps.{level, pass, none-closed, closed-again, read-skips, read-cons, passed-removed, passed-accepting, passed-kept}
 use Rattle.step.proofs.PassNode.{nodeAt, reads-none, gone, full, made, node-read, pass-branch}
 use Rattle.step.proofs.PassTree.{Numbered, pass-siblings}
-use Rattle.step.proofs.SiblingPlaces.{Place, old, new, depthAt, setAt, isOldAt, oldNodes, old-first, old-many, placesFrom, placesOf, old-from, old-places, places-origins, places-depths, places-sets}
+use Rattle.step.proofs.SiblingsInTurn.{Sibling, old, new, depthOf, setOf, oldNodes, siblingsFrom, siblingsOf, old-from, siblings-many, sibling-behind, sibling-depth, sibling-set}
 
--- PLACES IN TURN
+-- SIBLINGS IN TURN
 
 -- where the level at depth d is open, its running set is `set`
 abbrev Carries : Pass → ℕ → ℕ → Type 0
@@ -41,14 +39,14 @@ unreached : (p : Pass) (d set : ℕ) → length (p .levels) ≤ d → Carries p 
 unreached p d set h deep = let same = ap (λ (q : Pass). length (q .levels)) (none-closed d p (omega arith)) in absurd (omega arith)
 
 module _ (E : ℕ → ℕ → ℕ) (k : ℕ) where
-  -- it is so at each of some places in turn; old nodes are read on the way
-  abbrev CarriesAlong : ℕ → Pass → List Place → Type 0
+  -- it is so at each of some siblings in turn; old nodes are read on the way
+  abbrev CarriesAlong : ℕ → Pass → List Sibling → Type 0
   CarriesAlong i p [] = Unit {0}
-  CarriesAlong i p (old x set ∷ places) = Carries p (x .depth) set × CarriesAlong (suc i) (readNode E k i x (closedTo (x .depth) p)) places
-  CarriesAlong i p (new d set ∷ places) = Carries p d set × CarriesAlong i p places
+  CarriesAlong i p (old x set ∷ siblings) = Carries p (x .depth) set × CarriesAlong (suc i) (readNode E k i x (closedTo (x .depth) p)) siblings
+  CarriesAlong i p (new d set ∷ siblings) = Carries p d set × CarriesAlong i p siblings
 
-  -- some places, then some more
-  along-append : (i : ℕ) (p : Pass) (l r : List Place) → CarriesAlong i p l
+  -- some siblings, then some more
+  along-append : (i : ℕ) (p : Pass) (l r : List Sibling) → CarriesAlong i p l
       → CarriesAlong (i + length (oldNodes l)) (readNodes E k i p (oldNodes l)) r → CarriesAlong i p (l ++ r)
   unfolding oldNodes readNodes
   along-append i p [] r h more = let e : i + 0 ≡ i = omega arith in rw e at more
@@ -57,10 +55,10 @@ module _ (E : ℕ → ℕ → ℕ) (k : ℕ) where
       (here, along-append (suc i) (readNode E k i x (closedTo (x .depth) p)) l r h (rw e at more))
   along-append i p (new d set ∷ l) r (here, h) more = (here, along-append i p l r h more)
 
-  -- at the place numbered n, once the old nodes before it are read
-  along-at : (i : ℕ) (p : Pass) (l : List Place) → CarriesAlong i p l → (n : ℕ) → n < length l
-      → Carries (readNodes E k i p (oldNodes (take n l))) (depthAt (getD l n (new 0 0))) (setAt (getD l n (new 0 0)))
-  unfolding oldNodes readNodes depthAt setAt
+  -- at the one numbered n, once the old nodes before it are read
+  along-at : (i : ℕ) (p : Pass) (l : List Sibling) → CarriesAlong i p l → (n : ℕ) → n < length l
+      → Carries (readNodes E k i p (oldNodes (take n l))) (depthOf (getD l n (new 0 0))) (setOf (getD l n (new 0 0)))
+  unfolding oldNodes readNodes depthOf setOf
   along-at i p [] h n less = absurd (omega arith)
   along-at i p (old x set ∷ l) (here, h) zero less = here
   along-at i p (new d set ∷ l) (here, h) zero less = here
@@ -69,24 +67,24 @@ module _ (E : ℕ → ℕ → ℕ) (k : ℕ) where
 
   module _ (R : Rule) (a : ℕ) where
     -- deeper levels are closed before the first of some siblings, or have been
-    along-closed : (i d held set : ℕ) (p : Pass) (F : Tree) → CarriesAlong i (closedTo d p) (placesFrom R a d held set F)
-        → CarriesAlong i p (placesFrom R a d held set F)
-    unfolding placesFrom
+    along-closed : (i d held set : ℕ) (p : Pass) (F : Tree) → CarriesAlong i (closedTo d p) (siblingsFrom R a d held set F)
+        → CarriesAlong i p (siblingsFrom R a d held set F)
+    unfolding siblingsFrom
     along-closed i d held set p nil (here, _) = (rw (closed-again d d p (omega arith)) at here, tt)
     along-closed i d held set p (node x below younger) (here, h) =
         let same = closed-again d d p (omega arith) in (rw same at here, rw same at h)
 
-    -- no place deeper than the deepest level is reached
-    along-none : (i d held set : ℕ) (p : Pass) (F : Tree) → length (p .levels) ≤ d → CarriesAlong i p (placesFrom R a d held set F)
-    unfolding placesFrom
+    -- none deeper than the deepest level is reached
+    along-none : (i d held set : ℕ) (p : Pass) (F : Tree) → length (p .levels) ≤ d → CarriesAlong i p (siblingsFrom R a d held set F)
+    unfolding siblingsFrom
     along-none i d held set p nil h = (unreached p d set h, tt)
     along-none i d held set p (node x below younger) h =
         let skipped : readNode E k i (nodeAt d x below) (closedTo d p) ≡ p =
         ap (readNode E k i (nodeAt d x below)) (none-closed d p (omega arith)) ∙ read-skips E k i p (nodeAt d x below) h in
-        let rest = along-none (suc i + length (oldNodes (placesFrom R a (suc d) held 0 below))) d (bitOr held (newLabel R a held x))
+        let rest = along-none (suc i + length (oldNodes (siblingsFrom R a (suc d) held 0 below))) d (bitOr held (newLabel R a held x))
         (bitOr set (newLabel R a held x)) p younger h in (
           unreached p d set h,
-          rw skipped (along-append (suc i) p (placesFrom R a (suc d) held 0 below) _
+          rw skipped (along-append (suc i) p (siblingsFrom R a (suc d) held 0 below) _
               (along-none (suc i) (suc d) held 0 p below (omega arith))
               (rw (old-from R a (suc d) held 0 below, reads-none E k (suc i) p (suc d) below (omega arith)) (rw (old-from R a (suc d) held 0 below) at rest))),
         )
@@ -109,10 +107,10 @@ module _ (R : Rule) (a : ℕ) (E : ℕ → ℕ → ℕ) (number : Origin → ℕ
       (accepting stable : ℕ) → length levels ≡ d
       → ((inner : List Level) (nodes : List CodeNode) (accepting stable : ℕ) → length inner ≡ suc d
       → CarriesAlong E (R .sets) (suc i)
-      (pass (level (bitOr above older) 0 (successorsIn R (x .active) a (x .label)) b ∷ inner) nodes accepting stable) (placesFrom R a (suc d) held 0 below))
+      (pass (level (bitOr above older) 0 (successorsIn R (x .active) a (x .label)) b ∷ inner) nodes accepting stable) (siblingsFrom R a (suc d) held 0 below))
       → CarriesAlong E (R .sets) (suc i)
       (readNode E (R .sets) i (nodeAt d x below) (closedTo d (pass (level above older sprout b ∷ levels) nodes accepting stable)))
-      (placesFrom R a (suc d) held 0 below)
+      (siblingsFrom R a (suc d) held 0 below)
   along-below v x below low high held above older sum i d sprout b levels nodes accepting stable deep ih =
       rw (node-read R a E number all of v x below low high held above older sum i d sprout b levels nodes accepting stable deep)
       (go (gone R a held v x below) (full R a held v x below) refl refl)
@@ -125,7 +123,7 @@ module _ (R : Rule) (a : ℕ) (E : ℕ → ℕ → ℕ) (number : Origin → ℕ
 
       go : (g f : Bool) → gone R a held v x below ≡ g → full R a held v x below ≡ f
           → CarriesAlong E (R .sets) (suc i) (passedNode (R .sets) i (nodeAt d x below) m (pass (l ∷ levels) nodes accepting stable))
-          (placesFrom R a (suc d) held 0 below)
+          (siblingsFrom R a (suc d) held 0 below)
       go true f e _ = rw (passed-removed (R .sets) i (nodeAt d x below) m l levels nodes accepting stable e)
           (along-none E (R .sets) R a (suc i) (suc d) held 0 _ below (omega arith))
       go false true e e′ = rw (passed-accepting (R .sets) i (nodeAt d x below) m l levels nodes accepting stable e e′)
@@ -136,8 +134,8 @@ module _ (R : Rule) (a : ℕ) (E : ℕ → ℕ → ℕ) (number : Origin → ℕ
   along-siblings : (F : Tree) (p : List ℕ) (c i d held above older : ℕ) → bitOr above older ≡ held → (sprout : ℕ) (b : Bool)
       (levels : List Level) (nodes : List CodeNode) (accepting stable : ℕ)
       → Fits (R .sets) F → Numbered number p c i F → length levels ≡ suc d
-      → CarriesAlong E (R .sets) i (pass (level above older sprout b ∷ levels) nodes accepting stable) (placesFrom R a (suc d) held older F)
-  unfolding placesFrom
+      → CarriesAlong E (R .sets) i (pass (level above older sprout b ∷ levels) nodes accepting stable) (siblingsFrom R a (suc d) held older F)
+  unfolding siblingsFrom
   along-siblings nil p c i d held above older sum sprout b levels nodes accepting stable fits numbered deep =
       (stands (suc d) above older sprout b levels nodes accepting stable deep, tt)
   along-siblings (node x below younger) p c i d held above older sum sprout b levels nodes accepting stable (own, down, on) (is, inner, after) deep =
@@ -146,7 +144,7 @@ module _ (R : Rule) (a : ℕ) (E : ℕ → ℕ → ℕ) (number : Origin → ℕ
       let both : bitOr above (bitOr older (newLabel R a held x)) ≡ bitOr held (newLabel R a held x) =
       union-assoc above older (newLabel R a held x) ∙ ap (λ (s : ℕ). bitOr s (newLabel R a held x)) sum in (
         stands (suc d) above older sprout b levels nodes accepting stable deep,
-        along-append E (R .sets) (suc i) _ (placesFrom R a (suc (suc d)) held 0 below) _
+        along-append E (R .sets) (suc i) _ (siblingsFrom R a (suc (suc d)) held 0 below) _
             (along-below (p ++ (c ∷ [])) x below (own .from-one) (own .up-to) held above older sum i (suc d) sprout b levels nodes accepting stable deep
             (λ inside nodes accepting stable deeper. along-siblings below (p ++ (c ∷ [])) 0 (suc i) (suc d) held (bitOr above older) 0
             (or-zero-r (bitOr above older) ∙ sum) _ b inside nodes accepting stable down inner deeper))
@@ -164,8 +162,8 @@ module _ (R : Rule) (a : ℕ) (E : ℕ → ℕ → ℕ) (number : Origin → ℕ
 
   -- one root with all below it: at each node after steps 1 and 2
   along-root : (x : Node) (below : Tree) → Fits (R .sets) (node x below nil) → Numbered number [] 0 1 below
-      → CarriesAlong E (R .sets) 0 atStart (placesOf R a (node x below nil))
-  unfolding placesOf
+      → CarriesAlong E (R .sets) 0 atStart (siblingsOf R a (node x below nil))
+  unfolding siblingsOf
   along-root x below (own, down, on) inner = (
     stands 0 0 0 0 true [] [] 0 0 refl,
     along-below [] x below (own .from-one) (own .up-to) 0 0 0 refl 0 0 0 true [] [] 0 0 refl
@@ -177,36 +175,9 @@ module _ (R : Rule) (a : ℕ) (E : ℕ → ℕ → ℕ) (number : Origin → ℕ
       → length (closedTo d (readNodes E (R .sets) 0 atStart (take i (nodesOf (node x below nil)))) .levels) ≡ suc d
       → RunningSet R a (node x below nil) i d
       (deepest (closedTo d (readNodes E (R .sets) 0 atStart (take i (nodesOf (node x below nil)))) .levels) .older)
-  unfolding depthAt setAt names threeSteps
+  unfolding threeSteps
   running-set-root x below fits inner i d deep n less before depth =
-      record { before = after ∙ ap (λ (l : List ℕ). getD l n 0) (sym (older-labels-same (twoSteps R a (node x below nil)))); after = after }
-    where
-      T : Tree
-      T = node x below nil
-
-      places : List Place
-      places = placesOf R a T
-
-      many : length places ≡ size (twoSteps R a T)
-      many = sym (length-map places isOldAt) ∙ ap length (places-origins R a x below)
-          ∙ length-map (listing (twoSteps R a T)) (λ x. wasThere (x .origin)) ∙ length-listing (twoSteps R a T)
-
-      -- the old nodes before it are the first i
-      read : oldNodes (take n places) ≡ take i (nodesOf T)
-      read = old-first n places
-          ∙ rw (old-many n places (listing (twoSteps R a T)) (places-origins R a x below), before, old-places R a x below)
-
-      -- it has its depth and its set
-      some : Named Grown
-      some = record { here = noSprout; name = [] }
-
-      at-depth : depthAt (getD places n (new 0 0)) ≡ d
-      at-depth = sym (List·getD-map depthAt places n (new 0 0)) ∙ ap (λ (l : List ℕ). getD l n 0) (places-depths R a x below)
-          ∙ List·getD-map (λ (z : Named Grown). length (z .name)) (listing (named (twoSteps R a T))) n some
-          ∙ ap length (sym (List·getD-map (λ (z : Named Grown). z .name) (listing (named (twoSteps R a T))) n some)) ∙ depth
-
-      at-set : setAt (getD places n (new 0 0)) ≡ getD (olderLabels (threeSteps R a T)) n 0
-      at-set = sym (List·getD-map setAt places n (new 0 0)) ∙ ap (λ (l : List ℕ). getD l n 0) (places-sets R a x below)
-
-      after : deepest (closedTo d (readNodes E (R .sets) 0 atStart (take i (nodesOf T))) .levels) .older ≡ getD (olderLabels (threeSteps R a T)) n 0
-      after = (rw (read, at-depth) at (along-at E (R .sets) 0 atStart places (along-root x below fits inner) n (omega (arith, many)))) deep ∙ at-set
+      let T : Tree = node x below nil in
+      let here = along-at E (R .sets) 0 atStart (siblingsOf R a T) (along-root x below fits inner) n (omega (arith, siblings-many R a x below)) in
+      let after = (rw (sibling-behind R a x below n, before, sibling-depth R a x below n, depth) at here) deep ∙ sibling-set R a x below n in
+      record { before = after ∙ ap (λ (l : List ℕ). getD l n 0) (sym (older-labels-same (twoSteps R a T))); after = after }

@@ -2,24 +2,22 @@
 -- each way through the loop's body.
 use mathlib.Core.Path.{_≡_, refl, sym, _∙_, ap}
 use mathlib.Core.Logic.{_⊎_, inl, inr, ⊎-elim}
-use mathlib.Core.Bool.{Bool, false}
+use mathlib.Core.Bool.{Bool}
 use mathlib.Core.List.{List, [], _∷_, _++_, append-nil}
 use Prim.Native.Nat.{ℕ, zero, suc, _+_, _-_, _≤_, _<_}
 use native.Mathlib.Omega.{arith}
 use native.Mathlib.Numerals.{add-one}
 use borrow.Author.Tests.{eq-eqb, ne-eqb}
 use lib.Bits.{bitOr}
-use lib.Dec.{eqb}
-use lib.ListN.{length, getD, set, take, drop, length-set}
+use lib.ListN.{length, getD, set, take, drop}
 use lib.Seq.{getD-set-other, take-suc-set, drop-drop, drop-set-lt}
-use Rattle.rule.specs.Limits.{maxStates}
 use Rattle.tree.specs.inner.PackedNodes.{unpacked, nodesIn}
 use Rattle.tree.specs.inner.RecordNodes.{places}
 use Rattle.tree.specs.inner.Sides.{TwoSides}
 use Rattle.tree.specs.declared.nodes.Node.{Node as CodeNode}
 use Rattle.tree.proofs.PackedWords.{node-written, nodes-many}
 use Rattle.tree.proofs.TreeNodes.{side-written, sides-long}
-use Rattle.step.specs.inner.Pass.{sproutNode, written, held, Level, Pass, closedTo}
+use Rattle.step.specs.inner.Pass.{sproutNode, written, closedTo}
 use Rattle.step.specs.inner.LevelArrays.{LevelArrays, levelArrays, levelAt, waitingLevels, levelsOf, passAt, Closable, Closing}
 use Rattle.step.specs.declared.pass.Standing.{Standing}
 use Rattle.step.proofs.Levels.{waiting-length}

@@ -1,8 +1,8 @@
 -- The levels of a pass as they stand in arrays by depth: what the stores at a node that is read leave of them.
 use mathlib.Core.Path.{_≡_, refl, ap₂}
-use mathlib.Core.Bool.{Bool, false}
+use mathlib.Core.Bool.{false}
 use mathlib.Core.List.{List, _∷_}
-use Prim.Native.Nat.{ℕ, zero, suc, _+_, _<_, _≤_}
+use Prim.Native.Nat.{ℕ, zero, suc, _+_, _<_}
 use native.Mathlib.Omega.{arith}
 use native.Mathlib.Numerals.{add-one}
 use borrow.Author.Tests.{eq-eqb, ne-eqb}
@@ -11,7 +11,7 @@ use lib.ListN.{length, getD, set, length-set}
 use lib.Seq.{getD-set-same, getD-set-other}
 use Rattle.rule.specs.Limits.{maxStates}
 use Rattle.step.specs.inner.Pass.{Level, entered}
-use Rattle.step.specs.inner.LevelArrays.{LevelArrays, levelArrays, EachDepth, levelAt, waitingLevels, levelsOf, Entered}
+use Rattle.step.specs.inner.LevelArrays.{LevelArrays, levelArrays, EachDepth, levelAt, waitingLevels, Entered}
 use Rattle.step.specs.declared.pass.NewLabels.{NewLabels}
 use Rattle.step.specs.declared.pass.Standing.{Standing}
 

@@ -10,7 +10,7 @@ pub mod PassLoop
 pub mod PassNode
 pub mod PassTree
 -- The running set: the siblings in the order in which the pass reaches them.
-pub mod SiblingPlaces
+pub mod SiblingsInTurn
 pub mod AlongSiblings
 pub mod RunningSet
 pub mod GrownNodes

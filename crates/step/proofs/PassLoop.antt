@@ -1,8 +1,8 @@
 -- The loop of `step_nodes`: what stands in its variables is the pass over the nodes read so far. One law for each way through the loop's
 -- body.
 use mathlib.Core.Path.{_≡_, refl, sym, _∙_, ap}
-use mathlib.Core.Bool.{Bool, false}
-use mathlib.Core.List.{List, [], _∷_, _++_}
+use mathlib.Core.Bool.{false}
+use mathlib.Core.List.{List, [], _∷_}
 use Prim.Native.Nat.{ℕ, suc, _+_, _*_, _-_, _≤_, _<_}
 use native.Mathlib.Omega.{arith}
 use native.Mathlib.Numerals.{add-one}
@@ -11,7 +11,7 @@ use lib.Bits.{bitOr}
 use lib.Dec.{eqb}
 use lib.ListN.{length, getD, set, take, drop, length-take}
 use lib.Seq.{getD-take, take-suc, take-all, length-take-le}
-use Rattle.rule.specs.Limits.{maxStates, maxSets}
+use Rattle.rule.specs.Limits.{maxSets}
 use Rattle.rule.specs.inner.Lookup.{Lookup, lookUp}
 use Rattle.tree.specs.inner.Nodes.{blankNode}
 use Rattle.tree.specs.inner.PackedNodes.{unpacked, nodesIn}
@@ -21,7 +21,7 @@ use Rattle.tree.specs.declared.nodes.Node.{Node as CodeNode}
 use Rattle.tree.proofs.PackedWords.{node-read, nodes-many}
 use Rattle.tree.proofs.TreeNodes.{sides-long}
 use Rattle.step.specs.inner.Pass.{newLabels, settledNode, joinedIf, outermost, deepest, Pass, closedTo, passedNode, readNode, readNodes, atStart, steppedNodes}
-use Rattle.step.specs.inner.LevelArrays.{LevelArrays, levelArrays, EachDepth, waitingLevels, levelsOf, Entered, passAt, Closable, Closing}
+use Rattle.step.specs.inner.LevelArrays.{LevelArrays, EachDepth, levelsOf, Entered, passAt, Closable, Closing}
 use Rattle.step.specs.inner.Stepping.{nodesOn, Steppable, Stepping}
 use Rattle.step.specs.declared.pass.NewLabels.{NewLabels}
 use Rattle.step.specs.declared.pass.Standing.{Standing}

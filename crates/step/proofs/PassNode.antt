@@ -11,7 +11,7 @@ use lib.ListN.{length}
 use Rattle.base.specs.BitSet.{member, minus}
 use Rattle.base.proofs.BitSet.{member-union, member-minus, set-ext, union-assoc}
 use Rattle.rule.specs.Rule.{Rule, successors, successorsIn}
-use Rattle.history.specs.Forest.{Forest, nil, node, size}
+use Rattle.history.specs.Forest.{Forest, nil, node}
 use Rattle.history.specs.Tree.{Node, Tree, labels}
 use Rattle.history.specs.Letter.{Origin, was, Grown, child}
 use Rattle.history.proofs.step.LocalStep.{newLabel, sproutOf, newBelow, accepts, step}

@@ -23,7 +23,7 @@ use Rattle.tree.specs.inner.Nodes.{nodesFrom, nodesOf}
 use Rattle.tree.specs.declared.nodes.Node.{Node as CodeNode}
 use Rattle.tree.proofs.TreeNodes.{size-from}
 use Rattle.step.specs.inner.Pass.{Level, sproutNode, written, Pass, closedTo, levelsTo, sproutsTo, readNode, readNodes, atStart}
-use Rattle.step.proofs.PassSteps.{level, pass, sproutOfLevel, closed-level, none-closed, closed-again, read-nil, read-cons, read-append}
+use Rattle.step.proofs.PassSteps.{level, pass, sproutOfLevel, closed-level, none-closed, closed-again, read-nil, read-append}
 use Rattle.step.proofs.GrownNodes.{marked, grownNodes, acceptingOf, stableOf, stableIn, Gives, nodesHere, acceptingHere, stableHere, nodes-kept, accepting-kept, stable-kept, stable-root}
 use Rattle.step.proofs.Renamed.{new-none, renamed}
 use Rattle.step.proofs.PassNode.{nodeAt, cond-none, here, newKids, gone, full, full-is, Passes, pass-branch}

@@ -1,8 +1,7 @@
 -- When a sibling is reached, the running set in the code's variable is the union of its older siblings' labels (document 02, U4).
 use mathlib.Core.Path.{_≡_, refl, sym, _∙_, ap, subst}
-use mathlib.Core.Bool.{true}
 use mathlib.Core.List.{List, [], _∷_, map}
-use Prim.Native.Nat.{ℕ, zero, suc, _-_, _≤_, _<_}
+use Prim.Native.Nat.{ℕ, zero, suc, _-_, _<_}
 use native.Mathlib.Omega.{arith}
 use lib.ListN.{length, getD, take}
 use Rattle.rule.specs.Rule.{Rule}
@@ -11,17 +10,18 @@ use Rattle.rule.specs.inner.Padded.{padded}
 use Rattle.rule.proofs.LookupLaws.{look-up-successors, look-up-successors-in}
 use Rattle.table.specs.inner.ReadRule.{WithinLimits}
 use Rattle.history.specs.Forest.{nil, node, size, change, named}
-use Rattle.history.specs.Tree.{Tree, isTreeOf}
+use Rattle.history.specs.Tree.{Tree}
 use Rattle.history.specs.Letter.{begun, succeeded, sprouting}
 use Rattle.history.specs.inner.OldNumbers.{noNode, oldNumber}
 use Rattle.history.specs.OlderSiblings.{twoSteps}
 use Rattle.history.proofs.tree.Conditions.{Fits, OneRoot}
 use Rattle.history.proofs.step.TreesOf.{of-out, of-few}
-use Rattle.tree.specs.inner.Nodes.{nodesOf, withoutOld, AreNodes}
+use Rattle.tree.specs.inner.Nodes.{nodesOf, withoutOld}
 use Rattle.tree.specs.declared.nodes.Node.{Node as CodeNode}
 use Rattle.step.specs.RunningSet.{RunningSet}
 use Rattle.step.specs.inner.Pass.{deepest, Pass, closedTo, readNodes, atStart}
-use Rattle.step.specs.inner.LevelArrays.{LevelArrays, levelArrays, passAt, Reached, Closing}
+use Rattle.step.specs.inner.LevelArrays.{LevelArrays, Closing}
+use Rattle.step.specs.inner.AtSibling.{AtSibling, CarriedAlong}
 use Rattle.step.specs.inner.Stepping.{nodesOn}
 use Rattle.step.specs.declared.pass.Standing.{Standing}
 use Rattle.step.proofs.Levels.{waiting-length}
@@ -36,10 +36,10 @@ use Rattle.step.proofs.AlongSiblings.{running-set-root}
 module _ {lookup : Lookup} {k count from : ℕ} {before sides : List (List ℕ)} {A : LevelArrays} {accepting stable : ℕ} {at : Standing} {i : ℕ}
     (v : OnSides lookup k count from before sides A accepting stable at i) where
   -- `close_levels`, called in the loop of `step_nodes`, is at the child that the parent of the deepest level sprouts
-  pub reached-closing : {depth top older written : ℕ} {now : List (List ℕ)}
+  pub closing-at-sibling : {depth top older written : ℕ} {now : List (List ℕ)}
       → ClosedSoFar (A .above) (A .waiting) (A .sprout) (1 - from) depth at sides now top older written
-      → Reached lookup k (nodesOn before from count) i (record { top = top; older = older; written = written })
-  reached-closing {depth} {top} {older} {written} {now} w = record {
+      → AtSibling lookup k (nodesOn before from count) i (record { top = top; older = older; written = written })
+  closing-at-sibling {depth} {top} {older} {written} {now} w = record {
     side = getD now (1 - from) [];
     arrays = A;
     accepting = accepting;
@@ -48,10 +48,10 @@ module _ {lookup : Lookup} {k count from : ℕ} {before sides : List (List ℕ)}
   }
 
   -- `step_nodes` is at a node of the deepest level
-  pub reached-reading : {depth : ℕ} {next : Standing} {after : List (List ℕ)}
+  pub reading-at-sibling : {depth : ℕ} {next : Standing} {after : List (List ℕ)}
       → Closing (A .above) (A .waiting) (A .sprout) (1 - from) depth at sides next after → depth ≡ next .top
-      → Reached lookup k (nodesOn before from count) i next
-  reached-reading {depth} {next} {after} closing here = record {
+      → AtSibling lookup k (nodesOn before from count) i next
+  reading-at-sibling {depth} {next} {after} closing here = record {
     side = getD after (1 - from) [];
     arrays = A;
     accepting = accepting;
@@ -83,18 +83,16 @@ module _ {R : Rule} (limits : WithinLimits R) (a : ℕ) where
       x below fits (tree-numbered x below small .1) i d deep
   along-tree (node x below (node y other younger)) one fits small i d deep = absurd one
 
-  module _ {T : Tree} (tree : isTreeOf R T ≡ true) (lookup : Lookup) (k : ℕ) (sets : R .sets ≡ k)
-      (by : lookup ≡ letterLookup (getD (padded (R .grid)) a [])) (nodes : List CodeNode) (are : AreNodes nodes T) where
-    -- the rule's letter `a` is read from the tree T: "when a sibling is reached, this set is the union of its older siblings' labels, both
-    -- as they were before these siblings lost states to one another and as they are after"
-    pub running-set : {i : ℕ} {at : Standing} → Reached lookup k nodes i at → RunningSet R a T i (at .top) (at .older)
-    unfolding deepest
-    running-set {i} {at} r =
-        let t = of-out R T tree in
-        let read : readNodes (lookUp lookup) k 0 atStart (take i nodes) ≡ readNodes E (R .sets) 0 atStart (take i (nodesOf T)) =
-        rw (by, ← sets, ← are, ← take-without-old i nodes) (sym (read-without-old E (R .sets) 0 atStart (take i nodes))) in
-        let p = r .pass ∙ ap (closedTo (at .top)) read in
-        let levels : length (closedTo (at .top) (readNodes E (R .sets) 0 atStart (take i (nodesOf T))) .levels) ≡ suc (at .top) =
-        ap (λ (q : Pass). length (q .levels)) (sym p) ∙ ap suc (waiting-length (r .arrays) (at .top)) in
-        subst (λ (set : ℕ). RunningSet R a T i (at .top) set) (ap (λ (q : Pass). deepest (q .levels) .older) (sym p))
-        (along-tree T (t .one-root) (t .fits) (omega (arith, of-few R T tree, limits .states)) i (at .top) levels)
+-- "when a sibling is reached, this set is the union of its older siblings' labels, both as they were before these siblings lost states to
+-- one another and as they are after"
+pub running-set : CarriedAlong
+unfolding CarriedAlong deepest
+running-set R limits a T tree lookup by nodes are i at r =
+    let t = of-out R T tree in
+    let read : readNodes (lookUp lookup) (R .sets) 0 atStart (take i nodes) ≡ readNodes (E limits a) (R .sets) 0 atStart (take i (nodesOf T)) =
+    rw (by, ← are, ← take-without-old i nodes) (sym (read-without-old (E limits a) (R .sets) 0 atStart (take i nodes))) in
+    let p = r .pass ∙ ap (closedTo (at .top)) read in
+    let levels : length (closedTo (at .top) (readNodes (E limits a) (R .sets) 0 atStart (take i (nodesOf T))) .levels) ≡ suc (at .top) =
+    ap (λ (q : Pass). length (q .levels)) (sym p) ∙ ap suc (waiting-length (r .arrays) (at .top)) in
+    subst (λ (set : ℕ). RunningSet R a T i (at .top) set) (ap (λ (q : Pass). deepest (q .levels) .older) (sym p))
+    (along-tree limits a T (t .one-root) (t .fits) (omega (arith, of-few R T tree, limits .states)) i (at .top) levels)

@@ -10,9 +10,7 @@ use tree::nodes::Tree;
 use tree::packed::pack;
 use tree::packed::unpack;
 ghost use mathlib.Core.Path.{_≡_};
-ghost use mathlib.Core.Bool.{cond};
 ghost use Prim.Native.Nat.{_≤_, _<_};
-ghost use lib.Dec.{ltb};
 ghost use Rattle.base.specs.BitSet.{minus};
 ghost use Rattle.rule.specs.Limits.{maxStates, maxSets};
 ghost use Rattle.rule.specs.inner.Lookup.{lookUp};
@@ -169,8 +167,8 @@ fn enter(
     }
 }
 
-// Levels deeper than `depth` are closed, the deepest first: all below a parent is read, the child that it sprouts is the youngest
-// (step 2), and the level that has waited goes on.
+// Levels deeper than `depth` are closed, the deepest first: all below a parent is read, the child that it sprouts is reached as the
+// youngest sibling (step 2), and the level that has waited goes on.
 fn close_levels(
     sides: &mut DoubleBuffer,
     to: usize,
@@ -245,7 +243,7 @@ pub fn step_nodes(
         let top = at.top;
         let old = i;
         i += 1;
-        // A deeper node is below a node that was removed or that has lost its descendants (step 4).
+        // The next sibling is reached; a deeper node is below a node that was removed or that has lost its descendants (step 4).
         if depth == top {
             let made = new_labels(lookup, x, above[top] | at.older);
             let name = named[top];

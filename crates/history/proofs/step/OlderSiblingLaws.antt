@@ -1,8 +1,7 @@
 -- The unions of older siblings' labels: they are the same before these siblings lose states to one another and after, and what such a
 -- union takes from a sibling is what step 3 takes.
-use mathlib.Core.Path.{_≡_, refl, ap}
+use mathlib.Core.Path.{_≡_, refl}
 use mathlib.Core.Bool.{Bool, true, false, not, _&&_, _||_}
-use mathlib.Core.List.{List, _∷_, _++_}
 use Prim.Native.Nat.{ℕ}
 use lib.Bits.{bitOr, or-zero-r}
 use Rattle.base.specs.BitSet.{member, minus}

@@ -6,12 +6,10 @@ use mathlib.Core.List.{List, [], _∷_}
 use Prim.Native.Nat.{ℕ, zero, suc, _+_, _≤_, _<_, _-_}
 use lib.ListN.{length, getD, take, drop}
 use Rattle.rule.specs.Limits.{maxStates}
-use Rattle.rule.specs.inner.Lookup.{Lookup, lookUp}
 use Rattle.tree.specs.inner.PackedNodes.{nodesIn}
 use Rattle.tree.specs.inner.RecordNodes.{places}
 use Rattle.tree.specs.inner.Sides.{TwoSides}
-use Rattle.tree.specs.declared.nodes.Node.{Node as CodeNode}
-use Rattle.step.specs.inner.Pass.{Level, entered, Pass, closedTo, readNodes, atStart}
+use Rattle.step.specs.inner.Pass.{Level, entered, Pass, closedTo}
 use Rattle.step.specs.declared.pass.NewLabels.{NewLabels}
 use Rattle.step.specs.declared.pass.Standing.{Standing}
 
@@ -56,15 +54,6 @@ pub record Entered (m : NewLabels) (at : Standing) (A : LevelArrays) (next : Sta
 abbrev pub passAt : List ℕ → LevelArrays → Standing → ℕ → ℕ → Pass
 passAt side A at accepting stable =
     record { levels = levelsOf A at; nodes = take (at .written) (nodesIn side); accepting = accepting; stable = stable }
-
--- a sibling is reached: the variables are those of a pass that has read the first i of some nodes and has closed the levels deeper than
--- the deepest one
-pub record Reached (lookup : Lookup) (k : ℕ) (nodes : List CodeNode) (i : ℕ) (at : Standing) : Type 0 where
-  pub side : List ℕ
-  pub arrays : LevelArrays
-  pub accepting : ℕ
-  pub stable : ℕ
-  pub pass : passAt side arrays at accepting stable ≡ closedTo (at .top) (readNodes (lookUp lookup) k 0 atStart (take i nodes))
 
 -- there is room for the sprouted children of all levels
 pub record Closable (sides : List (List ℕ)) (to : ℕ) (above waiting sprout : List ℕ) (at : Standing) : Type 0 where

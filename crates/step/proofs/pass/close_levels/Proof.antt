@@ -4,10 +4,6 @@ use borrow.Author.Needs.{needs}
 use Rattle.step.proofs.ClosingLoop.{ClosedSoFar, closing-start, close-none, close-some, closing-done}
 use Rattle.step.proofs.pass.close_levels.Statement.{statement}
 use Rattle.step.proofs.pass.close_levels.Tie as tie
-use Rattle.step.proofs.pass.close_levels.Reads as reads
-use Rattle.step.proofs.pass.close_levels.Lts as lts
-use Rattle.step.proofs.pass.sprout_node.Reads as sprout-node-reads
-use Rattle.tree.proofs.packed.pack.Reads as pack-reads
 
 abbrev Inv-loop : tie.InvT-loop
 Inv-loop sides₀ to above waiting sprout depth top₀ older₀ written₀ sides top older written =

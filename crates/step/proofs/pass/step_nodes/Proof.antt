@@ -9,10 +9,11 @@ use Rattle.rule.specs.Limits.{maxStates}
 use Rattle.tree.specs.inner.Nodes.{blankNode}
 use Rattle.tree.specs.inner.PackedNodes.{nodesIn}
 use Rattle.tree.specs.inner.RecordNodes.{places}
-use Rattle.step.specs.inner.LevelArrays.{levelArrays, waitingLevels, Reached}
+use Rattle.step.specs.inner.LevelArrays.{levelArrays, waitingLevels}
+use Rattle.step.specs.inner.AtSibling.{AtSibling}
 use Rattle.step.specs.inner.Stepping.{nodesOn}
 use Rattle.step.proofs.PassLoop.{OnSides, sides-start, closable, side-read, set-fits, node-skipped, node-removed, node-room, node-kept, sides-done}
-use Rattle.step.proofs.RunningSet.{reached-reading}
+use Rattle.step.proofs.RunningSet.{reading-at-sibling}
 use Rattle.step.proofs.pass.step_nodes.Statement.{statement}
 use Rattle.step.proofs.pass.step_nodes.Tie as tie
 use Rattle.step.proofs.pass.step_nodes.Reads as reads
@@ -63,10 +64,10 @@ module _ (q : lts.After-close-levels (
   few = omega (arith, q .before .before .before .before .before .before .before .before .loop-test .taken, q .before .before .before .before .before .before .before .before .before .loop .inv .ready .few)
 
   -- a node of the deepest level is a sibling that is reached: `running-set` (RunningSet.antt) speaks of `at .older` here
-  pub sibling-reached : q .before .before .before .before .before .before .unpack .result .depth ≡ q .close-levels .result .top
-      → Reached (q .before .before .before .before .before .before .before .before .before .before .args .lookup .now) (q .before .before .before .before .before .before .before .before .before .before .args .k)
+  pub at-sibling : q .before .before .before .before .before .before .unpack .result .depth ≡ q .close-levels .result .top
+      → AtSibling (q .before .before .before .before .before .before .before .before .before .before .args .lookup .now) (q .before .before .before .before .before .before .before .before .before .before .args .k)
       (nodesOn (q .before .before .before .before .before .before .before .before .before .before .args .sides .now) (q .before .before .before .before .before .before .before .before .before .before .args .from) (q .before .before .before .before .before .before .before .before .before .before .args .count)) (q .before .before .before .before .before .before .before .before .before .loop .i) (q .close-levels .result)
-  sibling-reached here = reached-reading (q .before .before .before .before .before .before .before .before .before .loop .inv) (q .close-levels .ensures) here
+  at-sibling here = reading-at-sibling (q .before .before .before .before .before .before .before .before .before .loop .inv) (q .close-levels .ensures) here
 
 -- there is room for the node that is written
 room : (e : lts.After-enter (
