@@ -11,7 +11,7 @@
  * What memory a call needs: what it is lent, and the stack. A call works on the stack, and on nothing of its own besides. Each comment
  * says how many bytes of stack the call was seen to take at most (measured on x86-64 with the largest tables and the longest walks, as
  * docs/PERFORMANCE.md says; nothing is proved of it). A board that lends 256 scratch bytes must have the stack of the plain judge, too.
- * Two calls of the library are there from Rattle only: `judge_both` takes 9,032 bytes of stack, `judge_job` 9,640. */
+ * Two calls of the library are there from Rattle only: `judge_both` takes 7,152 bytes of stack, `judge_job` 7,632. */
 #ifndef SUTHRELDO_H
 #define SUTHRELDO_H
 
@@ -65,7 +65,7 @@ typedef struct { uint8_t number, same; } SuthreldoSame;
 typedef struct { uint8_t number; uint16_t next, reached[SUTHRELDO_SETS]; } SuthreldoSuccessors;
 
 /* Reads a rule table into grid bytes. Questions 1 to 6, then 10. Accepted: n, m, k and the map of starting states; the first
- * m·n·n bytes of `grid` are the rule's grid, the rest is unchanged. Stack: 2,440 bytes. */
+ * m·n·n bytes of `grid` are the rule's grid, the rest is unchanged. Stack: 2,424 bytes. */
 SuthreldoRead suthreldo_read(const uint8_t *table, size_t table_length, uint8_t *grid, size_t grid_length);
 
 /* Writes a rule's numbers and grid as a table. Questions 2, 3 and 11, then 10. Accepted: the table's length; its bytes stand at
@@ -77,16 +77,16 @@ SuthreldoWrite suthreldo_write(size_t n, size_t m, size_t k, uint16_t start, con
  * number is allowed, and bits from n up add nothing. Accepted: `next` is the map of the states r to which some state of `states` has a
  * transition under the letter; reached[i - 1], for i from 1 to k, is the map of those r to which one of these transitions belongs to set i;
  * reached has 0 for the sets from k + 1 up. So a letter can serve set i just where, with 0xFFFF for `states`, reached[i - 1] is not 0.
- * Stack: 2,616 bytes. */
+ * Stack: 2,600 bytes. */
 SuthreldoSuccessors suthreldo_successors(const uint8_t *table, size_t table_length, uint8_t letter, uint16_t states);
 
 /* The record of a table's starting tree. Questions 1 to 6, then 10. Accepted: the record's length; exactly the record is
- * written to the front of `buffer`, the rest unchanged. Stack: 2,280 bytes. */
+ * written to the front of `buffer`, the rest unchanged. Stack: 2,264 bytes. */
 SuthreldoStart suthreldo_start(const uint8_t *table, size_t table_length, uint8_t *buffer, size_t buffer_length);
 
 /* One letter on the tree of a record. Questions 1 to 6, 8, 9, then 10. Accepted: the length of the next tree's record, which is
  * written to the front of `buffer`, the rest unchanged, and the maps of accepting and of stable nodes by old node number (bit i for
- * node i; only the low eight bits can stand). Stack: 3,112 bytes. */
+ * node i; only the low eight bits can stand). Stack: 2,768 bytes. */
 SuthreldoStep suthreldo_step(const uint8_t *table, size_t table_length, uint8_t letter, const uint8_t *record, size_t record_length,
                              uint8_t *buffer, size_t buffer_length);
 
@@ -98,13 +98,13 @@ SuthreldoStep suthreldo_step(const uint8_t *table, size_t table_length, uint8_t 
  * verdict 1 (yes): some endless run of the rule over u and then v for ever goes through every accepting set infinitely often;
  * `length` numbers of the first witnessing node's name stand at the front of `names`, the rest is unchanged.
  * verdict 0 (no): there is no such run; `length` is 255 and `names` is unchanged.
- * Stack: 8,888 bytes. Time: mostly under a millisecond; the longest known is 1 to 3 seconds (docs/PERFORMANCE.md). */
+ * Stack: 8,248 bytes. Time: mostly under a millisecond; the longest known is 1 to 3 seconds (docs/PERFORMANCE.md). */
 SuthreldoTree suthreldo_tree_judge(const uint8_t *table, size_t table_length, const uint8_t *u, size_t u_length,
                                    const uint8_t *v, size_t v_length, uint8_t *names, size_t names_length);
 
 /* The plain judge, which builds no tree. Questions 1 to 8, then 10. Accepted: verdict 1 exactly when there is such a run,
  * 0 exactly when there is none; the first 256 bytes of `scratch` are left zero, those past them unchanged.
- * Stack: 6,600 bytes. Time: linear in the walk's letters. */
+ * Stack: 6,776 bytes. Time: linear in the walk's letters. */
 SuthreldoPlain suthreldo_plain_judge(const uint8_t *table, size_t table_length, const uint8_t *u, size_t u_length,
                                      const uint8_t *v, size_t v_length, uint8_t *scratch, size_t scratch_length);
 
