@@ -84,10 +84,17 @@ pruned k nil = nil
 pruned k (node x below younger) =
     kept k (eqb (x .label) 0) (eqb (x .label) (grownLabels below)) x (pruned k below) (pruned k younger)
 
+-- the nodes after steps 1 and 2, sprouted ones among them, and after step 3
+unfoldable pub twoSteps : Rule → ℕ → Tree → Forest Grown
+twoSteps R a T = sprouting R a (succeeded R a (begun T))
+
+unfoldable pub threeSteps : Rule → ℕ → Tree → Forest Grown
+threeSteps R a T = separated 0 (twoSteps R a T)
+
 -- the nodes after the five steps, each with where it comes from. 5. "Surviving siblings are renumbered from 0 in their old
 -- order": their places among siblings are their child numbers.
 unfoldable pub fiveSteps : Rule → ℕ → Tree → Forest Grown
-fiveSteps R a T = pruned (R .sets) (separated 0 (sprouting R a (succeeded R a (begun T))))
+fiveSteps R a T = pruned (R .sets) (threeSteps R a T)
 
 -- what a letter makes of a tree: the nodes after it
 unfoldable pub survivors : Rule → ℕ → Tree → Forest Grown

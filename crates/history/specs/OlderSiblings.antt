@@ -9,15 +9,7 @@ use Rattle.base.specs.BitSet.{minus}
 use Rattle.rule.specs.Rule.{Rule}
 use Rattle.history.specs.Forest.{Forest, nil, node}
 use Rattle.history.specs.Tree.{Tree}
-use Rattle.history.specs.Letter.{Grown, begun, succeeded, sprouting, separated}
-
--- the nodes after steps 1 and 2, sprouted ones among them
-unfoldable pub twoSteps : Rule → ℕ → Tree → Forest Grown
-twoSteps R a T = sprouting R a (succeeded R a (begun T))
-
--- the nodes after step 3
-unfoldable pub threeSteps : Rule → ℕ → Tree → Forest Grown
-threeSteps R a T = separated 0 (twoSteps R a T)
+use Rattle.history.specs.Letter.{Grown, twoSteps, threeSteps}
 
 -- the nodes as siblings are "before these siblings lost states to one another": a state in a node's label has left "everything below"
 -- its younger siblings, and not yet these. `above` is the union of the labels of the older siblings of a node's ancestors; `older` has
@@ -29,8 +21,8 @@ apartAbove above older (node x below younger) =
     (apartAbove older older below)
     (apartAbove above (bitOr older (x .label)) younger)
 
--- siblings that lose states to one another, with the union of the older ones' labels kept as a running set "while passing from the oldest
--- to the youngest": step 3, for nodes that are apart above (`step-three-by-sets` in proofs/step/OlderSiblingLaws.antt)
+-- siblings that lose states to one another, with the union of the older ones' labels kept as "a running set while passing from the oldest
+-- to the youngest": from `apartAbove` on this is step 3 (`step-three-by-sets` in proofs/step/OlderSiblingLaws.antt)
 unfoldable pub withoutOlder : ℕ → Forest Grown → Forest Grown
 withoutOlder set nil = nil
 withoutOlder set (node x below younger) =
@@ -46,7 +38,7 @@ olderLabelsFrom set (node x below younger) = set ∷ (olderLabelsFrom 0 below ++
 unfoldable pub olderLabels : Forest Grown → List ℕ
 olderLabels F = olderLabelsFrom 0 F
 
--- a set is the union of the labels of the older siblings of the node numbered n after steps 1 and 2
+-- a set is "the union of its older siblings' labels", for the node numbered n after steps 1 and 2
 pub record OlderUnion (R : Rule) (a : ℕ) (T : Tree) (n set : ℕ) : Type 0 where
   -- "as they were before these siblings lost states to one another"
   pub before : set ≡ getD (olderLabels (apartAbove 0 0 (twoSteps R a T))) n 0

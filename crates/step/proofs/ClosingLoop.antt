@@ -6,50 +6,18 @@ use mathlib.Core.Bool.{Bool}
 use mathlib.Core.List.{List, [], _∷_, _++_, append-nil}
 use Prim.Native.Nat.{ℕ, zero, suc, _+_, _-_, _≤_, _<_}
 use native.Mathlib.Omega.{arith}
-use native.Mathlib.Numerals.{add-one}
 use borrow.Author.Tests.{eq-eqb, ne-eqb}
 use lib.Bits.{bitOr}
 use lib.ListN.{length, getD, set, take, drop}
-use lib.Seq.{getD-set-other, take-suc-set, drop-drop, drop-set-lt}
 use Rattle.tree.specs.inner.PackedNodes.{unpacked, nodesIn}
-use Rattle.tree.specs.inner.RecordNodes.{places}
 use Rattle.tree.specs.inner.Sides.{TwoSides}
 use Rattle.tree.specs.declared.nodes.Node.{Node as CodeNode}
-use Rattle.tree.proofs.PackedWords.{node-written, nodes-many}
-use Rattle.tree.proofs.TreeNodes.{side-written, sides-long}
+use Rattle.tree.proofs.TreeNodes.{sides-long, other-kept, behind-kept, front-more}
 use Rattle.step.specs.inner.Pass.{sproutNode, written, closedTo}
 use Rattle.step.specs.inner.LevelArrays.{LevelArrays, levelArrays, levelAt, waitingLevels, levelsOf, passAt, Closable, Closing}
 use Rattle.step.specs.declared.pass.Standing.{Standing}
 use Rattle.step.proofs.Levels.{waiting-length}
-use Rattle.step.proofs.PassSteps.{pass, sproutOfLevel, closed-level, none-closed, closed-again}
-
--- NODES ON A SIDE
-
--- one more node behind the first j
-pub node-behind : (nodes : List CodeNode) (j : ℕ) (x : CodeNode) → j < length nodes → take (j + 1) (set nodes j x) ≡ take j nodes ++ (x ∷ [])
-node-behind nodes j x room = rw (add-one, take-suc-set nodes j x room)
-
--- lists that are the same from a place on are the same from a later one on
-pub drop-later : (l m : List ℕ) (i j : ℕ) → i ≤ j → drop i l ≡ drop i m → drop j l ≡ drop j m
-drop-later l m i j h same =
-    let e : j ≡ i + (j - i) = omega arith in
-    rw e (sym (drop-drop (j - i) i l) ∙ ap (drop (j - i)) same ∙ drop-drop (j - i) i m)
-
--- one more word on a side, behind the first j
-module _ {sides : List (List ℕ)} (arrays : TwoSides sides) (to : ℕ) (one : to < 2) (j word : ℕ) where
-  abbrev more : List (List ℕ)
-  more = set sides to (set (getD sides to []) j word)
-
-  pub other-kept : (side : ℕ) → (side ≡ to → ⊥) → getD more side [] ≡ getD sides side []
-  other-kept side other = getD-set-other sides to side (set (getD sides to []) j word) [] other
-
-  pub behind-kept : (before : List ℕ) → drop j (getD sides to []) ≡ drop j before → drop (j + 1) (getD more to []) ≡ drop (j + 1) before
-  behind-kept before same = rw (side-written arrays to one j word, add-one)
-      (drop-set-lt (suc j) (getD sides to []) j word (omega arith) ∙ drop-later (getD sides to []) before j (suc j) (omega arith) same)
-
-  pub front-more : (x : CodeNode) → unpacked word ≡ x → j < places → take (j + 1) (nodesIn (getD more to [])) ≡ take j (nodesIn (getD sides to [])) ++ (x ∷ [])
-  front-more x is room = rw (side-written arrays to one j word, node-written (getD sides to []) j word is)
-      (node-behind (nodesIn (getD sides to [])) j x (omega (arith, nodes-many (getD sides to []) (arrays .long to one))))
+use Rattle.step.proofs.PassSteps.{pass, closed-level, none-closed, closed-again}
 
 -- ONE LEVEL
 
@@ -60,14 +28,13 @@ waiting-next A zero h = absurd (omega arith)
 waiting-next A (suc c) h = let e : suc c - 1 ≡ c = omega arith in rw e
 
 -- the deepest level is closed, and the one above it goes on
-close-one : (A : LevelArrays) (top older : ℕ) (nodes : List CodeNode) (accepting stable : ℕ) → 0 < top
-    → closedTo (top - 1) (pass (levelAt A top older ∷ waitingLevels A top) nodes accepting stable)
+close-one : (A : LevelArrays) (top running : ℕ) (nodes : List CodeNode) (accepting stable : ℕ) → 0 < top
+    → closedTo (top - 1) (pass (levelAt A top running ∷ waitingLevels A top) nodes accepting stable)
     ≡ pass (levelAt A (top - 1) (getD (A .waiting) (top - 1) 0) ∷ waitingLevels A (top - 1))
-    (nodes ++ written (sproutNode top (getD (A .sprout) top 0) (bitOr (getD (A .above) top 0) older))) accepting stable
-unfolding sproutOfLevel
-close-one A top older nodes accepting stable h =
+    (nodes ++ written (sproutNode top (getD (A .sprout) top 0) (bitOr (getD (A .above) top 0) running))) accepting stable
+close-one A top running nodes accepting stable h =
     let n = waiting-length A top in
-    (rw n at (closed-level (top - 1) (levelAt A top older) (waitingLevels A top) nodes accepting stable (omega arith)))
+    (rw n at (closed-level (top - 1) (levelAt A top running) (waitingLevels A top) nodes accepting stable (omega arith)))
     ∙ none-closed (top - 1) (pass (waitingLevels A top) _ accepting stable) (omega arith)
     ∙ rw (waiting-next A top h)
 
@@ -79,7 +46,7 @@ module _ (above waiting sprout : List ℕ) (to depth : ℕ) (at : Standing) (bef
 
   -- the loop's variables: levels open and nodes written keep within bounds; what they hold is the pass at the beginning with the levels
   -- deeper than `top` closed
-  pub record ClosedSoFar (sides : List (List ℕ)) (top older written : ℕ) : Type 0 where
+  pub record ClosedSoFar (sides : List (List ℕ)) (top running written : ℕ) : Type 0 where
     pub before-closing : Closable before to above waiting sprout at
     pub arrays : TwoSides sides
     pub kept : getD sides (1 - to) [] ≡ getD before (1 - to) []
@@ -89,11 +56,11 @@ module _ (above waiting sprout : List ℕ) (to depth : ℕ) (at : Standing) (bef
     pub room : written + top ≤ at .written + at .top
     pub between : (depth ≤ top) ⊎ (top ≡ at .top)
     pub pass : (named : List Bool) (accepting stable : ℕ)
-        → passAt (getD sides to []) (arraysWith named) (record { top = top; older = older; written = written }) accepting stable
+        → passAt (getD sides to []) (arraysWith named) (record { top = top; running = running; written = written }) accepting stable
         ≡ closedTo top (passAt (getD before to []) (arraysWith named) at accepting stable)
 
   -- at the beginning
-  pub closing-start : Closable before to above waiting sprout at → ClosedSoFar before (at .top) (at .older) (at .written)
+  pub closing-start : Closable before to above waiting sprout at → ClosedSoFar before (at .top) (at .running) (at .written)
   closing-start ready = record {
     before-closing = ready;
     arrays = ready .arrays;
@@ -106,18 +73,18 @@ module _ (above waiting sprout : List ℕ) (to depth : ℕ) (at : Standing) (bef
     pass = λ named accepting stable. sym (none-closed (at .top) _ (omega (arith, waiting-length (arraysWith named) (at .top))));
   }
 
-  module _ {sides : List (List ℕ)} {top older many : ℕ} (v : ClosedSoFar sides top older many) where
-    module _ (h : depth < top) (s : CodeNode) (made : s ≡ sproutNode top (getD sprout top 0) (bitOr (getD above top 0) older)) where
+  module _ {sides : List (List ℕ)} {top running many : ℕ} (v : ClosedSoFar sides top running many) where
+    module _ (h : depth < top) (s : CodeNode) (made : s ≡ sproutNode top (getD sprout top 0) (bitOr (getD above top 0) running)) where
       -- what is left of the pass once the level is closed
       closed : (named : List Bool) (accepting stable : ℕ)
           → record {
-            levels = levelsOf (arraysWith named) (record { top = top - 1; older = getD waiting (top - 1) 0; written = many });
+            levels = levelsOf (arraysWith named) (record { top = top - 1; running = getD waiting (top - 1) 0; written = many });
             nodes = take many (nodesIn (getD sides to [])) ++ written s;
             accepting = accepting;
             stable = stable;
           } ≡ closedTo (top - 1) (passAt (getD before to []) (arraysWith named) at accepting stable)
       closed named accepting stable = rw made
-          (sym (close-one (arraysWith named) top older (take many (nodesIn (getD sides to []))) accepting stable (omega arith))
+          (sym (close-one (arraysWith named) top running (take many (nodesIn (getD sides to []))) accepting stable (omega arith))
           ∙ ap (closedTo (top - 1)) (v .pass named accepting stable)
           ∙ closed-again (top - 1) top _ (omega arith))
 
@@ -159,7 +126,7 @@ module _ (above waiting sprout : List ℕ) (to depth : ℕ) (at : Standing) (bef
           }
 
     -- at the end
-    pub closing-done : top ≤ depth → Closing above waiting sprout to depth at before (record { top = top; older = older; written = many }) sides
+    pub closing-done : top ≤ depth → Closing above waiting sprout to depth at before (record { top = top; running = running; written = many }) sides
     closing-done end = record {
       arrays = v .arrays;
       kept = v .kept;

@@ -35,7 +35,7 @@ module _ (m : NewLabels) (at : Standing) (A : LevelArrays) (room : at .top < max
   top = at .top
 
   abbrev joined : ℕ
-  joined = bitOr (at .older) (m .label)
+  joined = bitOr (at .running) (m .label)
 
   -- where the node is removed: the names at its depth are lost
   abbrev unnamed : LevelArrays
@@ -56,26 +56,26 @@ module _ (m : NewLabels) (at : Standing) (A : LevelArrays) (room : at .top < max
 
   -- where it accepts: its states join the running set
   pub enter-accepting : (m .label ≡ 0 → ⊥) → m .label ≡ m .kids
-      → Entered m at A (record { top = top; older = joined; written = at .written }) A
+      → Entered m at A (record { top = top; running = joined; written = at .written }) A
   unfolding entered
   enter-accepting stays full =
       record { deeper = omega arith; written = refl; sizes = sizes; levels = rw (ne-eqb _ _ stays, eq-eqb _ _ full) }
 
   -- where it keeps its children: their level is opened besides, one deeper
   abbrev opened : ℕ → LevelArrays
-  opened below = levelArrays (set (A .above) below (bitOr (getD (A .above) top 0) (at .older))) (set (A .waiting) top joined)
+  opened below = levelArrays (set (A .above) below (bitOr (getD (A .above) top 0) (at .running))) (set (A .waiting) top joined)
       (set (A .sprout) below (m .sprout)) (set (A .named) below (getD (A .named) top false))
 
   waiting-still : waitingLevels (opened (suc top)) top ≡ waitingLevels A top
   waiting-still = waiting-same (opened (suc top)) A top (λ d h. rw (
-    getD-set-other (A .above) (suc top) d (bitOr (getD (A .above) top 0) (at .older)) 0 (λ e. omega arith),
+    getD-set-other (A .above) (suc top) d (bitOr (getD (A .above) top 0) (at .running)) 0 (λ e. omega arith),
     getD-set-other (A .waiting) top d joined 0 (λ e. omega arith),
     getD-set-other (A .sprout) (suc top) d (m .sprout) 0 (λ e. omega arith),
     getD-set-other (A .named) (suc top) d (getD (A .named) top false) false (λ e. omega arith),
   ))
 
   pub enter-kept : (m .label ≡ 0 → ⊥) → (m .label ≡ m .kids → ⊥)
-      → Entered m at A (record { top = top + 1; older = 0; written = at .written }) (opened (top + 1))
+      → Entered m at A (record { top = top + 1; running = 0; written = at .written }) (opened (top + 1))
   unfolding entered waitingLevels
   enter-kept stays other = rw (add-one top) (record {
     deeper = omega arith;
@@ -85,10 +85,10 @@ module _ (m : NewLabels) (at : Standing) (A : LevelArrays) (room : at .top < max
       ne-eqb _ _ stays,
       ne-eqb _ _ other,
       waiting-still,
-      getD-set-same (A .above) (suc top) (bitOr (getD (A .above) top 0) (at .older)) 0 (omega arith),
+      getD-set-same (A .above) (suc top) (bitOr (getD (A .above) top 0) (at .running)) 0 (omega arith),
       getD-set-same (A .sprout) (suc top) (m .sprout) 0 (omega arith),
       getD-set-same (A .named) (suc top) (getD (A .named) top false) false (omega arith),
-      getD-set-other (A .above) (suc top) top (bitOr (getD (A .above) top 0) (at .older)) 0 (λ e. omega arith),
+      getD-set-other (A .above) (suc top) top (bitOr (getD (A .above) top 0) (at .running)) 0 (λ e. omega arith),
       getD-set-other (A .sprout) (suc top) top (m .sprout) 0 (λ e. omega arith),
       getD-set-other (A .named) (suc top) top (getD (A .named) top false) false (λ e. omega arith),
       getD-set-same (A .waiting) top joined 0 (omega arith),

@@ -19,18 +19,17 @@ use Rattle.tree.specs.inner.RecordNodes.{places}
 use Rattle.tree.specs.inner.Sides.{TwoSides}
 use Rattle.tree.specs.declared.nodes.Node.{Node as CodeNode}
 use Rattle.tree.proofs.PackedWords.{node-read, nodes-many}
-use Rattle.tree.proofs.TreeNodes.{sides-long}
-use Rattle.step.specs.inner.Pass.{newLabels, settledNode, joinedIf, outermost, deepest, Pass, closedTo, passedNode, readNode, readNodes, atStart, steppedNodes}
+use Rattle.tree.proofs.TreeNodes.{drop-later, sides-long, other-kept, behind-kept, front-more}
+use Rattle.step.specs.inner.Pass.{newLabels, settledNode, joinedIf, rootLevel, deepest, Pass, closedTo, passedNode, readNode, readNodes, atStart, steppedNodes}
 use Rattle.step.specs.inner.LevelArrays.{LevelArrays, EachDepth, levelsOf, Entered, passAt, Closable, Closing}
 use Rattle.step.specs.inner.Stepping.{nodesOn, Steppable, Stepping}
 use Rattle.step.specs.declared.pass.NewLabels.{NewLabels}
 use Rattle.step.specs.declared.pass.Standing.{Standing}
 use Rattle.step.proofs.Levels.{waiting-length}
 use Rattle.step.proofs.PassSteps.{read-skips, read-deepest, read-append}
-use Rattle.step.proofs.ClosingLoop.{drop-later, other-kept, behind-kept, front-more}
 
 -- one more node
-read-next : (E : ℕ → ℕ → ℕ) (k : ℕ) (nodes : List CodeNode) (i : ℕ) → i < length nodes
+pub read-next : (E : ℕ → ℕ → ℕ) (k : ℕ) (nodes : List CodeNode) (i : ℕ) → i < length nodes
     → readNodes E k 0 atStart (take (i + 1) nodes)
     ≡ readNode E k i (getD nodes i blankNode) (closedTo (getD nodes i blankNode .depth) (readNodes E k 0 atStart (take i nodes)))
 unfolding readNodes
@@ -66,8 +65,8 @@ module _ (lookup : Lookup) (k count from : ℕ) (before : List (List ℕ)) where
 
   -- before the first node
   pub sides-start : Steppable before from count → (A : LevelArrays) → EachDepth A
-      → levelsOf A (record { top = 0; older = 0; written = 0 }) ≡ outermost ∷ []
-      → OnSides before A 0 0 (record { top = 0; older = 0; written = 0 }) 0
+      → levelsOf A (record { top = 0; running = 0; written = 0 }) ≡ rootLevel ∷ []
+      → OnSides before A 0 0 (record { top = 0; running = 0; written = 0 }) 0
   unfolding readNodes
   sides-start ready A sizes root = record {
     ready = ready;
@@ -150,7 +149,7 @@ module _ (lookup : Lookup) (k count from : ℕ) (before : List (List ℕ)) where
         }
 
         module _ (here : x .depth ≡ next .top) (m : NewLabels)
-            (made : m ≡ newLabels (lookUp lookup) x (bitOr (getD (A .above) (next .top) 0) (next .older)))
+            (made : m ≡ newLabels (lookUp lookup) x (bitOr (getD (A .above) (next .top) 0) (next .running)))
             {entering : Standing} {B : LevelArrays} (in-arrays : Entered m next A entering B) where
           -- a node of the deepest level is read
           passed : readTo (i + 1) ≡ passedNode k i x m now
@@ -176,7 +175,7 @@ module _ (lookup : Lookup) (k count from : ℕ) (before : List (List ℕ)) where
           pub node-kept : (m .label ≡ 0 → ⊥) → (word : ℕ) → unpacked word ≡ settledNode k x m i → (accepting′ stable′ : ℕ)
               → accepting′ ≡ joinedIf accepting i (eqb (m .label) (m .kids)) → stable′ ≡ joinedIf stable i (getD (A .named) (next .top) false)
               → OnSides (set after to (set (getD after to []) (entering .written) word)) B accepting′ stable′
-              (record { top = entering .top; older = entering .older; written = entering .written + 1 }) (i + 1)
+              (record { top = entering .top; running = entering .running; written = entering .written + 1 }) (i + 1)
           unfolding passedNode deepest
           node-kept stays word settled accepting′ stable′ accepts keeps =
               let w = in-arrays .written in

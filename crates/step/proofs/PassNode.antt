@@ -29,10 +29,10 @@ abbrev pub nodeAt : ℕ → Node → Tree → CodeNode
 nodeAt d x below = record { depth = d; label = x .label; kids = labels below; active = x .active; old = 0 }
 
 -- the union of the new children's labels is known from the old ones
-labels-below : (R : Rule) (a older sprout : ℕ) (F : Tree)
-    → labels (step R a older sprout F) ≡ minus (bitOr (successors R a (labels F)) sprout) older
-labels-below R a older sprout F = set-ext _ _ (λ q. labels-step R a older sprout F q
-    ∙ sym (member-minus (bitOr (successors R a (labels F)) sprout) older q ∙ ap (λ (b : Bool). b && not (member older q))
+labels-below : (R : Rule) (a held sprout : ℕ) (F : Tree)
+    → labels (step R a held sprout F) ≡ minus (bitOr (successors R a (labels F)) sprout) held
+labels-below R a held sprout F = set-ext _ _ (λ q. labels-step R a held sprout F q
+    ∙ sym (member-minus (bitOr (successors R a (labels F)) sprout) held q ∙ ap (λ (b : Bool). b && not (member held q))
     (member-union (successors R a (labels F)) sprout q)))
 
 -- a pass goes over nodes that are deeper than its levels
@@ -66,28 +66,28 @@ cond-none true = refl
 cond-none false = refl
 
 -- the old node named v after steps 1 to 3, where older nodes hold some states; its new children; and step 4's two tests of it
-module _ (R : Rule) (a older : ℕ) (v : List ℕ) (x : Node) (below : Tree) where
+module _ (R : Rule) (a held : ℕ) (v : List ℕ) (x : Node) (below : Tree) where
   abbrev pub here : Grown
-  here = advanced R a older (oldNode v x)
+  here = advanced R a held (oldNode v x)
 
   abbrev pub newKids : Forest Grown
-  newKids = grown R a older (child R a (oldNode v x)) (begunFrom v 0 below)
+  newKids = grown R a held (child R a (oldNode v x)) (begunFrom v 0 below)
 
   abbrev pub gone : Bool
-  gone = eqb (newLabel R a older x) 0
+  gone = eqb (newLabel R a held x) 0
 
   abbrev pub full : Bool
-  full = eqb (newLabel R a older x) (labels (plain newKids))
+  full = eqb (newLabel R a held x) (labels (plain newKids))
 
-  pub full-is : accepts R a older (record { top = x; below = below }) ≡ full
+  pub full-is : accepts R a held (record { top = x; below = below }) ≡ full
   unfolding accepts newBelow child oldNode sproutOf
-  full-is = rw (grown-step R a older (child R a (oldNode v x)) (begunFrom v 0 below) refl, earlier-begunFrom v 0 below)
+  full-is = rw (grown-step R a held (child R a (oldNode v x)) (begunFrom v 0 below) refl, earlier-begunFrom v 0 below)
 
 module _ (R : Rule) (a : ℕ) (E : ℕ → ℕ → ℕ) (number : Origin → ℕ) where
   -- the pass over siblings below depth d, and over all below them: then their level is closed
   abbrev pub Passes : Tree → List ℕ → ℕ → ℕ → ℕ → ℕ → ℕ → ℕ → Grown → Bool → List Level → List CodeNode → ℕ → ℕ → Type 0
-  Passes F p c i d held above older y b levels nodes accepting stable =
-      closedTo d (readNodes E (R .sets) i (pass (level above older (child R a y .label) b ∷ levels) nodes accepting stable) (nodesFrom (suc d) F))
+  Passes F p c i d held above running y b levels nodes accepting stable =
+      closedTo d (readNodes E (R .sets) i (pass (level above running (child R a y .label) b ∷ levels) nodes accepting stable) (nodesFrom (suc d) F))
       ≡ pass levels (nodes ++ grownNodes number (suc d) (grown R a held (child R a y) (begunFrom p c F)))
       (bitOr accepting (acceptingOf number (grown R a held (child R a y) (begunFrom p c F))))
       (bitOr stable (cond b (stableOf number p c (grown R a held (child R a y) (begunFrom p c F))) 0))
@@ -123,10 +123,10 @@ module _ (R : Rule) (a : ℕ) (E : ℕ → ℕ → ℕ) (number : Origin → ℕ
     abbrev pub f : Bool
     f = full R a held v x below
 
-    module _ (above older : ℕ) (sum : bitOr above older ≡ held) (i d sprout : ℕ) (b : Bool) (levels : List Level)
+    module _ (above running : ℕ) (sum : bitOr above running ≡ held) (i d sprout : ℕ) (b : Bool) (levels : List Level)
         (nodes : List CodeNode) (accepting stable : ℕ) (deep : length levels ≡ d) where
       abbrev now : Pass
-      now = pass (level above older sprout b ∷ levels) nodes accepting stable
+      now = pass (level above running sprout b ∷ levels) nodes accepting stable
 
       -- it is read,
       pub node-read : readNode E (R .sets) i (nodeAt d x below) (closedTo d now) ≡ passedNode (R .sets) i (nodeAt d x below) made now
@@ -136,9 +136,9 @@ module _ (R : Rule) (a : ℕ) (E : ℕ → ℕ → ℕ) (number : Origin → ℕ
       -- and all below it, given the pass over its children
       pub pass-branch : number (was v) ≡ i
           → ((inner : List Level) (nodes : List CodeNode) (accepting stable : ℕ) → length inner ≡ suc d
-          → Passes R a E number below v 0 (suc i) d held (bitOr above older) 0 (oldNode v x) b inner nodes accepting stable)
+          → Passes R a E number below v 0 (suc i) d held (bitOr above running) 0 (oldNode v x) b inner nodes accepting stable)
           → closedTo d (readNodes E (R .sets) i now (nodeAt d x below ∷ nodesFrom (suc d) below))
-          ≡ pass (level above (bitOr older (newLabel R a held x)) sprout (cond g false b) ∷ levels)
+          ≡ pass (level above (bitOr running (newLabel R a held x)) sprout (cond g false b) ∷ levels)
           (nodes ++ nodesHere number (R .sets) d g f N B)
           (bitOr accepting (acceptingHere number (R .sets) g f N B))
           (bitOr stable (cond b (stableHere number (R .sets) v g f N B) 0))
@@ -147,15 +147,15 @@ module _ (R : Rule) (a : ℕ) (E : ℕ → ℕ → ℕ) (number : Origin → ℕ
         where
           go : (g′ f′ : Bool) → g ≡ g′ → f ≡ f′
               → closedTo d (readNodes E (R .sets) (suc i) (passedNode (R .sets) i (nodeAt d x below) made now) (nodesFrom (suc d) below))
-              ≡ pass (level above (bitOr older (newLabel R a held x)) sprout (cond g′ false b) ∷ levels)
+              ≡ pass (level above (bitOr running (newLabel R a held x)) sprout (cond g′ false b) ∷ levels)
               (nodes ++ nodesHere number (R .sets) d g′ f′ N B)
               (bitOr accepting (acceptingHere number (R .sets) g′ f′ N B))
               (bitOr stable (cond b (stableHere number (R .sets) v g′ f′ N B) 0))
           go true f′ e _ =
               rw (
-                passed-removed (R .sets) i (nodeAt d x below) made (level above older sprout b) levels nodes accepting stable e,
+                passed-removed (R .sets) i (nodeAt d x below) made (level above running sprout b) levels nodes accepting stable e,
                 eqb-true (newLabel R a held x) 0 e,
-                or-zero-r older,
+                or-zero-r running,
                 append-nil nodes,
                 or-zero-r accepting,
                 cond-none b,
@@ -164,13 +164,13 @@ module _ (R : Rule) (a : ℕ) (E : ℕ → ℕ → ℕ) (number : Origin → ℕ
               (passes-none E (R .sets) (suc i) _ d below (omega arith))
           go false true e e′ =
               rw (
-                passed-accepting (R .sets) i (nodeAt d x below) made (level above older sprout b) levels nodes accepting stable e e′,
+                passed-accepting (R .sets) i (nodeAt d x below) made (level above running sprout b) levels nodes accepting stable e e′,
                 own,
                 joined-or stable i b,
               )
               (passes-none E (R .sets) (suc i) _ d below (omega arith))
           go false false e e′ =
-              rw (passed-kept (R .sets) i (nodeAt d x below) made (level above older sprout b) levels nodes accepting stable e e′, own)
-              (ih (level above (bitOr older (newLabel R a held x)) sprout b ∷ levels) (nodes ++ (_ ∷ [])) accepting (joinedIf stable i b)
+              rw (passed-kept (R .sets) i (nodeAt d x below) made (level above running sprout b) levels nodes accepting stable e e′, own)
+              (ih (level above (bitOr running (newLabel R a held x)) sprout b ∷ levels) (nodes ++ (_ ∷ [])) accepting (joinedIf stable i b)
               (ap suc deep)
               ∙ rw (append-assoc nodes, joined-more stable i (stableOf number v 0 B) b))

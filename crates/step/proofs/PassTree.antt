@@ -23,7 +23,7 @@ use Rattle.tree.specs.inner.Nodes.{nodesFrom, nodesOf}
 use Rattle.tree.specs.declared.nodes.Node.{Node as CodeNode}
 use Rattle.tree.proofs.TreeNodes.{size-from}
 use Rattle.step.specs.inner.Pass.{Level, sproutNode, written, Pass, closedTo, levelsTo, sproutsTo, readNode, readNodes, atStart}
-use Rattle.step.proofs.PassSteps.{level, pass, sproutOfLevel, closed-level, none-closed, closed-again, read-nil, read-append}
+use Rattle.step.proofs.PassSteps.{level, pass, closed-level, none-closed, closed-again, read-nil, read-append}
 use Rattle.step.proofs.GrownNodes.{marked, grownNodes, acceptingOf, stableOf, stableIn, Gives, nodesHere, acceptingHere, stableHere, nodes-kept, accepting-kept, stable-kept, stable-root}
 use Rattle.step.proofs.Renamed.{new-none, renamed}
 use Rattle.step.proofs.PassNode.{nodeAt, cond-none, here, newKids, gone, full, full-is, Passes, pass-branch}
@@ -36,7 +36,7 @@ Numbered number p c i (node x below younger) =
     × Numbered number p (suc c) (suc i + size below) younger
 
 -- siblings at depth d close deeper levels, and so does their end
-pub closes-first : (E : ℕ → ℕ → ℕ) (k i d : ℕ) (p : Pass) (F : Tree)
+closes-first : (E : ℕ → ℕ → ℕ) (k i d : ℕ) (p : Pass) (F : Tree)
     → closedTo d (readNodes E k i (closedTo (suc d) p) (nodesFrom (suc d) F)) ≡ closedTo d (readNodes E k i p (nodesFrom (suc d) F))
 unfolding nodesFrom readNodes
 closes-first E k i d p nil = closed-again d (suc d) p (omega arith)
@@ -66,13 +66,13 @@ module _ (R : Rule) (a : ℕ) (E : ℕ → ℕ → ℕ) (number : Origin → ℕ
 
   -- behind all siblings comes the child that their parent sprouts, less what older nodes hold
   abbrev lastChild : ℕ → Grown → Grown
-  lastChild older y = record { origin = sprouted; before = 0; label = minus (child R a y .label) older; active = 1; accepting = false }
+  lastChild held y = record { origin = sprouted; before = 0; label = minus (child R a y .label) held; active = 1; accepting = false }
 
-  pass-last : (p : List ℕ) (c i d held above older : ℕ) → bitOr above older ≡ held → (y : Grown) (b : Bool) (levels : List Level)
+  pass-last : (p : List ℕ) (c i d held above running : ℕ) → bitOr above running ≡ held → (y : Grown) (b : Bool) (levels : List Level)
       (nodes : List CodeNode) (accepting stable : ℕ) → length levels ≡ suc d
-      → Passes R a E number nil p c i d held above older y b levels nodes accepting stable
-  unfolding nodesFrom begunFrom namedFrom change sproutOfLevel sproutNode child
-  pass-last p c i d held above older sum y b levels nodes accepting stable deep =
+      → Passes R a E number nil p c i d held above running y b levels nodes accepting stable
+  unfolding nodesFrom begunFrom namedFrom change sproutNode child
+  pass-last p c i d held above running sum y b levels nodes accepting stable deep =
       rw (
         grown-new R a held (child R a y),
         new-nodes (R .sets) (suc d) (lastChild held y) refl refl,
@@ -81,9 +81,9 @@ module _ (R : Rule) (a : ℕ) (E : ℕ → ℕ → ℕ) (number : Origin → ℕ
         or-zero-r accepting,
         cond-none b,
         or-zero-r stable,
-        read-nil E (R .sets) i (pass (level above older (child R a y .label) b ∷ levels) nodes accepting stable),
+        read-nil E (R .sets) i (pass (level above running (child R a y .label) b ∷ levels) nodes accepting stable),
       )
-      (closed-level d (level above older (child R a y .label) b) levels nodes accepting stable (omega arith)
+      (closed-level d (level above running (child R a y .label) b) levels nodes accepting stable (omega arith)
       ∙ none-closed d _ (omega arith) ∙ rw (deep, sum))
 
   child-new : (y : Grown) → child R a y .origin ≡ sprouted
@@ -99,18 +99,18 @@ module _ (R : Rule) (a : ℕ) (E : ℕ → ℕ → ℕ) (number : Origin → ℕ
   joined-both map here on lost false false e = or-zero-r (bitOr map 0)
 
   -- a node and its younger siblings
-  pass-first : (x : Node) (below younger : Tree) (p : List ℕ) (c i d held above older : ℕ) → bitOr above older ≡ held → (y : Grown) (b : Bool)
+  pass-first : (x : Node) (below younger : Tree) (p : List ℕ) (c i d held above running : ℕ) → bitOr above running ≡ held → (y : Grown) (b : Bool)
       (levels : List Level) (nodes : List CodeNode) (accepting stable : ℕ)
       (low : 1 ≤ x .active) (high : x .active ≤ R .sets) → number (was (p ++ (c ∷ []))) ≡ i → length levels ≡ suc d
       → ((inner : List Level) (nodes : List CodeNode) (accepting stable : ℕ) → length inner ≡ suc (suc d)
-      → Passes R a E number below (p ++ (c ∷ [])) 0 (suc i) (suc d) held (bitOr above older) 0 (oldNode (p ++ (c ∷ [])) x) b inner
+      → Passes R a E number below (p ++ (c ∷ [])) 0 (suc i) (suc d) held (bitOr above running) 0 (oldNode (p ++ (c ∷ [])) x) b inner
       nodes accepting stable)
       → ((b : Bool) (nodes : List CodeNode) (accepting stable : ℕ)
       → Passes R a E number younger p (suc c) (suc i + size below) d (bitOr held (newLabel R a held x)) above
-      (bitOr older (newLabel R a held x)) y b levels nodes accepting stable)
-      → Passes R a E number (node x below younger) p c i d held above older y b levels nodes accepting stable
+      (bitOr running (newLabel R a held x)) y b levels nodes accepting stable)
+      → Passes R a E number (node x below younger) p c i d held above running y b levels nodes accepting stable
   unfolding nodesFrom grownBranch advanced oldNode
-  pass-first x below younger p c i d held above older sum y b levels nodes accepting stable low high own deep down on =
+  pass-first x below younger p c i d held above running sum y b levels nodes accepting stable low high own deep down on =
       rw (
         grown-begun R a held (child R a y) p c x below younger,
         full-is R a held v x below,
@@ -149,7 +149,7 @@ module _ (R : Rule) (a : ℕ) (E : ℕ → ℕ → ℕ) (number : Origin → ℕ
           (λ same. omega arith)
 
       now : Pass
-      now = pass (level above older (child R a y .label) b ∷ levels) nodes accepting stable
+      now = pass (level above running (child R a y .label) b ∷ levels) nodes accepting stable
 
       branch : List CodeNode
       branch = nodeAt (suc d) x below ∷ nodesFrom (suc (suc d)) below
@@ -157,7 +157,7 @@ module _ (R : Rule) (a : ℕ) (E : ℕ → ℕ → ℕ) (number : Origin → ℕ
       -- first the node with all below it
       branch-first : closedTo d (readNodes E (R .sets) i now (branch ++ nodesFrom (suc d) younger))
           ≡ closedTo d (readNodes E (R .sets) (suc i + size below)
-          (pass (level above (bitOr older (newLabel R a held x)) (child R a y .label) (cond g false b) ∷ levels)
+          (pass (level above (bitOr running (newLabel R a held x)) (child R a y .label) (cond g false b) ∷ levels)
           (nodes ++ nodesHere number (R .sets) (suc d) g f N B)
           (bitOr accepting (acceptingHere number (R .sets) g f N B))
           (bitOr stable (cond b (stableHere number (R .sets) v g f N B) 0))) (nodesFrom (suc d) younger))
@@ -166,23 +166,23 @@ module _ (R : Rule) (a : ℕ) (E : ℕ → ℕ → ℕ) (number : Origin → ℕ
           ap (closedTo d) (read-append E (R .sets) i now branch (nodesFrom (suc d) younger))
           ∙ sym (closes-first E (R .sets) (i + length branch) d (readNodes E (R .sets) i now branch) younger)
           ∙ rw (
-            pass-branch R a E number all of v x below low high held above older sum i (suc d) (child R a y .label) b levels nodes
+            pass-branch R a E number all of v x below low high held above running sum i (suc d) (child R a y .label) b levels nodes
                 accepting stable deep own down,
             count,
           )
 
-  pub pass-siblings : (F : Tree) (p : List ℕ) (c i d held above older : ℕ) → bitOr above older ≡ held → (y : Grown) (b : Bool)
+  pub pass-siblings : (F : Tree) (p : List ℕ) (c i d held above running : ℕ) → bitOr above running ≡ held → (y : Grown) (b : Bool)
       (levels : List Level) (nodes : List CodeNode) (accepting stable : ℕ)
       → Fits (R .sets) F → Numbered number p c i F → length levels ≡ suc d
-      → Passes R a E number F p c i d held above older y b levels nodes accepting stable
-  pass-siblings nil p c i d held above older sum y b levels nodes accepting stable fits numbered deep =
-      pass-last p c i d held above older sum y b levels nodes accepting stable deep
-  pass-siblings (node x below younger) p c i d held above older sum y b levels nodes accepting stable (own, down, on) (is, inner, after) deep =
-      pass-first x below younger p c i d held above older sum y b levels nodes accepting stable (own .from-one) (own .up-to) is deep
-      (λ inside nodes accepting stable deeper. pass-siblings below (p ++ (c ∷ [])) 0 (suc i) (suc d) held (bitOr above older) 0
-      (or-zero-r (bitOr above older) ∙ sum) (oldNode (p ++ (c ∷ [])) x) b inside nodes accepting stable down inner deeper)
+      → Passes R a E number F p c i d held above running y b levels nodes accepting stable
+  pass-siblings nil p c i d held above running sum y b levels nodes accepting stable fits numbered deep =
+      pass-last p c i d held above running sum y b levels nodes accepting stable deep
+  pass-siblings (node x below younger) p c i d held above running sum y b levels nodes accepting stable (own, down, on) (is, inner, after) deep =
+      pass-first x below younger p c i d held above running sum y b levels nodes accepting stable (own .from-one) (own .up-to) is deep
+      (λ inside nodes accepting stable deeper. pass-siblings below (p ++ (c ∷ [])) 0 (suc i) (suc d) held (bitOr above running) 0
+      (or-zero-r (bitOr above running) ∙ sum) (oldNode (p ++ (c ∷ [])) x) b inside nodes accepting stable down inner deeper)
       (λ b nodes accepting stable. pass-siblings younger p (suc c) (suc i + size below) d (bitOr held (newLabel R a held x)) above
-      (bitOr older (newLabel R a held x)) (union-assoc above older (newLabel R a held x) ∙ ap (λ (s : ℕ). bitOr s (newLabel R a held x)) sum)
+      (bitOr running (newLabel R a held x)) (union-assoc above running (newLabel R a held x) ∙ ap (λ (s : ℕ). bitOr s (newLabel R a held x)) sum)
       y b levels nodes accepting stable on after deep)
 
   -- A WHOLE TREE

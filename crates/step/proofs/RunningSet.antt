@@ -1,45 +1,49 @@
 -- When a sibling is reached, the running set in the code's variable is the union of its older siblings' labels (document 02, U4).
+use mathlib.Core.Bool.{true}
 use mathlib.Core.Path.{_≡_, refl, sym, _∙_, ap, subst}
 use mathlib.Core.List.{List, [], _∷_, map}
-use Prim.Native.Nat.{ℕ, zero, suc, _-_, _<_}
+use Prim.Native.Nat.{ℕ, zero, suc, _+_, _-_, _≤_, _<_}
+use native.Mathlib.Numerals.{add-one}
 use native.Mathlib.Omega.{arith}
-use lib.ListN.{length, getD, take}
+use lib.ListN.{length, getD, take, List·getD-map}
 use Rattle.rule.specs.Rule.{Rule}
 use Rattle.rule.specs.inner.Lookup.{Lookup, letterLookup, lookUp}
 use Rattle.rule.specs.inner.Padded.{padded}
 use Rattle.rule.proofs.LookupLaws.{look-up-successors, look-up-successors-in}
 use Rattle.table.specs.inner.ReadRule.{WithinLimits}
 use Rattle.history.specs.Forest.{nil, node, size, change, named}
-use Rattle.history.specs.Tree.{Tree}
-use Rattle.history.specs.Letter.{begun, succeeded, sprouting}
+use Rattle.history.specs.Tree.{Tree, isTreeOf}
+use Rattle.history.specs.Letter.{begun, succeeded, sprouting, twoSteps}
 use Rattle.history.specs.inner.OldNumbers.{noNode, oldNumber}
-use Rattle.history.specs.OlderSiblings.{twoSteps}
 use Rattle.history.proofs.tree.Conditions.{Fits, OneRoot}
 use Rattle.history.proofs.step.TreesOf.{of-out, of-few}
-use Rattle.tree.specs.inner.Nodes.{nodesOf, withoutOld}
+use Rattle.tree.specs.inner.Nodes.{blankNode, nodesOf, withoutOld, AreNodes}
 use Rattle.tree.specs.declared.nodes.Node.{Node as CodeNode}
-use Rattle.step.specs.RunningSet.{RunningSet}
-use Rattle.step.specs.inner.Pass.{deepest, Pass, closedTo, readNodes, atStart}
+use Rattle.tree.proofs.TreeNodes.{nodes-size, are-nodes-size}
+use Rattle.step.specs.RunningSet.{Reached, RunningSet}
+use Rattle.step.specs.inner.Pass.{deepest, Pass, closedTo, readNode, readNodes, atStart}
 use Rattle.step.specs.inner.LevelArrays.{LevelArrays, Closing}
 use Rattle.step.specs.inner.AtSibling.{AtSibling, CarriedAlong}
 use Rattle.step.specs.inner.Stepping.{nodesOn}
 use Rattle.step.specs.declared.pass.Standing.{Standing}
 use Rattle.step.proofs.Levels.{waiting-length}
 use Rattle.step.proofs.ClosingLoop.{ClosedSoFar}
-use Rattle.step.proofs.PassLoop.{OnSides}
+use Rattle.step.proofs.PassSteps.{levels-left, levels-open}
+use Rattle.step.proofs.PassLoop.{OnSides, read-next}
 use Rattle.step.proofs.OldNumbers.{tree-numbered}
 use Rattle.step.proofs.StepOfNodes.{read-without-old}
+use Rattle.step.proofs.SiblingsInTurn.{new-sibling}
 use Rattle.step.proofs.AlongSiblings.{running-set-root}
 
 -- THE CODE
 
 module _ {lookup : Lookup} {k count from : ℕ} {before sides : List (List ℕ)} {A : LevelArrays} {accepting stable : ℕ} {at : Standing} {i : ℕ}
     (v : OnSides lookup k count from before sides A accepting stable at i) where
-  -- `close_levels`, called in the loop of `step_nodes`, is at the child that the parent of the deepest level sprouts
-  pub closing-at-sibling : {depth top older written : ℕ} {now : List (List ℕ)}
-      → ClosedSoFar (A .above) (A .waiting) (A .sprout) (1 - from) depth at sides now top older written
-      → AtSibling lookup k (nodesOn before from count) i (record { top = top; older = older; written = written })
-  closing-at-sibling {depth} {top} {older} {written} {now} w = record {
+  -- `close_levels`, called by `step_nodes`, is at the child that the parent of the deepest level sprouts
+  pub closing-at-sibling : {depth top running written : ℕ} {now : List (List ℕ)}
+      → ClosedSoFar (A .above) (A .waiting) (A .sprout) (1 - from) depth at sides now top running written
+      → AtSibling lookup k (nodesOn before from count) i (record { top = top; running = running; written = written })
+  closing-at-sibling {depth} {top} {running} {written} {now} w = record {
     side = getD now (1 - from) [];
     arrays = A;
     accepting = accepting;
@@ -59,6 +63,11 @@ module _ {lookup : Lookup} {k count from : ℕ} {before sides : List (List ℕ)}
     pass = rw here at (closing .pass (A .named) accepting stable ∙ ap (closedTo depth) (v .pass));
   }
 
+-- the level at `top` is open there
+level-open : {lookup : Lookup} {k : ℕ} {nodes : List CodeNode} {i : ℕ} {at : Standing} → AtSibling lookup k nodes i at
+    → length (closedTo (at .top) (readNodes (lookUp lookup) k 0 atStart (take i nodes)) .levels) ≡ suc (at .top)
+level-open {at = at} r = ap (λ (q : Pass). length (q .levels)) (sym (r .pass)) ∙ ap suc (waiting-length (r .arrays) (at .top))
+
 -- THE SENTENCE
 
 -- the first nodes, without their old numbers
@@ -74,9 +83,9 @@ module _ {R : Rule} (limits : WithinLimits R) (a : ℕ) where
   -- the pass over the nodes of a tree
   along-tree : (T : Tree) → OneRoot T → Fits (R .sets) T → size T < noNode → (i d : ℕ)
       → length (closedTo d (readNodes E (R .sets) 0 atStart (take i (nodesOf T))) .levels) ≡ suc d
-      → RunningSet R a T i d (deepest (closedTo d (readNodes E (R .sets) 0 atStart (take i (nodesOf T))) .levels) .older)
+      → RunningSet R a T i d (deepest (closedTo d (readNodes E (R .sets) 0 atStart (take i (nodesOf T))) .levels) .running)
   unfolding twoSteps sprouting succeeded begun named change size oldNumber
-  along-tree nil one fits small i d deep = λ n less before depth. absurd (omega arith)
+  along-tree nil one fits small i d deep = λ n r. absurd (omega (arith, r .there))
   along-tree (node x below nil) one fits small i d deep =
       running-set-root R a E (oldNumber (node x below nil)) refl (look-up-successors R (limits .well) (limits .states) a)
       (λ i s low high. look-up-successors-in R (limits .well) (limits .states) i a s low (omega (arith, limits .sets)))
@@ -92,7 +101,43 @@ running-set R limits a T tree lookup by nodes are i at r =
     let read : readNodes (lookUp lookup) (R .sets) 0 atStart (take i nodes) ≡ readNodes (E limits a) (R .sets) 0 atStart (take i (nodesOf T)) =
     rw (by, ← are, ← take-without-old i nodes) (sym (read-without-old (E limits a) (R .sets) 0 atStart (take i nodes))) in
     let p = r .pass ∙ ap (closedTo (at .top)) read in
-    let levels : length (closedTo (at .top) (readNodes (E limits a) (R .sets) 0 atStart (take i (nodesOf T))) .levels) ≡ suc (at .top) =
-    ap (λ (q : Pass). length (q .levels)) (sym p) ∙ ap suc (waiting-length (r .arrays) (at .top)) in
-    subst (λ (set : ℕ). RunningSet R a T i (at .top) set) (ap (λ (q : Pass). deepest (q .levels) .older) (sym p))
-    (along-tree limits a T (t .one-root) (t .fits) (omega (arith, of-few R T tree, limits .states)) i (at .top) levels)
+    subst (λ (set : ℕ). RunningSet R a T i (at .top) set) (ap (λ (q : Pass). deepest (q .levels) .running) (sym p))
+    (along-tree limits a T (t .one-root) (t .fits) (omega (arith, of-few R T tree, limits .states)) i (at .top) (rw read at (level-open r)))
+
+-- A SPROUTED CHILD
+
+-- the deepest level is no deeper than the children of the last node read
+last-read : {lookup : Lookup} {k : ℕ} {nodes : List CodeNode} {i : ℕ} {at : Standing} → AtSibling lookup k nodes (suc i) at → i < length nodes
+    → at .top ≤ suc (getD nodes i blankNode .depth)
+unfolding closedTo
+last-read {lookup} {k} {nodes} {i} {at} r less =
+    let x : CodeNode = getD nodes i blankNode in
+    let before : Pass = readNodes (lookUp lookup) k 0 atStart (take i nodes) in
+    let read = rw (add-one i) at (read-next (lookUp lookup) k nodes i less) in
+    omega (
+      arith,
+      rw read at (level-open r),
+      levels-left (at .top) (readNode (lookUp lookup) k i x (closedTo (x .depth) before) .levels) .1,
+      levels-open (lookUp lookup) k i x before,
+    )
+
+-- the nodes have the depths of the tree's
+same-depth : (nodes : List CodeNode) (T : Tree) → AreNodes nodes T → (i : ℕ) → getD nodes i blankNode .depth ≡ getD (nodesOf T) i blankNode .depth
+same-depth nodes T are i = rw (← are) (ap (λ (x : CodeNode). x .depth) (sym (List·getD-map withoutOld nodes i blankNode)))
+
+-- where the next node is not below its parent, the child that it sprouts is a sibling that is reached
+pub sprouted-sibling : (R : Rule) (a : ℕ) (T : Tree) → isTreeOf R T ≡ true → {lookup : Lookup} {k : ℕ} (nodes : List CodeNode) → AreNodes nodes T
+    → (i : ℕ) {at : Standing} → AtSibling lookup k nodes i at → i ≤ length nodes → 0 < at .top
+    → (i < length nodes → getD nodes i blankNode .depth < at .top) → (n : ℕ) × Reached R a T i (at .top) n
+unfolding readNodes closedTo size
+sprouted-sibling R a T tree nodes are zero {at} r within deep next =
+    absurd (omega (arith, level-open r, levels-left (at .top) (atStart .levels) .1))
+sprouted-sibling R a T tree nodes are (suc i) {at} r within deep next = go T (of-out R T tree .one-root) are
+  where
+    go : (F : Tree) → OneRoot F → AreNodes nodes F → (n : ℕ) × Reached R a F (suc i) (at .top) n
+    go nil one same = absurd (omega (arith, are-nodes-size nodes nil same))
+    go (node x below nil) one same =
+        let many : length nodes ≡ length (nodesOf (node x below nil)) = are-nodes-size nodes _ same ∙ sym (nodes-size (node x below nil)) in
+        new-sibling R a x below i (at .top) (omega arith) deep (omega (arith, last-read r within, same-depth nodes _ same i))
+        (λ less. omega (arith, next (omega arith), same-depth nodes _ same (suc i)))
+    go (node x below (node y other younger)) one same = absurd one

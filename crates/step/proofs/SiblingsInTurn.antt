@@ -2,22 +2,23 @@
 -- steps 1 and 2, by number.
 use mathlib.Core.Path.{_≡_, refl, sym, _∙_, ap}
 use mathlib.Core.Bool.{Bool, true, false}
-use mathlib.Core.List.{List, [], _∷_, _++_, map, map-append, append-nil, nil≢cons}
-use Prim.Native.Nat.{ℕ, zero, suc, _<_}
+use mathlib.Core.List.{List, [], _∷_, _++_, map, map-append, append-nil, append-assoc, nil≢cons}
+use Prim.Native.Nat.{ℕ, zero, suc, _-_, _≤_, _<_}
+use native.Mathlib.Decide.{ℕ-discrete}
 use native.Mathlib.Omega.{arith}
 use lib.Bits.{bitOr}
 use lib.ListN.{length, getD, take, length-append, length-map, List·getD-map}
 use Rattle.rule.specs.Rule.{Rule, successors}
 use Rattle.history.specs.Forest.{Forest, nil, node, size, change, listing, Named, namedFrom, named, names}
 use Rattle.history.specs.Tree.{Node, Tree}
-use Rattle.history.specs.Letter.{was, sprouted, Grown, begun, succeeded, youngest, child, sprouting, separated}
-use Rattle.history.specs.OlderSiblings.{twoSteps, threeSteps, olderLabelsFrom, olderLabels}
+use Rattle.history.specs.Letter.{was, sprouted, Grown, begun, succeeded, youngest, child, sprouting, separated, twoSteps, threeSteps}
+use Rattle.history.specs.OlderSiblings.{olderLabelsFrom, olderLabels}
 use Rattle.history.proofs.step.LocalStep.{newLabel}
 use Rattle.history.proofs.step.StepsJoined.{older-same, oldNode, begunFrom, noSprout}
 use Rattle.history.proofs.names.NamesDistinct.{length-listing}
 use Rattle.tree.specs.inner.Nodes.{nodesFrom, nodesOf, blankNode}
 use Rattle.tree.specs.declared.nodes.Node.{Node as CodeNode}
-use Rattle.step.specs.RunningSet.{wasThere, oldOnes}
+use Rattle.step.specs.RunningSet.{wasThere, oldOnes, Reached}
 use Rattle.step.proofs.PassNode.{nodeAt}
 
 -- a sibling as the pass reaches it, with the union of its older siblings' labels: an old node, or one that is sprouted at a depth
@@ -49,7 +50,7 @@ old-append [] r = refl
 old-append (old x set ∷ l) r = ap (λ (nodes : List CodeNode). x ∷ nodes) (old-append l r)
 old-append (new d set ∷ l) r = old-append l r
 
--- those of some siblings are the first ones of all
+-- the old nodes of the first ones are the first old nodes
 old-first : (n : ℕ) (l : List Sibling) → oldNodes (take n l) ≡ take (length (oldNodes (take n l))) (oldNodes l)
 unfolding oldNodes
 old-first zero [] = refl
@@ -58,14 +59,45 @@ old-first (suc n) [] = refl
 old-first (suc n) (old x set ∷ l) = ap (λ (nodes : List CodeNode). x ∷ nodes) (old-first n l)
 old-first (suc n) (new d set ∷ l) = old-first n l
 
--- each old node is one of them
-old-stands : (l : List Sibling) (i : ℕ) → i < length (oldNodes l)
-    → (n : ℕ) × (n < length l) × (length (oldNodes (take n l)) ≡ i) × (depthOf (getD l n (new 0 0)) ≡ getD (oldNodes l) i blankNode .depth)
+-- one of them has depth d, and i old nodes stand before it
+abbrev Stands : List Sibling → ℕ → ℕ → Type 0
+Stands l i d = (n : ℕ) × (n < length l) × (length (oldNodes (take n l)) ≡ i) × (depthOf (getD l n (new 0 0)) ≡ d)
+
+-- each old node does
+old-stands : (l : List Sibling) (i : ℕ) → i < length (oldNodes l) → Stands l i (getD (oldNodes l) i blankNode .depth)
 unfolding oldNodes depthOf
 old-stands [] i h = absurd (omega arith)
 old-stands (old x set ∷ l) zero h = (0, omega arith, refl, refl)
 old-stands (old x set ∷ l) (suc i) h = let (n, less, many, deep) = old-stands l i (omega arith) in (suc n, omega arith, ap suc many, deep)
 old-stands (new d set ∷ l) i h = let (n, less, many, deep) = old-stands l i h in (suc n, omega arith, many, deep)
+
+-- the depth of each is known from the one before it, where the first has depth c: a node's children come behind it, the child that it
+-- sprouts behind these, and then its younger siblings
+abbrev InTurn : ℕ → List Sibling → Type 0
+InTurn c [] = c ≡ 0
+InTurn c (old x set ∷ siblings) = (x .depth ≡ c) × InTurn (suc c) siblings
+InTurn c (new d set ∷ siblings) = (d ≡ c) × (0 < c) × InTurn (c - 1) siblings
+
+-- so behind an old node one stands at each depth that is at most that of its children and more than that of the next old node
+new-stands : (c : ℕ) (l : List Sibling) → InTurn c l → (i d : ℕ) → 0 < d → i ≤ length (oldNodes l)
+    → (i ≡ 0 → d ≤ c) → ((j : ℕ) → i ≡ suc j → d ≤ suc (getD (oldNodes l) j blankNode .depth))
+    → (i < length (oldNodes l) → getD (oldNodes l) i blankNode .depth < d) → Stands l i d
+unfolding oldNodes depthOf
+new-stands c [] end i d low within first last next = absurd (omega (arith, first (omega arith)))
+new-stands c (old x set ∷ l) (here, on) zero d low within first last next = absurd (omega (arith, first refl, next (omega arith)))
+new-stands c (old x set ∷ l) (here, on) (suc i) d low within first last next =
+    let (n, less, many, deep) = new-stands (suc c) l on i d low (omega arith) (λ e. omega (arith, last 0 (ap suc e)))
+    (λ j e. last (suc j) (ap suc e)) (λ h. next (omega arith)) in
+    (suc n, omega arith, ap suc many, deep)
+new-stands c (new e set ∷ l) (here, some, on) zero d low within first last next =
+    go (ℕ-discrete d c) (λ other. new-stands (c - 1) l on 0 d low (omega arith) (λ h. omega (arith, first refl)) last next)
+  where
+    go : Dec (d ≡ c) → ((d ≡ c → ⊥) → Stands l 0 d) → Stands (new e set ∷ l) 0 d
+    go (yes same) down = (0, omega arith, refl, here ∙ sym same)
+    go (no other) down = let (n, less, many, deep) = down other in (suc n, omega arith, many, deep)
+new-stands c (new e set ∷ l) (here, some, on) (suc i) d low within first last next =
+    let (n, less, many, deep) = new-stands (c - 1) l on (suc i) d low within (λ h. absurd (omega arith)) last next in
+    (suc n, omega arith, many, deep)
 
 -- as many stand before one of them as were there among the nodes by number
 old-many : (n : ℕ) (l : List Sibling) (nodes : List Grown) → map isOldSibling l ≡ map (λ x. wasThere (x .origin)) nodes
@@ -115,6 +147,17 @@ module _ (R : Rule) (a : ℕ) where
       (old-append (siblingsFrom (suc d) held 0 below) (siblingsFrom d (bitOr held (newLabel R a held x)) (bitOr set (newLabel R a held x)) younger)
       ∙ rw (old-from (suc d) held 0 below, old-from d (bitOr held (newLabel R a held x)) (bitOr set (newLabel R a held x)) younger))
 
+  -- they come in turn
+  turns-from : (d held set : ℕ) (F : Tree) (rest : List Sibling) → InTurn d rest → InTurn (suc d) (siblingsFrom (suc d) held set F ++ rest)
+  unfolding siblingsFrom
+  turns-from d held set nil rest on = let e : suc d - 1 ≡ d = omega arith in (refl, omega arith, rw e on)
+  turns-from d held set (node x below younger) rest on =
+      let younger′ : List Sibling = siblingsFrom (suc d) (bitOr held (newLabel R a held x)) (bitOr set (newLabel R a held x)) younger in (
+        refl,
+        rw (append-assoc (siblingsFrom (suc (suc d)) held 0 below) younger′ rest)
+            (turns-from (suc d) held 0 below (younger′ ++ rest) (turns-from d _ _ younger rest on)),
+      )
+
   -- the nodes after steps 1 and 2: siblings that were numbered from c on below the node named p, with the youngest
   abbrev grownFrom : List ℕ → ℕ → Tree → Grown → Forest Grown
   grownFrom p c F last = youngest (sprouting R a (succeeded R a (begunFrom p c F))) last
@@ -123,7 +166,7 @@ module _ (R : Rule) (a : ℕ) where
   abbrev youngestOf : List ℕ → Node → Grown
   youngestOf w x = child R a (record { origin = was w; before = x .label; label = successors R a (x .label); active = x .active; accepting = false })
 
-  -- the siblings have their origins, their depths, and the unions of their older siblings' labels after step 3
+  -- they have the origins and depths of these nodes, and after step 3 the unions of their older siblings' labels
   origins-from : (d held set : ℕ) (p : List ℕ) (c : ℕ) (F : Tree) (last : Grown) → last .origin ≡ sprouted
       → map isOldSibling (siblingsFrom d held set F) ≡ map (λ x. wasThere (x .origin)) (listing (grownFrom p c F last))
   unfolding siblingsFrom isOldSibling wasThere listing youngest sprouting succeeded begunFrom oldNode namedFrom change child
@@ -208,14 +251,25 @@ module _ (R : Rule) (a : ℕ) where
     unfolding setOf
     sibling-set n = sym (List·getD-map setOf siblings n (new 0 0)) ∙ ap (λ (l : List ℕ). getD l n 0) siblings-sets
 
-    -- each old node is one of these siblings
-    pub old-sibling : (i : ℕ) → i < length (nodesOf T)
-        → (n : ℕ) × (n < size (twoSteps R a T)) × (oldOnes (take n (listing (twoSteps R a T))) ≡ i)
-        × (length (getD (names (twoSteps R a T)) n []) ≡ getD (nodesOf T) i blankNode .depth)
-    old-sibling i h =
-        let (n, less, many, deep) = old-stands siblings i (omega (arith, ap length old-siblings)) in (
-          n,
-          omega (arith, siblings-many),
-          sym (old-many n siblings (listing (twoSteps R a T)) siblings-origins) ∙ many,
-          sym (sibling-depth n) ∙ deep ∙ ap (λ (l : List CodeNode). getD l i blankNode .depth) old-siblings,
-        )
+    -- so one that stands there is reached
+    reached : (i d : ℕ) → Stands siblings i d → (n : ℕ) × Reached R a T i d n
+    reached i d (n, less, many, deep) = (
+      n,
+      record {
+        there = omega (arith, siblings-many);
+        behind = sym (old-many n siblings (listing (twoSteps R a T)) siblings-origins) ∙ many;
+        deep = sym (sibling-depth n) ∙ deep;
+      },
+    )
+
+    -- each old node is a sibling that is reached, at its depth
+    pub old-sibling : (i : ℕ) → i < length (nodesOf T) → (n : ℕ) × Reached R a T i (getD (nodesOf T) i blankNode .depth) n
+    old-sibling i h = reached i _ (rw old-siblings at (old-stands siblings i (rw old-siblings h)))
+
+    -- and one is reached behind it at each depth that is at most that of its children and more than that of the next old node
+    pub new-sibling : (i d : ℕ) → suc i ≤ length (nodesOf T) → 0 < d → d ≤ suc (getD (nodesOf T) i blankNode .depth)
+        → (suc i < length (nodesOf T) → getD (nodesOf T) (suc i) blankNode .depth < d) → (n : ℕ) × Reached R a T (suc i) d n
+    unfolding siblingsOf
+    new-sibling i d within low last next =
+        reached (suc i) d (new-stands 0 siblings (refl, rw append-nil at (turns-from 0 0 0 below [] refl)) (suc i) d low (rw old-siblings within)
+        (λ e. absurd (omega arith)) (λ j e. let same : i ≡ j = omega arith in rw (old-siblings, ← same) last) (rw old-siblings next))

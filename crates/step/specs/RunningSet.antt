@@ -9,8 +9,8 @@ use lib.ListN.{length, getD, take}
 use Rattle.rule.specs.Rule.{Rule}
 use Rattle.history.specs.Forest.{size, listing, names}
 use Rattle.history.specs.Tree.{Tree}
-use Rattle.history.specs.Letter.{Origin, was, sprouted, Grown}
-use Rattle.history.specs.OlderSiblings.{twoSteps, OlderUnion}
+use Rattle.history.specs.Letter.{Origin, was, sprouted, Grown, twoSteps}
+use Rattle.history.specs.OlderSiblings.{OlderUnion}
 
 -- was a node there before the letter?
 unfoldable pub wasThere : Origin → Bool
@@ -22,9 +22,13 @@ unfoldable pub oldOnes : List Grown → ℕ
 oldOnes [] = 0
 oldOnes (x ∷ nodes) = cond (wasThere (x .origin)) (suc (oldOnes nodes)) (oldOnes nodes)
 
--- The siblings are the nodes after steps 1 and 2, sprouted ones among them; the root is by itself. Once i nodes are read, the sibling
--- that is reached at depth d is the one of that depth that i old nodes stand before. `set` is then the union of its older siblings' labels.
+-- The siblings are the nodes after steps 1 and 2, sprouted ones among them; the root is by itself. Once i old nodes are read, the sibling
+-- that is reached at depth d is the node n of that depth that i old nodes stand before.
+pub record Reached (R : Rule) (a : ℕ) (T : Tree) (i d n : ℕ) : Type 0 where
+  pub there : n < size (twoSteps R a T)
+  pub behind : oldOnes (take n (listing (twoSteps R a T))) ≡ i
+  pub deep : length (getD (names (twoSteps R a T)) n []) ≡ d
+
+-- "when a sibling is reached, this set is the union of its older siblings' labels"
 abbrev pub RunningSet : Rule → ℕ → Tree → ℕ → ℕ → ℕ → Type 0
-RunningSet R a T i d set =
-    (n : ℕ) → n < size (twoSteps R a T) → oldOnes (take n (listing (twoSteps R a T))) ≡ i
-    → length (getD (names (twoSteps R a T)) n []) ≡ d → OlderUnion R a T n set
+RunningSet R a T i d set = (n : ℕ) → Reached R a T i d n → OlderUnion R a T n set

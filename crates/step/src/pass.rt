@@ -122,7 +122,7 @@ fn joined_if(map: u16, old: usize, holds: bool) -> u16
 // were before these siblings lost states to one another and as they are after": `running-set` in proofs/RunningSet.antt.
 pub struct Standing {
     pub top: usize,
-    pub older: u16,
+    pub running: u16,
     pub written: usize,
 }
 
@@ -147,22 +147,22 @@ fn enter(
         named[top] = false;
         return at;
     }
-    let joined = at.older | made.label;
+    let joined = at.running | made.label;
     if made.label == made.kids {
         return Standing {
             top: top,
-            older: joined,
+            running: joined,
             written: at.written,
         };
     }
     let below = top + 1;
     waiting[top] = joined;
-    above[below] = above[top] | at.older;
+    above[below] = above[top] | at.running;
     sprout[below] = made.sprout;
     named[below] = named[top];
     Standing {
         top: below,
-        older: 0,
+        running: 0,
         written: at.written,
     }
 }
@@ -183,12 +183,12 @@ fn close_levels(
         at (now (sides .entry)) r (now (sides .exit)) ⌝ }
 {
     let mut top = at.top;
-    let mut older = at.older;
+    let mut running = at.running;
     let mut written = at.written;
     while depth < top {
-        let s = sprout_node(top, sprout[top], above[top] | older);
+        let s = sprout_node(top, sprout[top], above[top] | running);
         top -= 1;
-        older = waiting[top];
+        running = waiting[top];
         if s.label != 0 {
             sides[to][written] = pack(s);
             written += 1;
@@ -196,7 +196,7 @@ fn close_levels(
     }
     Standing {
         top: top,
-        older: older,
+        running: running,
         written: written,
     }
 }
@@ -232,7 +232,7 @@ pub fn step_nodes(
     let mut stable = 0u16;
     let mut at = Standing {
         top: 0usize,
-        older: 0u16,
+        running: 0u16,
         written: 0usize,
     };
     let mut i = 0usize;
@@ -245,7 +245,7 @@ pub fn step_nodes(
         i += 1;
         // The next sibling is reached; a deeper node is below a node that was removed or that has lost its descendants (step 4).
         if depth == top {
-            let made = new_labels(lookup, x, above[top] | at.older);
+            let made = new_labels(lookup, x, above[top] | at.running);
             let name = named[top];
             at = enter(&mut above, &mut waiting, &mut sprout, &mut named, at, made);
             if made.label != 0 {

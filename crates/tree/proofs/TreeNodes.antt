@@ -1,12 +1,13 @@
 -- A tree in the code: its nodes, in front of blank ones.
 use mathlib.Core.Path.{_≡_, refl, sym, _∙_, ap}
 use mathlib.Core.Bool.{true}
-use mathlib.Core.List.{List, [], map, map-append, _∷_}
-use Prim.Native.Nat.{ℕ, suc, _-_, _≤_, _<_, zero}
+use mathlib.Core.List.{List, [], _∷_, _++_, map, map-append}
+use Prim.Native.Nat.{ℕ, zero, suc, _+_, _-_, _≤_, _<_}
 use native.Mathlib.Decide.{ℕ-discrete}
+use native.Mathlib.Numerals.{add-one}
 use native.Mathlib.Omega.{arith}
-use lib.ListN.{length, getD, set, replicate, length-append, length-map, length-set}
-use lib.Seq.{take-at, getD-set-same, getD-set-other}
+use lib.ListN.{length, getD, set, take, drop, replicate, length-append, length-map, length-set}
+use lib.Seq.{take-at, take-suc-set, drop-drop, drop-set-lt, getD-set-same, getD-set-other}
 use Rattle.base.specs.Lists.{pad}
 use Rattle.rule.specs.Limits.{maxStates}
 use Rattle.rule.specs.Rule.{Rule}
@@ -14,12 +15,12 @@ use Rattle.history.specs.Forest.{nil, node, size}
 use Rattle.history.specs.Tree.{Tree, isTreeOf}
 use Rattle.history.proofs.step.TreesOf.{of-few}
 use Rattle.tree.specs.inner.Nodes.{blankNode, nodesFrom, nodesOf, withoutOld, AreNodes, HoldsTree}
-use Rattle.tree.specs.inner.PackedNodes.{nodesIn, countedNodes}
+use Rattle.tree.specs.inner.PackedNodes.{unpacked, nodesIn, countedNodes}
 use Rattle.tree.specs.inner.RecordNodes.{places, blankBehind, HasNodes}
 use Rattle.tree.specs.inner.Sides.{TwoSides}
 use Rattle.tree.specs.declared.nodes.Node.{Node as CodeNode}
 use Rattle.tree.specs.declared.nodes.Tree.{Tree as CodeTree}
-use Rattle.tree.proofs.PackedWords.{nodes-many}
+use Rattle.tree.proofs.PackedWords.{node-written, nodes-many}
 
 -- THE NODES OF A TREE
 
@@ -77,6 +78,12 @@ two-sides words other long-words long-other = record { two = refl; long = both }
     both (suc zero) h = long-other
     both (suc (suc side)) h = absurd (omega arith)
 
+-- lists that are the same from a place on are the same from a later one on
+pub drop-later : (l m : List ℕ) (i j : ℕ) → i ≤ j → drop i l ≡ drop i m → drop j l ≡ drop j m
+drop-later l m i j h same =
+    let e : j ≡ i + (j - i) = omega arith in
+    rw e (sym (drop-drop (j - i) i l) ∙ ap (drop (j - i)) same ∙ drop-drop (j - i) i m)
+
 -- one word written on a side: it stands there, and the sides are as long as they were
 module _ {sides : List (List ℕ)} (arrays : TwoSides sides) (to : ℕ) (one : to < 2) (j word : ℕ) where
   abbrev after : List (List ℕ)
@@ -91,3 +98,17 @@ module _ {sides : List (List ℕ)} (arrays : TwoSides sides) (to : ℕ) (one : t
       go : (side : ℕ) → side < 2 → Dec (side ≡ to) → length (getD after side []) ≡ places
       go side h (yes e) = rw (e, side-written, length-set (getD sides to []) j word) (arrays .long to one)
       go side h (no e) = rw (getD-set-other sides to side (set (getD sides to []) j word) [] e) (arrays .long side h)
+
+  -- the other side, and what stands behind it, are as they were
+  pub other-kept : (side : ℕ) → (side ≡ to → ⊥) → getD after side [] ≡ getD sides side []
+  other-kept side other = getD-set-other sides to side (set (getD sides to []) j word) [] other
+
+  pub behind-kept : (before : List ℕ) → drop j (getD sides to []) ≡ drop j before → drop (j + 1) (getD after to []) ≡ drop (j + 1) before
+  behind-kept before same = rw (side-written, add-one)
+      (drop-set-lt (suc j) (getD sides to []) j word (omega arith) ∙ drop-later (getD sides to []) before j (suc j) (omega arith) same)
+
+  -- behind the first j nodes it is one more
+  pub front-more : (x : CodeNode) → unpacked word ≡ x → j < places
+      → take (j + 1) (nodesIn (getD after to [])) ≡ take j (nodesIn (getD sides to [])) ++ (x ∷ [])
+  front-more x is room = rw (side-written, node-written (getD sides to []) j word is, add-one)
+      (take-suc-set (nodesIn (getD sides to [])) j x (omega (arith, nodes-many (getD sides to []) (arrays .long to one))))

@@ -7,7 +7,7 @@ use Rattle.rule.specs.Rule.{Rule, squareOf}
 use Rattle.rule.proofs.SameSquares.{same-successors, same-successors-in}
 use Rattle.history.specs.Forest.{Forest, nil, node, change}
 use Rattle.history.specs.Tree.{Tree}
-use Rattle.history.specs.Letter.{Grown, succeeded, child, sprouting, fiveSteps, survivors, nextTree, accepting, stable}
+use Rattle.history.specs.Letter.{Grown, succeeded, child, sprouting, twoSteps, threeSteps, fiveSteps, survivors, nextTree, accepting, stable}
 use Rattle.history.proofs.step.StepsJoined.{survivors-steps}
 
 module _ (R S : Rule) (states : R .states ≡ S .states) (sets : R .sets ≡ S .sets) (a b : ℕ) (same : squareOf R a ≡ squareOf S b) where
@@ -27,7 +27,7 @@ module _ (R S : Rule) (states : R .states ≡ S .states) (sets : R .sets ≡ S .
   same-sprouting (node x below younger) = rw (same-child x, same-sprouting below, same-sprouting younger)
 
   same-steps : (T : Tree) → fiveSteps R a T ≡ fiveSteps S b T
-  unfolding fiveSteps
+  unfolding fiveSteps threeSteps twoSteps
   same-steps T = rw (same-succeeded, same-sprouting, sets)
 
   same-survivors : (T : Tree) → survivors R a T ≡ survivors S b T

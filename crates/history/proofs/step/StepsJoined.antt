@@ -11,7 +11,7 @@ use Rattle.base.proofs.BitSet.{member-union, member-minus, set-ext}
 use Rattle.rule.specs.Rule.{Rule}
 use Rattle.history.specs.Forest.{Forest, nil, node, change, namedFrom, named}
 use Rattle.history.specs.Tree.{Node, Tree, labels}
-use Rattle.history.specs.Letter.{was, sprouted, Grown, begun, succeeded, youngest, child, sprouting, separated, grownLabels, kept, pruned, fiveSteps, survivors, nextTree}
+use Rattle.history.specs.Letter.{was, sprouted, Grown, begun, succeeded, youngest, child, sprouting, separated, grownLabels, kept, pruned, twoSteps, threeSteps, fiveSteps, survivors, nextTree}
 use Rattle.history.proofs.step.LocalStep.{settled, settle, newLabel, sproutOf, step, Branch, newBelow, accepts}
 use Rattle.history.proofs.tree.SetFacts.{nothing-minus}
 use Rattle.history.proofs.tree.Conditions.{OneRoot}
@@ -151,7 +151,7 @@ unfoldable pub noSprout : Grown
 noSprout = record { origin = sprouted; before = 0; label = 0; active = 1; accepting = false }
 
 pub steps-grown : (R : Rule) (a : ℕ) (T : Tree) → fiveSteps R a T ≡ grown R a 0 noSprout (begun T)
-unfolding fiveSteps grown noSprout
+unfolding fiveSteps threeSteps twoSteps grown noSprout
 steps-grown R a T = sym (empty-sprout R a 0 noSprout (sprouting R a (succeeded R a (begun T))) refl)
 
 -- A LETTER

@@ -21,7 +21,7 @@ use Rattle.table.specs.Table.{readRule, readBody, readGrid, readCell, readRow, 
 use Rattle.word.specs.Walk.{rounds}
 use Rattle.history.specs.Forest.{nil, node, change, listing, namedFrom, named, names, sameNumbers}
 use Rattle.history.specs.Tree.{Tree, startTree}
-use Rattle.history.specs.Letter.{begun, succeeded, youngest, child, sprouting, separated, grownLabels, nextSet, kept, pruned, fiveSteps, survivors, nextTree, isOld, accepting, stable}
+use Rattle.history.specs.Letter.{begun, succeeded, youngest, child, sprouting, separated, grownLabels, nextSet, kept, pruned, twoSteps, threeSteps, fiveSteps, survivors, nextTree, isOld, accepting, stable}
 use Rattle.history.specs.Rounds.{readLetters, roundTree, treeInRound, FirstRepeat}
 use Rattle.history.specs.Verdict.{FirstWitness}
 use Rattle.history.specs.Finding.{Finding, yes-node, no-node, Found}
@@ -126,7 +126,7 @@ module _ (test : List ℕ → Bool) where
 unfoldable pub verdictTest : Rule → List ℕ → List ℕ → ℕ → ℕ → Finding → Bool
 unfolding repeatTest seenBefore sameTree isFirst witnessTest
     treeInRound roundTree readLetters rounds startTree
-    nextTree stable accepting survivors fiveSteps begun succeeded sprouting child youngest separated pruned kept grownLabels nextSet
+    nextTree stable accepting survivors fiveSteps threeSteps twoSteps begun succeeded sprouting child youngest separated pruned kept grownLabels nextSet
     change named namedFrom names listing anyOf isOld sameNumbers
     successors successorsIn image collect some member minus edge edgeIn cellAt
 verdictTest R u v entry period finding =

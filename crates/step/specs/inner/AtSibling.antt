@@ -16,8 +16,8 @@ use Rattle.step.specs.inner.Pass.{closedTo, readNodes, atStart}
 use Rattle.step.specs.inner.LevelArrays.{LevelArrays, passAt}
 use Rattle.step.specs.declared.pass.Standing.{Standing}
 
--- a sibling is reached: the variables are those of a pass that has read the first i of some nodes, and has closed the levels deeper than
--- the deepest one
+-- what is known where a sibling is reached: the variables are those of a pass that has read the first i of some nodes, and has closed the
+-- levels deeper than `top`
 pub record AtSibling (lookup : Lookup) (k : ℕ) (nodes : List CodeNode) (i : ℕ) (at : Standing) : Type 0 where
   pub side : List ℕ
   pub arrays : LevelArrays
@@ -31,4 +31,4 @@ unfoldable pub CarriedAlong : Type 0
 CarriedAlong =
     (R : Rule) → WithinLimits R → (a : ℕ) (T : Tree) → isTreeOf R T ≡ true
     → (lookup : Lookup) → lookup ≡ letterLookup (getD (padded (R .grid)) a []) → (nodes : List CodeNode) → AreNodes nodes T
-    → (i : ℕ) (at : Standing) → AtSibling lookup (R .sets) nodes i at → RunningSet R a T i (at .top) (at .older)
+    → (i : ℕ) (at : Standing) → AtSibling lookup (R .sets) nodes i at → RunningSet R a T i (at .top) (at .running)

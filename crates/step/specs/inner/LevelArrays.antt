@@ -31,8 +31,8 @@ EachDepth A =
 
 -- the level at depth d with a running set
 abbrev pub levelAt : LevelArrays → ℕ → ℕ → Level
-levelAt A d older =
-    record { above = getD (A .above) d 0; older = older; sprout = getD (A .sprout) d 0; named = getD (A .named) d false }
+levelAt A d running =
+    record { above = getD (A .above) d 0; running = running; sprout = getD (A .sprout) d 0; named = getD (A .named) d false }
 
 -- the first c levels, the deepest first: they wait
 unfoldable pub waitingLevels : LevelArrays → ℕ → List Level
@@ -41,7 +41,7 @@ waitingLevels A (suc c) = levelAt A c (getD (A .waiting) c 0) ∷ waitingLevels 
 
 -- all levels, where the pass stands
 abbrev pub levelsOf : LevelArrays → Standing → List Level
-levelsOf A at = levelAt A (at .top) (at .older) ∷ waitingLevels A (at .top)
+levelsOf A at = levelAt A (at .top) (at .running) ∷ waitingLevels A (at .top)
 
 -- where the pass stands once a node of the deepest level is read
 pub record Entered (m : NewLabels) (at : Standing) (A : LevelArrays) (next : Standing) (B : LevelArrays) : Type 0 where

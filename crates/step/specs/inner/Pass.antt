@@ -30,22 +30,22 @@ newLabels E x held =
       sprout = E (x .active) (x .label);
     }
 
--- a level: the siblings at one depth, as the pass reads them from the oldest to the youngest. What older siblings of their ancestors
+-- a level: the children of one node, as the pass reads them from the oldest to the youngest. What older siblings of their ancestors
 -- hold; the running set, which is the union of the labels of those that are read; the states of the child that their parent sprouts;
 -- and whether the names are kept up to here
 pub record Level : Type 0 where
   pub above : ℕ
-  pub older : ℕ
+  pub running : ℕ
   pub sprout : ℕ
   pub named : Bool
 
 -- the level of the root
-abbrev pub outermost : Level
-outermost = record { above = 0; older = 0; sprout = 0; named = true }
+abbrev pub rootLevel : Level
+rootLevel = record { above = 0; running = 0; sprout = 0; named = true }
 
 -- what leaves the sibling that is reached (step 3): what its own older siblings hold, and those of its ancestors
 abbrev pub held : Level → ℕ
-held l = bitOr (l .above) (l .older)
+held l = bitOr (l .above) (l .running)
 
 -- a sprouted child at depth d, once its older siblings are read
 unfoldable pub sproutNode : ℕ → ℕ → ℕ → CodeNode
@@ -76,11 +76,11 @@ unfoldable pub entered : NewLabels → List Level → List Level
 entered m [] = []
 entered m (l ∷ levels) =
     cond (eqb (m .label) 0)
-    (record { above = l .above; older = l .older; sprout = l .sprout; named = false } ∷ levels)
+    (record { above = l .above; running = l .running; sprout = l .sprout; named = false } ∷ levels)
     (cond (eqb (m .label) (m .kids))
-    (record { above = l .above; older = bitOr (l .older) (m .label); sprout = l .sprout; named = l .named } ∷ levels)
-    (record { above = held l; older = 0; sprout = m .sprout; named = l .named }
-    ∷ record { above = l .above; older = bitOr (l .older) (m .label); sprout = l .sprout; named = l .named } ∷ levels))
+    (record { above = l .above; running = bitOr (l .running) (m .label); sprout = l .sprout; named = l .named } ∷ levels)
+    (record { above = held l; running = 0; sprout = m .sprout; named = l .named }
+    ∷ record { above = l .above; running = bitOr (l .running) (m .label); sprout = l .sprout; named = l .named } ∷ levels))
 
 -- levels deeper than d are closed: what is left of them, and the sprouted children that this writes
 unfoldable pub levelsTo : ℕ → List Level → List Level
@@ -94,7 +94,7 @@ sproutsTo d (l ∷ levels) =
 
 -- the deepest level
 unfoldable pub deepest : List Level → Level
-deepest [] = outermost
+deepest [] = rootLevel
 deepest (l ∷ levels) = l
 
 -- THE PASS
@@ -140,7 +140,7 @@ readNodes E k i p (x ∷ nodes) = readNodes E k (suc i) (readNode E k i x (close
 
 -- before the first node
 abbrev pub atStart : Pass
-atStart = record { levels = outermost ∷ []; nodes = []; accepting = 0; stable = 0 }
+atStart = record { levels = rootLevel ∷ []; nodes = []; accepting = 0; stable = 0 }
 
 -- one letter over nodes, by the letter's look-up; there are k sets. The end closes all levels but the root's
 unfoldable pub steppedNodes : Lookup → ℕ → List CodeNode → Pass

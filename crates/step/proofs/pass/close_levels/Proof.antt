@@ -6,11 +6,11 @@ use Rattle.step.proofs.pass.close_levels.Statement.{statement}
 use Rattle.step.proofs.pass.close_levels.Tie as tie
 
 abbrev Inv-loop : tie.InvT-loop
-Inv-loop sides₀ to above waiting sprout depth top₀ older₀ written₀ sides top older written =
-    ClosedSoFar above waiting sprout to depth (record { top = top₀; older = older₀; written = written₀ }) sides₀ sides top older written
+Inv-loop sides₀ to above waiting sprout depth top₀ running₀ written₀ sides top running written =
+    ClosedSoFar above waiting sprout to depth (record { top = top₀; running = running₀; written = written₀ }) sides₀ sides top running written
 
 abbrev μ-loop : tie.MeasureT-loop
-μ-loop sides₀ to above waiting sprout depth top₀ older₀ written₀ sides top older written = top
+μ-loop sides₀ to above waiting sprout depth top₀ running₀ written₀ sides top running written = top
 
 loop-holds : tie.Need-loop-holds Inv-loop μ-loop
 loop-holds c = closing-start _ _ _ _ _ _ _ (c .pre)
@@ -33,11 +33,11 @@ sprout-node-requires c κs = let v = c .before .before .before .loop .inv in ome
 sub-top : tie.Need-sub-top Inv-loop μ-loop
 sub-top c = search needs
 
-mul-older : tie.Need-mul-older Inv-loop μ-loop
-mul-older c = search needs
+mul-running : tie.Need-mul-running Inv-loop μ-loop
+mul-running c = search needs
 
-element-copy-out-older : tie.Need-element-copy-out-older Inv-loop μ-loop
-element-copy-out-older c = search needs
+element-copy-out-running : tie.Need-element-copy-out-running Inv-loop μ-loop
+element-copy-out-running c = search needs
 
 pack-requires : tie.Need-pack-requires Inv-loop μ-loop
 pack-requires c κs = search needs
@@ -92,8 +92,8 @@ close-levels-spec =
     element-copy-out-sprout-node-2
     sprout-node-requires
     sub-top
-    mul-older
-    element-copy-out-older
+    mul-running
+    element-copy-out-running
     pack-requires
     mul-sides
     mul-sides-2

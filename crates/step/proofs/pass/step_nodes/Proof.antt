@@ -1,7 +1,7 @@
 -- `step_nodes` meets its contract, by the laws of PassLoop: one for each way through the loop's body.
 use mathlib.Core.Path.{_≡_, refl, _∙_}
 use mathlib.Core.List.{[]}
-use Prim.Native.Nat.{_-_, _<_}
+use Prim.Native.Nat.{ℕ, _-_, _<_}
 use native.Mathlib.Omega.{arith}
 use borrow.Author.Needs.{needs}
 use lib.ListN.{getD}
@@ -35,6 +35,33 @@ abbrev μ-loop : tie.MeasureT-loop
 μ-loop lookup k sides₀ from count to above₀ waiting₀ sprout₀ named₀ accepting₀ stable₀ at₀ i₀ sides above waiting sprout named accepting stable at i =
     count - i
 
+-- a node is read
+module _ (u : lts.After-unpack (
+  unpack-reads.Asked,
+  unpack-reads.Learnt,
+  close-levels-reads.Asked,
+  close-levels-reads.Learnt,
+  new-labels-reads.Asked,
+  new-labels-reads.Learnt,
+  enter-reads.Asked,
+  enter-reads.Learnt,
+  settled-node-reads.Asked,
+  settled-node-reads.Learnt,
+  pack-reads.Asked,
+  pack-reads.Learnt,
+  joined-if-reads.Asked,
+  joined-if-reads.Learnt,
+  answered-reads.Asked,
+  answered-reads.Learnt,
+) reads.Pre reads.Post Inv-loop μ-loop) where
+  read : let s = u .before .before .before .before in
+      u .unpack .result ≡ getD (nodesIn (getD (s .args .sides .now) (s .args .from) [])) (u .before .before .before .loop .i) blankNode
+  read = side-read _ _ _ _ _ (u .before .before .before .loop .inv) (u .before .before .loop-test .taken) _ (u .unpack .ensures)
+
+  -- there are few
+  few : u .before .before .before .loop .i < maxStates
+  few = omega (arith, u .before .before .loop-test .taken, u .before .before .before .loop .inv .ready .few)
+
 -- once the deeper levels are closed
 module _ (q : lts.After-close-levels (
   unpack-reads.Asked,
@@ -54,43 +81,18 @@ module _ (q : lts.After-close-levels (
   answered-reads.Asked,
   answered-reads.Learnt,
 ) reads.Pre reads.Post Inv-loop μ-loop) where
-  -- the node that is read
-  read : q .before .before .before .before .before .before .unpack .result
-      ≡ getD (nodesIn (getD (q .before .before .before .before .before .before .before .before .before .before .args .sides .now) (q .before .before .before .before .before .before .before .before .before .before .args .from) [])) (q .before .before .before .before .before .before .before .before .before .loop .i) blankNode
-  read = side-read _ _ _ _ _ (q .before .before .before .before .before .before .before .before .before .loop .inv) (q .before .before .before .before .before .before .before .before .loop-test .taken) _ (q .before .before .before .before .before .before .unpack .ensures)
+  -- there is room for one more
+  room : {many : ℕ} → many ≡ q .close-levels .result .written → many < places
+  room = let u = q .before .before .before .before .before .before in
+      node-room _ _ _ _ _ (u .before .before .before .loop .inv) (u .before .before .loop-test .taken) _ (read u) _ _ (q .close-levels .ensures)
 
-  -- there are few nodes
-  few : q .before .before .before .before .before .before .before .before .before .loop .i < maxStates
-  few = omega (arith, q .before .before .before .before .before .before .before .before .loop-test .taken, q .before .before .before .before .before .before .before .before .before .loop .inv .ready .few)
-
-  -- a node of the deepest level is a sibling that is reached: `running-set` (RunningSet.antt) speaks of `at .older` here
-  pub at-sibling : q .before .before .before .before .before .before .unpack .result .depth ≡ q .close-levels .result .top
-      → AtSibling (q .before .before .before .before .before .before .before .before .before .before .args .lookup .now) (q .before .before .before .before .before .before .before .before .before .before .args .k)
-      (nodesOn (q .before .before .before .before .before .before .before .before .before .before .args .sides .now) (q .before .before .before .before .before .before .before .before .before .before .args .from) (q .before .before .before .before .before .before .before .before .before .before .args .count)) (q .before .before .before .before .before .before .before .before .before .loop .i) (q .close-levels .result)
-  at-sibling here = reading-at-sibling (q .before .before .before .before .before .before .before .before .before .loop .inv) (q .close-levels .ensures) here
-
--- there is room for the node that is written
-room : (e : lts.After-enter (
-  unpack-reads.Asked,
-  unpack-reads.Learnt,
-  close-levels-reads.Asked,
-  close-levels-reads.Learnt,
-  new-labels-reads.Asked,
-  new-labels-reads.Learnt,
-  enter-reads.Asked,
-  enter-reads.Learnt,
-  settled-node-reads.Asked,
-  settled-node-reads.Learnt,
-  pack-reads.Asked,
-  pack-reads.Learnt,
-  joined-if-reads.Asked,
-  joined-if-reads.Learnt,
-  answered-reads.Asked,
-  answered-reads.Learnt,
-) reads.Pre reads.Post Inv-loop μ-loop) → e .enter .result .written < places
-room e =
-    let q = e .before .before .before .before .before .before .before .before in
-    node-room _ _ _ _ _ (q .before .before .before .before .before .before .before .before .before .loop .inv) (q .before .before .before .before .before .before .before .before .loop-test .taken) _ (read q) _ _ (q .close-levels .ensures) (e .enter .ensures .written)
+  -- a node of the deepest level is a sibling that is reached: `running-set` (RunningSet.antt) speaks of `at.running` here
+  pub at-node : let u = q .before .before .before .before .before .before in
+      let s = u .before .before .before .before in
+      u .unpack .result .depth ≡ q .close-levels .result .top
+      → AtSibling (s .args .lookup .now) (s .args .k) (nodesOn (s .args .sides .now) (s .args .from) (s .args .count))
+      (u .before .before .before .loop .i) (q .close-levels .result)
+  at-node here = reading-at-sibling (q .before .before .before .before .before .before .before .before .before .loop .inv) (q .close-levels .ensures) here
 
 sub-to : tie.Need-sub-to Inv-loop μ-loop
 sub-to c = search needs
@@ -131,8 +133,8 @@ array-read-new-labels c = search needs
 
 new-labels-requires : tie.Need-new-labels-requires Inv-loop μ-loop
 new-labels-requires c κs =
-    let q = c .before .before in
-    rw (read q) (set-fits _ _ _ _ _ (q .before .before .before .before .before .before .before .before .before .loop .inv) (q .before .before .before .before .before .before .before .before .loop-test .taken))
+    let u = c .before .before .before .before .before .before .before .before in
+    rw (read u) (set-fits _ _ _ _ _ (u .before .before .before .loop .inv) (u .before .before .loop-test .taken))
 
 array-read-name : tie.Need-array-read-name Inv-loop μ-loop
 array-read-name c = search needs
@@ -142,8 +144,8 @@ enter-requires c κs = search needs
 
 settled-node-requires : tie.Need-settled-node-requires Inv-loop μ-loop
 settled-node-requires c κs =
-    let q = c .before .before .before .before .before .before .before .before .before .before in
-    (rw (read q) (set-fits _ _ _ _ _ (q .before .before .before .before .before .before .before .before .before .loop .inv) (q .before .before .before .before .before .before .before .before .loop-test .taken)), few q)
+    let u = c .before .before .before .before .before .before .before .before .before .before .before .before .before .before .before .before in
+    (rw (read u) (set-fits _ _ _ _ _ (u .before .before .before .loop .inv) (u .before .before .loop-test .taken)), few u)
 
 pack-requires : tie.Need-pack-requires Inv-loop μ-loop
 pack-requires c κs = search needs
@@ -152,25 +154,33 @@ mul-sides : tie.Need-mul-sides Inv-loop μ-loop
 mul-sides c = search needs
 
 mul-sides-2 : tie.Need-mul-sides-2 Inv-loop μ-loop
-mul-sides-2 c = search (needs, room (c .before .before .before .before))
+mul-sides-2 c =
+    let e = c .before .before .before .before in
+    search (needs, room (e .before .before .before .before .before .before .before .before) (e .enter .ensures .written))
 
 index-1-sides : tie.Need-index-1-sides Inv-loop μ-loop
 index-1-sides c = search needs
 
 index-2-sides : tie.Need-index-2-sides Inv-loop μ-loop
-index-2-sides c = search (needs, room (c .before .before .before .before))
+index-2-sides c =
+    let e = c .before .before .before .before in
+    search (needs, room (e .before .before .before .before .before .before .before .before) (e .enter .ensures .written))
 
 add-at : tie.Need-add-at Inv-loop μ-loop
-add-at c = search (needs, room (c .before .before .before .before))
+add-at c =
+    let e = c .before .before .before .before in
+    search (needs, room (e .before .before .before .before .before .before .before .before) (e .enter .ensures .written))
 
 joined-if-requires : tie.Need-joined-if-requires Inv-loop μ-loop
-joined-if-requires c κs = few (c .before .before .before .before .before .before .before .before .before .before .before .before .before)
+joined-if-requires c κs = few (c .before .before .before .before .before .before .before .before .before .before .before .before .before .before .before .before .before .before .before)
 
 joined-if-requires-2 : tie.Need-joined-if-requires-2 Inv-loop μ-loop
-joined-if-requires-2 c κs = few (c .before .before .before .before .before .before .before .before .before .before .before .before .before .before)
+joined-if-requires-2 c κs = few (c .before .before .before .before .before .before .before .before .before .before .before .before .before .before .before .before .before .before .before .before)
 
 loop-less : tie.Need-loop-less Inv-loop μ-loop
-loop-less c = omega (arith, c .before .before .before .before .before .before .before .before .before .before .before .before .before .before .before .before .before .before .before .before .before .before .before .loop-test .taken)
+loop-less c =
+    let u = c .before .before .before .before .before .before .before .before .before .before .before .before .before .before .before .before .before .before .before .before .before in
+    omega (arith, u .before .before .loop-test .taken)
 
 loop-again : tie.Need-loop-again Inv-loop μ-loop
 loop-again c =
@@ -178,19 +188,23 @@ loop-again c =
     let e = p .before .before .before .before in
     let m = e .before .before .before .before .before in
     let q = m .before .before .before in
-    node-kept _ _ _ _ _ (q .before .before .before .before .before .before .before .before .before .loop .inv) (q .before .before .before .before .before .before .before .before .loop-test .taken) _ (read q) _ _ (q .close-levels .ensures)
+    let u = q .before .before .before .before .before .before in
+    node-kept _ _ _ _ _ (u .before .before .before .loop .inv) (u .before .before .loop-test .taken) _ (read u) _ _ (q .close-levels .ensures)
     (m .before .before .if1 .taken) _ (m .new-labels .ensures) (e .enter .ensures) (p .before .before .if2 .taken)
     _ (p .pack .ensures ∙ p .before .settled-node .ensures) _ _ (c .before .joined-if .ensures) (c .joined-if2 .ensures)
 
 loop-less-2 : tie.Need-loop-less-2 Inv-loop μ-loop
-loop-less-2 c = omega (arith, c .before .before .before .before .before .before .before .before .before .before .before .before .before .before .before .before .before .before .loop-test .taken)
+loop-less-2 c =
+    let u = c .before .before .before .before .before .before .before .before .before .before .before .before .before .before .before .before in
+    omega (arith, u .before .before .loop-test .taken)
 
 loop-again-2 : tie.Need-loop-again-2 Inv-loop μ-loop
 loop-again-2 c =
     let e = c .before .before in
     let m = e .before .before .before .before .before in
     let q = m .before .before .before in
-    node-removed _ _ _ _ _ (q .before .before .before .before .before .before .before .before .before .loop .inv) (q .before .before .before .before .before .before .before .before .loop-test .taken) _ (read q) _ _ (q .close-levels .ensures)
+    let u = q .before .before .before .before .before .before in
+    node-removed _ _ _ _ _ (u .before .before .before .loop .inv) (u .before .before .loop-test .taken) _ (read u) _ _ (q .close-levels .ensures)
     (m .before .before .if1 .taken) _ (m .new-labels .ensures) (e .enter .ensures) (c .if2 .left)
 
 loop-less-3 : tie.Need-loop-less-3 Inv-loop μ-loop
@@ -199,7 +213,8 @@ loop-less-3 c = search needs
 loop-again-3 : tie.Need-loop-again-3 Inv-loop μ-loop
 loop-again-3 c =
     let q = c .before in
-    node-skipped _ _ _ _ _ (q .before .before .before .before .before .before .before .before .before .loop .inv) (q .before .before .before .before .before .before .before .before .loop-test .taken) _ (read q) _ _ (q .close-levels .ensures) (c .if1 .left)
+    let u = q .before .before .before .before .before .before in
+    node-skipped _ _ _ _ _ (u .before .before .before .loop .inv) (u .before .before .loop-test .taken) _ (read u) _ _ (q .close-levels .ensures) (c .if1 .left)
 
 close-levels-requires-2 : tie.Need-close-levels-requires-2 Inv-loop μ-loop
 close-levels-requires-2 c κs = closable _ _ _ _ _ (c .before .before .before .before .before .loop .inv)
