@@ -8,7 +8,7 @@ use Prim.Native.Nat.{ℕ, zero, suc, _+_, _-_, _≤_, _<_}
 use native.Mathlib.Omega.{arith}
 use borrow.Author.Tests.{eq-eqb, ne-eqb}
 use lib.Bits.{bitOr}
-use lib.ListN.{length, getD, set, take, drop}
+use lib.ListN.{getD, set, take, drop}
 use Rattle.tree.specs.inner.PackedNodes.{unpacked, nodesIn}
 use Rattle.tree.specs.inner.Sides.{TwoSides}
 use Rattle.tree.specs.declared.nodes.Node.{Node as CodeNode}

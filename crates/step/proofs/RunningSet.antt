@@ -1,15 +1,13 @@
 -- When a sibling is reached, the running set in the code's variable is the union of its older siblings' labels (document 02, U4).
-use mathlib.Core.Bool.{true}
 use mathlib.Core.Path.{_≡_, refl, sym, _∙_, ap, subst}
+use mathlib.Core.Bool.{true}
 use mathlib.Core.List.{List, [], _∷_, map}
-use Prim.Native.Nat.{ℕ, zero, suc, _+_, _-_, _≤_, _<_}
-use native.Mathlib.Numerals.{add-one}
+use Prim.Native.Nat.{ℕ, zero, suc, _-_, _≤_, _<_}
 use native.Mathlib.Omega.{arith}
+use native.Mathlib.Numerals.{add-one}
 use lib.ListN.{length, getD, take, List·getD-map}
 use Rattle.rule.specs.Rule.{Rule}
-use Rattle.rule.specs.inner.Lookup.{Lookup, letterLookup, lookUp}
-use Rattle.rule.specs.inner.Padded.{padded}
-use Rattle.rule.proofs.LookupLaws.{look-up-successors, look-up-successors-in}
+use Rattle.rule.specs.inner.Lookup.{Lookup, lookUp}
 use Rattle.table.specs.inner.ReadRule.{WithinLimits}
 use Rattle.history.specs.Forest.{nil, node, size, change, named}
 use Rattle.history.specs.Tree.{Tree, isTreeOf}
@@ -20,19 +18,19 @@ use Rattle.history.proofs.step.TreesOf.{of-out, of-few}
 use Rattle.tree.specs.inner.Nodes.{blankNode, nodesOf, withoutOld, AreNodes}
 use Rattle.tree.specs.declared.nodes.Node.{Node as CodeNode}
 use Rattle.tree.proofs.TreeNodes.{nodes-size, are-nodes-size}
-use Rattle.step.specs.RunningSet.{Reached, RunningSet}
+use Rattle.step.specs.RunningSet.{ReachedSibling, RunningSet}
 use Rattle.step.specs.inner.Pass.{deepest, Pass, closedTo, readNode, readNodes, atStart}
 use Rattle.step.specs.inner.LevelArrays.{LevelArrays, Closing}
 use Rattle.step.specs.inner.AtSibling.{AtSibling, CarriedAlong}
 use Rattle.step.specs.inner.Stepping.{nodesOn}
 use Rattle.step.specs.declared.pass.Standing.{Standing}
 use Rattle.step.proofs.Levels.{waiting-length}
-use Rattle.step.proofs.ClosingLoop.{ClosedSoFar}
 use Rattle.step.proofs.PassSteps.{levels-left, levels-open}
+use Rattle.step.proofs.ClosingLoop.{ClosedSoFar}
 use Rattle.step.proofs.PassLoop.{OnSides, read-next}
 use Rattle.step.proofs.OldNumbers.{tree-numbered}
-use Rattle.step.proofs.StepOfNodes.{read-without-old}
-use Rattle.step.proofs.SiblingsInTurn.{new-sibling}
+use Rattle.step.proofs.StepOfNodes.{read-without-old, images, images-all, images-in}
+use Rattle.step.proofs.SiblingsInTurn.{old-reached, new-reached}
 use Rattle.step.proofs.AlongSiblings.{running-set-root}
 
 -- THE CODE
@@ -78,7 +76,7 @@ take-without-old (suc i) (x ∷ nodes) = ap (λ (l : List CodeNode). withoutOld 
 
 module _ {R : Rule} (limits : WithinLimits R) (a : ℕ) where
   abbrev E : ℕ → ℕ → ℕ
-  E = lookUp (letterLookup (getD (padded (R .grid)) a []))
+  E = images limits a
 
   -- the pass over the nodes of a tree
   along-tree : (T : Tree) → OneRoot T → Fits (R .sets) T → size T < noNode → (i d : ℕ)
@@ -87,9 +85,8 @@ module _ {R : Rule} (limits : WithinLimits R) (a : ℕ) where
   unfolding twoSteps sprouting succeeded begun named change size oldNumber
   along-tree nil one fits small i d deep = λ n r. absurd (omega (arith, r .there))
   along-tree (node x below nil) one fits small i d deep =
-      running-set-root R a E (oldNumber (node x below nil)) refl (look-up-successors R (limits .well) (limits .states) a)
-      (λ i s low high. look-up-successors-in R (limits .well) (limits .states) i a s low (omega (arith, limits .sets)))
-      x below fits (tree-numbered x below small .1) i d deep
+      running-set-root R a E (oldNumber (node x below nil)) refl (images-all limits a) (images-in limits a) x below fits
+      (tree-numbered x below small .1) i d deep
   along-tree (node x below (node y other younger)) one fits small i d deep = absurd one
 
 -- "when a sibling is reached, this set is the union of its older siblings' labels, both as they were before these siblings lost states to
@@ -104,7 +101,7 @@ running-set R limits a T tree lookup by nodes are i at r =
     subst (λ (set : ℕ). RunningSet R a T i (at .top) set) (ap (λ (q : Pass). deepest (q .levels) .running) (sym p))
     (along-tree limits a T (t .one-root) (t .fits) (omega (arith, of-few R T tree, limits .states)) i (at .top) (rw read at (level-open r)))
 
--- A SPROUTED CHILD
+-- WHAT IS REACHED
 
 -- the deepest level is no deeper than the children of the last node read
 last-read : {lookup : Lookup} {k : ℕ} {nodes : List CodeNode} {i : ℕ} {at : Standing} → AtSibling lookup k nodes (suc i) at → i < length nodes
@@ -121,23 +118,40 @@ last-read {lookup} {k} {nodes} {i} {at} r less =
       levels-open (lookUp lookup) k i x before,
     )
 
--- the nodes have the depths of the tree's
-same-depth : (nodes : List CodeNode) (T : Tree) → AreNodes nodes T → (i : ℕ) → getD nodes i blankNode .depth ≡ getD (nodesOf T) i blankNode .depth
-same-depth nodes T are i = rw (← are) (ap (λ (x : CodeNode). x .depth) (sym (List·getD-map withoutOld nodes i blankNode)))
+module _ (R : Rule) (a : ℕ) (nodes : List CodeNode) where
+  -- the nodes have the depths of the tree's
+  same-depth : (T : Tree) → AreNodes nodes T → (i : ℕ) → getD nodes i blankNode .depth ≡ getD (nodesOf T) i blankNode .depth
+  same-depth T are i = rw (← are) (ap (λ (x : CodeNode). x .depth) (sym (List·getD-map withoutOld nodes i blankNode)))
 
--- where the next node is not below its parent, the child that it sprouts is a sibling that is reached
-pub sprouted-sibling : (R : Rule) (a : ℕ) (T : Tree) → isTreeOf R T ≡ true → {lookup : Lookup} {k : ℕ} (nodes : List CodeNode) → AreNodes nodes T
-    → (i : ℕ) {at : Standing} → AtSibling lookup k nodes i at → i ≤ length nodes → 0 < at .top
-    → (i < length nodes → getD nodes i blankNode .depth < at .top) → (n : ℕ) × Reached R a T i (at .top) n
-unfolding readNodes closedTo size
-sprouted-sibling R a T tree nodes are zero {at} r within deep next =
-    absurd (omega (arith, level-open r, levels-left (at .top) (atStart .levels) .1))
-sprouted-sibling R a T tree nodes are (suc i) {at} r within deep next = go T (of-out R T tree .one-root) are
-  where
-    go : (F : Tree) → OneRoot F → AreNodes nodes F → (n : ℕ) × Reached R a F (suc i) (at .top) n
-    go nil one same = absurd (omega (arith, are-nodes-size nodes nil same))
-    go (node x below nil) one same =
-        let many : length nodes ≡ length (nodesOf (node x below nil)) = are-nodes-size nodes _ same ∙ sym (nodes-size (node x below nil)) in
-        new-sibling R a x below i (at .top) (omega arith) deep (omega (arith, last-read r within, same-depth nodes _ same i))
-        (λ less. omega (arith, next (omega arith), same-depth nodes _ same (suc i)))
-    go (node x below (node y other younger)) one same = absurd one
+  as-many : (T : Tree) → AreNodes nodes T → length nodes ≡ length (nodesOf T)
+  as-many T are = are-nodes-size nodes T are ∙ sym (nodes-size T)
+
+  -- each node of a tree is a sibling that is reached, at its depth
+  pub old-sibling : (T : Tree) → isTreeOf R T ≡ true → AreNodes nodes T → (i : ℕ) → i < length nodes
+      → (n : ℕ) × ReachedSibling R a T i (getD nodes i blankNode .depth) n
+  unfolding size
+  old-sibling T tree are i less = go T (of-out R T tree .one-root) are
+    where
+      go : (F : Tree) → OneRoot F → AreNodes nodes F → (n : ℕ) × ReachedSibling R a F i (getD nodes i blankNode .depth) n
+      go nil one same = absurd (omega (arith, are-nodes-size nodes nil same))
+      go (node x below nil) one same =
+          let many = as-many (node x below nil) same in
+          rw (same-depth (node x below nil) same i) (old-reached R a x below i (omega arith))
+      go (node x below (node y other younger)) one same = absurd one
+
+  -- and so is the child that a parent sprouts, where its level is open and the next node is not below it
+  pub sprouted-sibling : (T : Tree) → isTreeOf R T ≡ true → AreNodes nodes T → {lookup : Lookup} {k : ℕ} (i : ℕ) {at : Standing}
+      → AtSibling lookup k nodes i at → i ≤ length nodes → 0 < at .top → (i < length nodes → getD nodes i blankNode .depth < at .top)
+      → (n : ℕ) × ReachedSibling R a T i (at .top) n
+  unfolding readNodes closedTo size
+  sprouted-sibling T tree are zero {at} r within deep next =
+      absurd (omega (arith, level-open r, levels-left (at .top) (atStart .levels) .1))
+  sprouted-sibling T tree are (suc i) {at} r within deep next = go T (of-out R T tree .one-root) are
+    where
+      go : (F : Tree) → OneRoot F → AreNodes nodes F → (n : ℕ) × ReachedSibling R a F (suc i) (at .top) n
+      go nil one same = absurd (omega (arith, are-nodes-size nodes nil same))
+      go (node x below nil) one same =
+          let many = as-many (node x below nil) same in
+          new-reached R a x below i (at .top) (omega arith) deep (omega (arith, last-read r within, same-depth (node x below nil) same i))
+          (λ less. omega (arith, next (omega arith), same-depth (node x below nil) same (suc i)))
+      go (node x below (node y other younger)) one same = absurd one

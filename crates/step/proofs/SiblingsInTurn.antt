@@ -18,7 +18,7 @@ use Rattle.history.proofs.step.StepsJoined.{older-same, oldNode, begunFrom, noS
 use Rattle.history.proofs.names.NamesDistinct.{length-listing}
 use Rattle.tree.specs.inner.Nodes.{nodesFrom, nodesOf, blankNode}
 use Rattle.tree.specs.declared.nodes.Node.{Node as CodeNode}
-use Rattle.step.specs.RunningSet.{wasThere, oldOnes, Reached}
+use Rattle.step.specs.RunningSet.{wasThere, oldOnes, ReachedSibling}
 use Rattle.step.proofs.PassNode.{nodeAt}
 
 -- a sibling as the pass reaches it, with the union of its older siblings' labels: an old node, or one that is sprouted at a depth
@@ -59,17 +59,17 @@ old-first (suc n) [] = refl
 old-first (suc n) (old x set ∷ l) = ap (λ (nodes : List CodeNode). x ∷ nodes) (old-first n l)
 old-first (suc n) (new d set ∷ l) = old-first n l
 
--- one of them has depth d, and i old nodes stand before it
-abbrev Stands : List Sibling → ℕ → ℕ → Type 0
-Stands l i d = (n : ℕ) × (n < length l) × (length (oldNodes (take n l)) ≡ i) × (depthOf (getD l n (new 0 0)) ≡ d)
+-- one of them has depth d and is behind i old nodes
+abbrev Behind : List Sibling → ℕ → ℕ → Type 0
+Behind l i d = (n : ℕ) × (n < length l) × (length (oldNodes (take n l)) ≡ i) × (depthOf (getD l n (new 0 0)) ≡ d)
 
--- each old node does
-old-stands : (l : List Sibling) (i : ℕ) → i < length (oldNodes l) → Stands l i (getD (oldNodes l) i blankNode .depth)
+-- each old node is, at its depth
+old-behind : (l : List Sibling) (i : ℕ) → i < length (oldNodes l) → Behind l i (getD (oldNodes l) i blankNode .depth)
 unfolding oldNodes depthOf
-old-stands [] i h = absurd (omega arith)
-old-stands (old x set ∷ l) zero h = (0, omega arith, refl, refl)
-old-stands (old x set ∷ l) (suc i) h = let (n, less, many, deep) = old-stands l i (omega arith) in (suc n, omega arith, ap suc many, deep)
-old-stands (new d set ∷ l) i h = let (n, less, many, deep) = old-stands l i h in (suc n, omega arith, many, deep)
+old-behind [] i h = absurd (omega arith)
+old-behind (old x set ∷ l) zero h = (0, omega arith, refl, refl)
+old-behind (old x set ∷ l) (suc i) h = let (n, less, many, deep) = old-behind l i (omega arith) in (suc n, omega arith, ap suc many, deep)
+old-behind (new d set ∷ l) i h = let (n, less, many, deep) = old-behind l i h in (suc n, omega arith, many, deep)
 
 -- the depth of each is known from the one before it, where the first has depth c: a node's children come behind it, the child that it
 -- sprouts behind these, and then its younger siblings
@@ -78,25 +78,25 @@ InTurn c [] = c ≡ 0
 InTurn c (old x set ∷ siblings) = (x .depth ≡ c) × InTurn (suc c) siblings
 InTurn c (new d set ∷ siblings) = (d ≡ c) × (0 < c) × InTurn (c - 1) siblings
 
--- so behind an old node one stands at each depth that is at most that of its children and more than that of the next old node
-new-stands : (c : ℕ) (l : List Sibling) → InTurn c l → (i d : ℕ) → 0 < d → i ≤ length (oldNodes l)
+-- so behind an old node there is one at each depth that is at most that of its children and more than that of the next old node
+new-behind : (c : ℕ) (l : List Sibling) → InTurn c l → (i d : ℕ) → 0 < d → i ≤ length (oldNodes l)
     → (i ≡ 0 → d ≤ c) → ((j : ℕ) → i ≡ suc j → d ≤ suc (getD (oldNodes l) j blankNode .depth))
-    → (i < length (oldNodes l) → getD (oldNodes l) i blankNode .depth < d) → Stands l i d
+    → (i < length (oldNodes l) → getD (oldNodes l) i blankNode .depth < d) → Behind l i d
 unfolding oldNodes depthOf
-new-stands c [] end i d low within first last next = absurd (omega (arith, first (omega arith)))
-new-stands c (old x set ∷ l) (here, on) zero d low within first last next = absurd (omega (arith, first refl, next (omega arith)))
-new-stands c (old x set ∷ l) (here, on) (suc i) d low within first last next =
-    let (n, less, many, deep) = new-stands (suc c) l on i d low (omega arith) (λ e. omega (arith, last 0 (ap suc e)))
+new-behind c [] end i d low within first last next = absurd (omega (arith, first (omega arith)))
+new-behind c (old x set ∷ l) (here, on) zero d low within first last next = absurd (omega (arith, first refl, next (omega arith)))
+new-behind c (old x set ∷ l) (here, on) (suc i) d low within first last next =
+    let (n, less, many, deep) = new-behind (suc c) l on i d low (omega arith) (λ e. omega (arith, last 0 (ap suc e)))
     (λ j e. last (suc j) (ap suc e)) (λ h. next (omega arith)) in
     (suc n, omega arith, ap suc many, deep)
-new-stands c (new e set ∷ l) (here, some, on) zero d low within first last next =
-    go (ℕ-discrete d c) (λ other. new-stands (c - 1) l on 0 d low (omega arith) (λ h. omega (arith, first refl)) last next)
+new-behind c (new e set ∷ l) (here, some, on) zero d low within first last next =
+    go (ℕ-discrete d c) (λ other. new-behind (c - 1) l on 0 d low (omega arith) (λ h. omega (arith, first refl)) last next)
   where
-    go : Dec (d ≡ c) → ((d ≡ c → ⊥) → Stands l 0 d) → Stands (new e set ∷ l) 0 d
+    go : Dec (d ≡ c) → ((d ≡ c → ⊥) → Behind l 0 d) → Behind (new e set ∷ l) 0 d
     go (yes same) down = (0, omega arith, refl, here ∙ sym same)
     go (no other) down = let (n, less, many, deep) = down other in (suc n, omega arith, many, deep)
-new-stands c (new e set ∷ l) (here, some, on) (suc i) d low within first last next =
-    let (n, less, many, deep) = new-stands (c - 1) l on (suc i) d low within (λ h. absurd (omega arith)) last next in
+new-behind c (new e set ∷ l) (here, some, on) (suc i) d low within first last next =
+    let (n, less, many, deep) = new-behind (c - 1) l on (suc i) d low within (λ h. absurd (omega arith)) last next in
     (suc n, omega arith, many, deep)
 
 -- as many stand before one of them as were there among the nodes by number
@@ -251,8 +251,8 @@ module _ (R : Rule) (a : ℕ) where
     unfolding setOf
     sibling-set n = sym (List·getD-map setOf siblings n (new 0 0)) ∙ ap (λ (l : List ℕ). getD l n 0) siblings-sets
 
-    -- so one that stands there is reached
-    reached : (i d : ℕ) → Stands siblings i d → (n : ℕ) × Reached R a T i d n
+    -- so one that is behind i old nodes is reached
+    reached : (i d : ℕ) → Behind siblings i d → (n : ℕ) × ReachedSibling R a T i d n
     reached i d (n, less, many, deep) = (
       n,
       record {
@@ -263,13 +263,13 @@ module _ (R : Rule) (a : ℕ) where
     )
 
     -- each old node is a sibling that is reached, at its depth
-    pub old-sibling : (i : ℕ) → i < length (nodesOf T) → (n : ℕ) × Reached R a T i (getD (nodesOf T) i blankNode .depth) n
-    old-sibling i h = reached i _ (rw old-siblings at (old-stands siblings i (rw old-siblings h)))
+    pub old-reached : (i : ℕ) → i < length (nodesOf T) → (n : ℕ) × ReachedSibling R a T i (getD (nodesOf T) i blankNode .depth) n
+    old-reached i h = reached i _ (rw old-siblings at (old-behind siblings i (rw old-siblings h)))
 
     -- and one is reached behind it at each depth that is at most that of its children and more than that of the next old node
-    pub new-sibling : (i d : ℕ) → suc i ≤ length (nodesOf T) → 0 < d → d ≤ suc (getD (nodesOf T) i blankNode .depth)
-        → (suc i < length (nodesOf T) → getD (nodesOf T) (suc i) blankNode .depth < d) → (n : ℕ) × Reached R a T (suc i) d n
+    pub new-reached : (i d : ℕ) → suc i ≤ length (nodesOf T) → 0 < d → d ≤ suc (getD (nodesOf T) i blankNode .depth)
+        → (suc i < length (nodesOf T) → getD (nodesOf T) (suc i) blankNode .depth < d) → (n : ℕ) × ReachedSibling R a T (suc i) d n
     unfolding siblingsOf
-    new-sibling i d within low last next =
-        reached (suc i) d (new-stands 0 siblings (refl, rw append-nil at (turns-from 0 0 0 below [] refl)) (suc i) d low (rw old-siblings within)
+    new-reached i d within low last next =
+        reached (suc i) d (new-behind 0 siblings (refl, rw append-nil at (turns-from 0 0 0 below [] refl)) (suc i) d low (rw old-siblings within)
         (λ e. absurd (omega arith)) (λ j e. let same : i ≡ j = omega arith in rw (old-siblings, ← same) last) (rw old-siblings next))

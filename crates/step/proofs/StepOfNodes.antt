@@ -12,7 +12,7 @@ use lib.Dec.{eqb, ltb}
 use lib.ListN.{List·getD-eq-default, length, getD}
 use lib.Pow.{pow-pos}
 use Rattle.rule.specs.Limits.{maxSets}
-use Rattle.rule.specs.Rule.{Rule}
+use Rattle.rule.specs.Rule.{Rule, successors, successorsIn}
 use Rattle.rule.specs.inner.Lookup.{Lookup, letterLookup, lookUp}
 use Rattle.rule.specs.inner.Padded.{padded}
 use Rattle.rule.proofs.LookupLaws.{look-up-successors, look-up-successors-in}
@@ -112,9 +112,20 @@ sets-fit R nodes T h tree are i = go (decLt i (length nodes))
 
 -- ONE LETTER
 
+-- what the letter's look-up gives: the images of a set under all transitions, and under those of one accepting set
+module _ {R : Rule} (limits : WithinLimits R) (a : ℕ) where
+  abbrev pub images : ℕ → ℕ → ℕ
+  images = lookUp (letterLookup (getD (padded (R .grid)) a []))
+
+  pub images-all : (s : ℕ) → images 0 s ≡ successors R a s
+  images-all = look-up-successors R (limits .well) (limits .states) a
+
+  pub images-in : (i s : ℕ) → 1 ≤ i → i ≤ R .sets → images i s ≡ successorsIn R i a s
+  images-in i s low high = look-up-successors-in R (limits .well) (limits .states) i a s low (omega (arith, limits .sets))
+
 module _ {R : Rule} (limits : WithinLimits R) (a : ℕ) (T : Tree) (tree : isTreeOf R T ≡ true) where
   abbrev E : ℕ → ℕ → ℕ
-  E = lookUp (letterLookup (getD (padded (R .grid)) a []))
+  E = images limits a
 
   abbrev whole : Pass
   whole = closedTo 0 (readNodes E (R .sets) 0 atStart (nodesOf T))
@@ -133,11 +144,9 @@ module _ {R : Rule} (limits : WithinLimits R) (a : ℕ) (T : Tree) (tree : isTre
     where
       go : (F : Tree) → oldNumber F sprouted ≡ noNode → OneRoot F → Fits (R .sets) F → size F < noNode
           → Gives (oldNumber F) (closedTo 0 (readNodes E (R .sets) 0 atStart (nodesOf F))) (fiveSteps R a F)
-      go nil e one fits small = pass-dead R a E (oldNumber nil) e (look-up-successors R (limits .well) (limits .states) a)
-          (λ i s low high. look-up-successors-in R (limits .well) (limits .states) i a s low (omega (arith, limits .sets)))
+      go nil e one fits small = pass-dead R a E (oldNumber nil) e (images-all limits a) (images-in limits a)
       go (node x below nil) e one fits small = let (root, inner) = tree-numbered x below small in
-          pass-root R a E (oldNumber (node x below nil)) e (look-up-successors R (limits .well) (limits .states) a)
-          (λ i s low high. look-up-successors-in R (limits .well) (limits .states) i a s low (omega (arith, limits .sets))) x below fits root inner
+          pass-root R a E (oldNumber (node x below nil)) e (images-all limits a) (images-in limits a) x below fits root inner
       go (node x below (node y other younger)) e one fits small = absurd one
 
   -- the maps have no number past the last node's

@@ -24,11 +24,11 @@ oldOnes (x ∷ nodes) = cond (wasThere (x .origin)) (suc (oldOnes nodes)) (oldOn
 
 -- The siblings are the nodes after steps 1 and 2, sprouted ones among them; the root is by itself. Once i old nodes are read, the sibling
 -- that is reached at depth d is the node n of that depth that i old nodes stand before.
-pub record Reached (R : Rule) (a : ℕ) (T : Tree) (i d n : ℕ) : Type 0 where
+pub record ReachedSibling (R : Rule) (a : ℕ) (T : Tree) (i d n : ℕ) : Type 0 where
   pub there : n < size (twoSteps R a T)
   pub behind : oldOnes (take n (listing (twoSteps R a T))) ≡ i
   pub deep : length (getD (names (twoSteps R a T)) n []) ≡ d
 
 -- "when a sibling is reached, this set is the union of its older siblings' labels"
 abbrev pub RunningSet : Rule → ℕ → Tree → ℕ → ℕ → ℕ → Type 0
-RunningSet R a T i d set = (n : ℕ) → Reached R a T i d n → OlderUnion R a T n set
+RunningSet R a T i d set = (n : ℕ) → ReachedSibling R a T i d n → OlderUnion R a T n set
