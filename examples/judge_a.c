@@ -21,9 +21,7 @@ int main(void)
     }
     printf("tree judge: %s, entry %llu, period %llu\n", tree.verdict ? "yes" : "no", (unsigned long long)tree.entry,
            (unsigned long long)tree.period);
-    if (tree.length == SUTHRELDO_MET_NAME)
-        printf("node: none, the rule is met\n");
-    else if (tree.length != SUTHRELDO_NO_NAME) {
+    if (tree.length != SUTHRELDO_NO_NAME) {
         printf("node:");
         for (int i = 0; i < tree.length; i++)
             printf(" %d", names[i]);

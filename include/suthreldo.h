@@ -9,8 +9,8 @@
  * may be read there, and written where the parameter is not const; a buffer that is written overlaps no other argument.
  *
  * What memory a call needs: what it is lent, and the stack. A call works on the stack, and on nothing of its own besides. Each comment
- * says how many bytes of stack the call was seen to take at most (measured on x86-64, the largest tables and the longest walks among others,
- * as docs/PERFORMANCE.md says; nothing is proved of it). A board that lends 256 scratch bytes must have the stack of the plain judge, too.
+ * says how many bytes of stack the call was seen to take at most (measured on x86-64 with the largest tables and the longest walks, as
+ * docs/PERFORMANCE.md says; nothing is proved of it). A board that lends 256 scratch bytes must have the stack of the plain judge, too.
  * Two calls of the library are there from Rattle only: `judge_both` takes 7,152 bytes of stack, `judge_job` 7,632. */
 #ifndef SUTHRELDO_H
 #define SUTHRELDO_H
@@ -22,11 +22,9 @@
 extern "C" {
 #endif
 
-/* The version of this interface. The first number changes when a call, a struct or what an answer can be does, the second when a call is
- * added. Since 3.0 a set byte may have bit 7, and the tree judge's `length` may be 254 on yes: see that it is at most SUTHRELDO_NAME before
- * so many numbers are taken from `names`. */
-#define SUTHRELDO_VERSION_MAJOR 3
-#define SUTHRELDO_VERSION_MINOR 0
+/* The version of this interface. The first number changes when a call or a struct does, the second when a call is added. */
+#define SUTHRELDO_VERSION_MAJOR 2
+#define SUTHRELDO_VERSION_MINOR 2
 
 /* The numbers of refusals, in the order in which they are asked. */
 #define SUTHRELDO_ACCEPTED 0
@@ -34,7 +32,7 @@ extern "C" {
 #define SUTHRELDO_NUMBERS_OUT_OF_RANGE 2 /* n, m or k is out of range */
 #define SUTHRELDO_START_MISFIT 3        /* the starting map is empty or has a bit from n up */
 #define SUTHRELDO_CELL_MISSING 4        /* a cell byte is not there */
-#define SUTHRELDO_CELL_MISFIT 5         /* a map has a bit from n up, or a set byte one from k to 6 */
+#define SUTHRELDO_CELL_MISFIT 5         /* a map has a bit from n up, or a set byte one from k up */
 #define SUTHRELDO_TABLE_TOO_LONG 6      /* bytes stand behind the last cell */
 #define SUTHRELDO_WALK_LENGTH 7         /* u or v has no allowed length */
 #define SUTHRELDO_LETTER_OUT_OF_RANGE 8 /* a letter is not below m */
@@ -50,13 +48,11 @@ extern "C" {
 #define SUTHRELDO_TABLE 1156     /* bytes of the longest table */
 #define SUTHRELDO_GRID 1024      /* bytes of the largest grid */
 #define SUTHRELDO_NO_TRANSITION 255 /* a grid's byte for no transition */
-#define SUTHRELDO_MARK 128       /* bit 7 of a set byte, and of a grid's byte: the transition meets the rule for good; it is no set */
 
 /* What the lent buffers must hold. */
 #define SUTHRELDO_RECORD 17      /* bytes for a tree's record */
 #define SUTHRELDO_NAME 7         /* bytes for a node's name */
 #define SUTHRELDO_NO_NAME 255    /* name length where the tree judge says no */
-#define SUTHRELDO_MET_NAME 254   /* name length where the rule is met: yes, and no node is named */
 #define SUTHRELDO_SCRATCH 256    /* scratch bytes of the plain judge */
 
 typedef struct { uint8_t number; size_t states, letters, sets; uint16_t start; } SuthreldoRead;
@@ -69,7 +65,7 @@ typedef struct { uint8_t number, same; } SuthreldoSame;
 typedef struct { uint8_t number; uint16_t next, reached[SUTHRELDO_SETS]; } SuthreldoSuccessors;
 
 /* Reads a rule table into grid bytes. Questions 1 to 6, then 10. Accepted: n, m, k and the map of starting states; the first
- * m·n·n bytes of `grid` are the rule's grid, the rest is unchanged. Stack: 2,440 bytes. */
+ * m·n·n bytes of `grid` are the rule's grid, the rest is unchanged. Stack: 2,424 bytes. */
 SuthreldoRead suthreldo_read(const uint8_t *table, size_t table_length, uint8_t *grid, size_t grid_length);
 
 /* Writes a rule's numbers and grid as a table. Questions 2, 3 and 11, then 10. Accepted: the table's length; its bytes stand at
@@ -80,19 +76,17 @@ SuthreldoWrite suthreldo_write(size_t n, size_t m, size_t k, uint16_t start, con
 /* Where some states lead under a letter, and by which accepting sets. Questions 1 to 6, then 8. `states` is a map, bit q for state q; every
  * number is allowed, and bits from n up add nothing. Accepted: `next` is the map of the states r to which some state of `states` has a
  * transition under the letter; reached[i - 1], for i from 1 to k, is the map of those r to which one of these transitions belongs to set i;
- * reached has 0 for the sets from k + 1 up. A marked transition leads to its next state as any other does, and its mark counts for no set.
- * So a letter can serve set i just where, with 0xFFFF for `states`, reached[i - 1] is not 0.
- * Stack: 2,616 bytes. */
+ * reached has 0 for the sets from k + 1 up. So a letter can serve set i just where, with 0xFFFF for `states`, reached[i - 1] is not 0.
+ * Stack: 2,600 bytes. */
 SuthreldoSuccessors suthreldo_successors(const uint8_t *table, size_t table_length, uint8_t letter, uint16_t states);
 
 /* The record of a table's starting tree. Questions 1 to 6, then 10. Accepted: the record's length; exactly the record is
- * written to the front of `buffer`, the rest unchanged. Stack: 2,280 bytes. */
+ * written to the front of `buffer`, the rest unchanged. Stack: 2,264 bytes. */
 SuthreldoStart suthreldo_start(const uint8_t *table, size_t table_length, uint8_t *buffer, size_t buffer_length);
 
 /* One letter on the tree of a record. Questions 1 to 6, 8, 9, then 10. Accepted: the length of the next tree's record, which is
  * written to the front of `buffer`, the rest unchanged, and the maps of accepting and of stable nodes by old node number (bit i for
- * node i; only the low eight bits can stand). Where the root's label has a marked transition under the letter the next tree is the met tree:
- * record 00 FF, both maps 0. That record is accepted on every table, and every letter leads from it to itself. Stack: 2,768 bytes. */
+ * node i; only the low eight bits can stand). Stack: 2,768 bytes. */
 SuthreldoStep suthreldo_step(const uint8_t *table, size_t table_length, uint8_t letter, const uint8_t *record, size_t record_length,
                              uint8_t *buffer, size_t buffer_length);
 
@@ -101,9 +95,8 @@ SuthreldoStep suthreldo_step(const uint8_t *table, size_t table_length, uint8_t 
  * length; and the tree judge writes the same name. */
 
 /* The tree judge. Questions 1 to 8, then 10. Accepted: entry and period of the first repeated tree at a round end.
- * verdict 1 (yes): some endless run of the rule over u and then v for ever goes through every accepting set infinitely often, or some finite
- * run over a beginning of that ends with a marked transition. In the latter case the repeated tree is met: `length` is 254 and `names` is
- * unchanged. Else `length` numbers of the first witnessing node's name stand at the front of `names`, the rest is unchanged.
+ * verdict 1 (yes): some endless run of the rule over u and then v for ever goes through every accepting set infinitely often;
+ * `length` numbers of the first witnessing node's name stand at the front of `names`, the rest is unchanged.
  * verdict 0 (no): there is no such run; `length` is 255 and `names` is unchanged.
  * Stack: 8,248 bytes. Time: mostly under a millisecond; the longest known is 1 to 3 seconds (docs/PERFORMANCE.md). */
 SuthreldoTree suthreldo_tree_judge(const uint8_t *table, size_t table_length, const uint8_t *u, size_t u_length,
@@ -111,7 +104,7 @@ SuthreldoTree suthreldo_tree_judge(const uint8_t *table, size_t table_length, co
 
 /* The plain judge, which builds no tree. Questions 1 to 8, then 10. Accepted: verdict 1 exactly when there is such a run,
  * 0 exactly when there is none; the first 256 bytes of `scratch` are left zero, those past them unchanged.
- * Stack: 6,792 bytes. Time: linear in the walk's letters. */
+ * Stack: 6,776 bytes. Time: linear in the walk's letters. */
 SuthreldoPlain suthreldo_plain_judge(const uint8_t *table, size_t table_length, const uint8_t *u, size_t u_length,
                                      const uint8_t *v, size_t v_length, uint8_t *scratch, size_t scratch_length);
 

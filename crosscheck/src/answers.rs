@@ -1,11 +1,6 @@
 //! The answers of the eight calls, and the calls as traits, so that the
 //! reference, the tuned code and the library can stand for each other.
 
-/// The name's length on no.
-pub const NO_NAME: u8 = 255;
-/// The name's length where the repeated tree is met.
-pub const MET_NAME: u8 = 254;
-
 macro_rules! answer {
     ($(#[$text:meta])* $name:ident { $($field:ident: $kind:ty),* }) => {
         $(#[$text])*
@@ -43,8 +38,7 @@ answer!(
     StepAnswer { written: usize, accepting: u16, stable: u16 }
 );
 answer!(
-    /// Of the tree judge. On no, and where the tree is met, the name's length
-    /// is that of no name.
+    /// Of the tree judge. The name's length is 255 on no.
     TreeAnswer { verdict: u8, entry: u64, period: u64, length: u8 }
 );
 answer!(
@@ -62,10 +56,10 @@ answer!(
 );
 
 impl TreeAnswer {
-    /// The node's name, in front of the lent bytes; none unless yes by a node.
+    /// The node's name, in front of the lent bytes; none unless yes.
     pub fn name<'a>(&self, names: &'a [u8]) -> &'a [u8] {
-        let by_node = (self.number, self.verdict) == (0, 1) && self.length != MET_NAME;
-        let length = if by_node { self.length.into() } else { 0 };
+        let yes = (self.number, self.verdict) == (0, 1);
+        let length = if yes { self.length.into() } else { 0 };
         names.get(..length).unwrap_or(&[])
     }
 }

@@ -1,7 +1,6 @@
 //! Times: the library against the tuned judges, on the same inputs, in one
 //! run, by turns; the best of several repetitions counts.
 
-mod marks;
 mod never;
 mod pairs;
 
@@ -173,7 +172,7 @@ fn letters(which: Which, walks: &[Walk]) -> f64 {
     walks.iter().map(of).sum::<u64>() as f64 / walks.len() as f64
 }
 
-/// The letters the tuned judge does read.
+/// The letters the tuned judge does step.
 fn stepped(which: Which, walks: &[Walk]) -> f64 {
     if which == Which::Plain {
         return letters(which, walks);
@@ -222,7 +221,6 @@ pub fn bench(folder: Option<&str>, slow: bool) -> bool {
     let mut random = Random::new(crate::SEED);
     let mut lists = vec![short_walks(&mut random), long_walks(&mut random)];
     lists.push(uncut_walks(&lists[1]));
-    lists.extend(marks::marked_walks(&mut random));
     if let Some(folder) = folder {
         let hard = hard_walks(folder, false);
         lists.push(never::never_alone_walks(&hard));
@@ -231,7 +229,7 @@ pub fn bench(folder: Option<&str>, slow: bool) -> bool {
             lists.push(hard_walks(folder, true));
         }
     }
-    println!("per call: letters of the walk, letters the tuned judge reads, best time of");
+    println!("per call: letters of the walk, letters the tuned judge steps, best time of");
     println!("up to {REPETITIONS} in nanoseconds; ratio library / tuned; million letters a second");
     println!(
         "{:5} {:16} {:>5} {:>11} {:>11} {:>13} {:>13} {:>7} {:>9} {:>9}",

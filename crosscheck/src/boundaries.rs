@@ -1,14 +1,13 @@
 //! Boundary cases: for each call and each question that applies to it, the
 //! last accepted and the first refused input; walks that are just the same, or
-//! just not; sets of states, up to all and beyond; and marks that are just in
-//! reach, or just not. The answers are the reference's. A case at a boundary that
-//! the stored calls already have is left out.
+//! just not; and sets of states, up to all and beyond. The answers are the
+//! reference's. A case at a boundary that the stored calls already have is left
+//! out.
 
 mod buffers;
 mod examples;
 mod grids;
 mod line;
-mod marks;
 mod records;
 mod spellings;
 mod successors;
@@ -80,7 +79,7 @@ fn table(n: u8, m: u8, k: u8, start: u8, cell: &[u8]) -> Vec<u8> {
     with(&[n, m, k, start], &cell.repeat(usize::from(n) * usize::from(m)))
 }
 
-/// Every boundary: the examples, then question by question, then the marks.
+/// Every boundary: the examples, then question by question.
 fn all() -> Vec<Boundary> {
     let mut boundaries = examples::boundaries();
     boundaries.extend(tables::boundaries());
@@ -90,7 +89,6 @@ fn all() -> Vec<Boundary> {
     boundaries.extend(buffers::boundaries());
     boundaries.extend(spellings::boundaries());
     boundaries.extend(successors::boundaries());
-    boundaries.extend(marks::boundaries());
     boundaries
 }
 

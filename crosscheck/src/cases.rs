@@ -2,7 +2,7 @@
 
 use crate::answers::{
     Calls, Judges, Numbers, PlainAnswer, ReadAnswer, SameAnswer, StartAnswer, StepAnswer,
-    SuccessorsAnswer, TreeAnswer, WriteAnswer, MET_NAME,
+    SuccessorsAnswer, TreeAnswer, WriteAnswer,
 };
 use crate::hex;
 use crate::reference::{NAME_LENGTH, RECORD_LENGTH, SCRATCH_LENGTH};
@@ -64,16 +64,6 @@ impl Answer {
             Answer::Plain(answer) => answer.number,
             Answer::Same(answer) => answer.number,
             Answer::Successors(answer) => answer.number,
-        }
-    }
-
-    /// Does a step lead to the met tree, or is a walk judged by it?
-    pub fn is_met(&self) -> bool {
-        match self {
-            // No other record has two bytes.
-            Answer::Step(answer) => answer.written == 2,
-            Answer::Tree(answer) => answer.length == MET_NAME,
-            _ => false,
         }
     }
 

@@ -7,7 +7,6 @@ use crate::checks::{self, NUMBERS};
 use crate::ffi;
 use crate::inputs;
 use crate::lending::Lending;
-use crate::marked;
 use crate::pairs;
 use crate::random::Random;
 use crate::reference::Reference;
@@ -18,12 +17,7 @@ use std::time::Instant;
 const CASES: [usize; KINDS.len()] =
     [40_000, 40_000, 20_000, 62_000, 24_000, 14_000, 30_000, 20_000];
 
-/// How many more with marks.
-const MARKED_CASES: [usize; KINDS.len()] =
-    [20_000, 20_000, 10_000, 42_000, 24_000, 14_000, 0, 20_000];
-
-/// How many walks of each judge when the tuned code is compared, and as many
-/// more with marks.
+/// How many walks of each judge when the tuned code is compared.
 const TUNED_CASES: [usize; KINDS.len()] = [0, 0, 0, 0, 40_000, 20_000, 0, 0];
 
 /// Of a walk's cases, one in so many is at the limit of length.
@@ -133,8 +127,6 @@ struct Count {
     differences: usize,
     /// By refusal number; 0 for accepted.
     numbers: [usize; NUMBERS],
-    /// The steps to the met tree, and the walks judged by it.
-    met: usize,
 }
 
 /// Whose answers are held against the reference's.
@@ -148,7 +140,6 @@ fn check(random: &mut Random, case: &Case, subject: Subject, count: &mut Count) 
     let answer = subject(case, found.lent());
     count.cases += 1;
     count.numbers[right.number() as usize] += 1;
-    count.met += usize::from(right.is_met());
     if answer == right && found == expected {
         return;
     }
@@ -161,10 +152,9 @@ fn check(random: &mut Random, case: &Case, subject: Subject, count: &mut Count) 
     }
 }
 
-/// Which random numbers a call has. The comparison of walks, the look-up of
-/// successors and the cases with marks came later. They have numbers of their
-/// own, so that a seed still gives the other calls the inputs it always gave
-/// them.
+/// Which random numbers a call has. The comparison of walks and the look-up of
+/// successors came later. They have numbers of their own, so that a seed still
+/// gives the other calls the inputs it always gave them.
 fn stream(kind: usize) -> usize {
     match KINDS[kind] {
         "same" => 1,
@@ -173,17 +163,11 @@ fn stream(kind: usize) -> usize {
     }
 }
 
-/// The streams of random numbers, those for cases with marks or the others.
-fn streams(seed: u64, with_marks: bool) -> [Random; 3] {
-    let seed = seed ^ u64::from(with_marks) << 62;
-    [seed, !seed, seed ^ 1 << 63].map(Random::new)
-}
-
 /// All cases of a list, in a mixed order; says whether there was none that
 /// differs.
-fn run(seed: u64, cases: &[usize; KINDS.len()], with_marks: bool, subject: Subject) -> bool {
+fn run(seed: u64, cases: &[usize; KINDS.len()], subject: Subject) -> bool {
     let begun = Instant::now();
-    let mut streams = streams(seed, with_marks);
+    let mut streams = [seed, !seed, seed ^ 1 << 63].map(Random::new);
     let mut counts = [Count::default(); KINDS.len()];
     let rounds = cases.iter().max().copied().unwrap_or(0);
     for round in 0..rounds {
@@ -191,10 +175,7 @@ fn run(seed: u64, cases: &[usize; KINDS.len()], with_marks: bool, subject: Subje
             // Spreads each kind evenly over the rounds.
             if (round + 1) * cases[kind] / rounds > round * cases[kind] / rounds {
                 let random = &mut streams[stream(kind)];
-                let mut case = random_case(random, kind);
-                if with_marks {
-                    case = marked::case(random, case);
-                }
+                let case = random_case(random, kind);
                 check(random, &case, subject, &mut counts[kind]);
             }
         }
@@ -210,8 +191,7 @@ fn report(counts: &[Count; KINDS.len()]) {
             continue;
         }
         print!("{name:10} {:6} cases {:3} differences", count.cases, count.differences);
-        print!("   {}", checks::by_number(&count.numbers));
-        println!("{}", if count.met == 0 { String::new() } else { format!("; met {}", count.met) });
+        println!("   {}", checks::by_number(&count.numbers));
     }
     let cases: usize = counts.iter().map(|count| count.cases).sum();
     let differences: usize = counts.iter().map(|count| count.differences).sum();
@@ -224,20 +204,14 @@ pub fn compare(seed: u64) -> bool {
         eprintln!("compare needs the library: build with --features linked");
         return false;
     };
-    let answers = |case: &Case, lent: &mut [u8]| case.answered_by(library, lent);
-    let well = run(seed, &CASES, false, &answers);
-    println!("with marks:");
-    run(seed, &MARKED_CASES, true, &answers) && well
+    run(seed, &CASES, &|case, lent| case.answered_by(library, lent))
 }
 
 /// The tuned judges against the reference.
 pub fn compare_tuned(seed: u64) -> bool {
     let against = |name: &str, judges: &dyn Judges| {
-        let answers = |case: &Case, lent: &mut [u8]| case.judged_by(judges, lent);
         println!("{name}:");
-        let well = run(seed, &TUNED_CASES, false, &answers);
-        println!("{name}, with marks:");
-        run(seed, &TUNED_CASES, true, &answers) && well
+        run(seed, &TUNED_CASES, &|case, lent| case.judged_by(judges, lent))
     };
     let tuned = against("tuned", &Tuned);
     let relations = against("tuned, rows and relations", &OtherWays);

@@ -4,7 +4,6 @@
 use crate::answers::Numbers;
 use crate::cases::Spelling;
 use crate::inputs;
-use crate::marks;
 use crate::random::Random;
 use crate::reference::Rule;
 
@@ -37,14 +36,11 @@ pub fn used_and_unused(rule: &Rule, (u, v): &Spelling) -> (Vec<usize>, Vec<usize
 }
 
 /// Gives fresh cells to some of these letters, to one of them at least.
-fn edit(random: &mut Random, rule: &mut Rule, letters: &[usize], with_marks: bool) {
+fn edit(random: &mut Random, rule: &mut Rule, letters: &[usize]) {
     let &mut Rule { states, letters: all, sets, start, .. } = rule;
     let numbers = Numbers { states, letters: all, sets, start: start.into() };
     let grid = inputs::grid(random, numbers);
-    let mut fresh = Rule::from_grid(numbers, &grid).expect("a good grid");
-    if with_marks {
-        marks::mark_any(random, &mut fresh);
-    }
+    let fresh = Rule::from_grid(numbers, &grid).expect("a good grid");
     let certain = random.pick(letters);
     let edited_in = random.pick(&[1, 2, 4]);
     for letter in letters {
@@ -54,12 +50,11 @@ fn edit(random: &mut Random, rule: &mut Rule, letters: &[usize], with_marks: boo
     }
 }
 
-/// Another rule: at least one of these letters has other cells, which have
-/// marks or not.
-pub fn edited(random: &mut Random, rule: &Rule, letters: &[usize], with_marks: bool) -> Rule {
+/// Another rule: at least one of these letters has other cells.
+pub fn edited(random: &mut Random, rule: &Rule, letters: &[usize]) -> Rule {
     let mut edited = rule.clone();
     while edited == *rule {
-        edit(random, &mut edited, letters, with_marks);
+        edit(random, &mut edited, letters);
     }
     edited
 }
@@ -80,7 +75,7 @@ mod tests {
             if unused.is_empty() {
                 continue;
             }
-            let edited = edited(&mut random, &rule, &unused, true).table();
+            let edited = edited(&mut random, &rule, &unused).table();
             let read = Rule::read(&edited).expect("a good table");
             assert_eq!(edited[..4], table[..4]);
             assert!(used.iter().all(|letter| read.moves[*letter] == rule.moves[*letter]));

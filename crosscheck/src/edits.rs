@@ -2,7 +2,7 @@
 //! use: each judge's call must give the same under both. With other cells for
 //! a used letter it may give something else, which is counted.
 
-use crate::answers::{Judges, PlainAnswer, TreeAnswer, MET_NAME};
+use crate::answers::{Judges, PlainAnswer, TreeAnswer};
 use crate::cases::{shown_spelling, Spelling};
 use crate::checks::{self, Checks, NUMBERS};
 use crate::editing;
@@ -10,14 +10,12 @@ use crate::ffi;
 use crate::hex;
 use crate::inputs;
 use crate::lending::{Lending, Lent};
-use crate::marks;
 use crate::random::Random;
 use crate::reference::{Rule, NAME_LENGTH, SCRATCH_LENGTH};
 use std::time::Instant;
 
-/// How many walks, and how many more with marks in their tables.
+/// How many walks.
 const ROUNDS: usize = 200_000;
-const MARKED_ROUNDS: usize = 100_000;
 
 /// What is held against what.
 enum Check {
@@ -40,11 +38,10 @@ const CHECKS: [&str; 5] = ["tree", "node", "names", "plain", "scratch"];
 struct Counts {
     checks: Checks<{ CHECKS.len() }>,
     pairs: usize,
-    /// Of the pairs, those with a yes, with a node below the root, with the met
-    /// tree, and with tables of different lengths.
+    /// Of the pairs, those with a yes, with a node below the root, and with
+    /// tables of different lengths.
     yes: usize,
     below_root: usize,
-    met: usize,
     lengths: usize,
     /// Of the pairs, by the refusal number of each judge; 0 for accepted.
     tree: [usize; NUMBERS],
@@ -63,7 +60,6 @@ impl Counts {
             pairs: 0,
             yes: 0,
             below_root: 0,
-            met: 0,
             lengths: 0,
             tree: [0; NUMBERS],
             plain: [0; NUMBERS],
@@ -78,7 +74,6 @@ impl Counts {
         self.pairs += 1;
         self.yes += usize::from(one.tree.verdict == 1);
         self.below_root += usize::from(!one.name.is_empty());
-        self.met += usize::from(one.tree.length == MET_NAME);
         self.lengths += usize::from(one.table.len() != other.table.len());
         self.tree[usize::from(one.tree.number)] += 1;
         self.plain[usize::from(one.plain.number)] += 1;
@@ -86,8 +81,8 @@ impl Counts {
 
     fn report(&self) {
         self.checks.report();
-        let Counts { pairs, yes, below_root, met, lengths, none_unused, .. } = self;
-        print!("{pairs} pairs, {yes} yes, {below_root} below the root, {met} met, ");
+        let Counts { pairs, yes, below_root, lengths, none_unused, .. } = self;
+        print!("{pairs} pairs, {yes} yes, {below_root} below the root, ");
         println!("{lengths} edited tables of another length");
         println!("tree judge: {}", checks::by_number(&self.tree));
         println!("plain judge: {}", checks::by_number(&self.plain));
@@ -101,7 +96,7 @@ struct Judged {
     table: Vec<u8>,
     tree: TreeAnswer,
     names: Lent,
-    /// The node's name; empty on no, and if the tree is met.
+    /// The node's name; empty on no.
     name: Vec<u8>,
     plain: PlainAnswer,
     scratch: Lent,
@@ -158,39 +153,37 @@ fn check_judged(walk: &Spelling, one: &Judged, other: &Judged, counts: &mut Coun
 
 /// One walk under a table, under the table with unused letters edited, and
 /// under the table with a used letter edited. The lent lengths stay.
-fn check_walk(random: &mut Random, judges: &dyn Judges, with_marks: bool, counts: &mut Counts) {
-    let mut rule = Rule::read(&inputs::mixed_table(random)).expect("a good table");
+fn check_walk(random: &mut Random, judges: &dyn Judges, counts: &mut Counts) {
+    let table = inputs::mixed_table(random);
+    let rule = Rule::read(&table).expect("a good table");
     let walk = editing::walk(random, rule.letters);
-    if with_marks {
-        marks::mark_for(random, &mut rule, &walk.0, &walk.1);
-    }
     let (used, unused) = editing::used_and_unused(&rule, &walk);
     let needed = [NAME_LENGTH, SCRATCH_LENGTH];
     let lengths = needed.map(|length| Lending::random_length(random, length));
-    let one = judged(random, judges, rule.table(), &walk, lengths);
+    let one = judged(random, judges, table, &walk, lengths);
     if unused.is_empty() {
         counts.none_unused += 1;
     } else {
-        let edited = editing::edited(random, &rule, &unused, with_marks).table();
+        let edited = editing::edited(random, &rule, &unused).table();
         let other = judged(random, judges, edited, &walk, lengths);
         check_judged(&walk, &one, &other, counts);
     }
     if !used.is_empty() {
         let letter = random.pick(&used);
-        let edited = editing::edited(random, &rule, &[letter], with_marks).table();
+        let edited = editing::edited(random, &rule, &[letter]).table();
         let other = judged(random, judges, edited, &walk, lengths);
         counts.controls += 1;
         counts.otherwise += usize::from((one.tree, one.plain) != (other.tree, other.plain));
     }
 }
 
-/// So many random walks, under tables with marks or without.
-fn run(seed: u64, rounds: usize, judges: &dyn Judges, with_marks: bool) -> Counts {
+/// So many random walks.
+fn run(seed: u64, rounds: usize, judges: &dyn Judges) -> Counts {
     let begun = Instant::now();
     let mut random = Random::new(seed);
     let mut counts = Counts::new();
     for _ in 0..rounds {
-        check_walk(&mut random, judges, with_marks, &mut counts);
+        check_walk(&mut random, judges, &mut counts);
     }
     counts.report();
     println!("seed {seed}, {:.1} s", begun.elapsed().as_secs_f64());
@@ -203,9 +196,7 @@ pub fn edits(seed: u64) -> bool {
         eprintln!("edits needs the library: build with --features linked");
         return false;
     };
-    let well = run(seed, ROUNDS, library, false).checks.all_right();
-    println!("with marks:");
-    run(seed, MARKED_ROUNDS, library, true).checks.all_right() && well
+    run(seed, ROUNDS, library).checks.all_right()
 }
 
 #[cfg(test)]
@@ -215,10 +206,8 @@ mod tests {
 
     #[test]
     fn the_reference_gives_the_same_under_edited_tables() {
-        for with_marks in [false, true] {
-            let counts = run(crate::SEED, 200, &Reference, with_marks);
-            assert!(counts.checks.all_right());
-            assert!(counts.otherwise > 0);
-        }
+        let counts = run(crate::SEED, 200, &Reference);
+        assert!(counts.checks.all_right());
+        assert!(counts.otherwise > 0);
     }
 }

@@ -1,6 +1,6 @@
 //! Jobs: three parts, each after its length; and the program's output.
 
-use crate::answers::{Judges, TreeAnswer, MET_NAME, NO_NAME};
+use crate::answers::{Judges, TreeAnswer};
 use crate::reference::{NAME_LENGTH, SCRATCH_LENGTH};
 
 /// A job's table, lead-in and tail.
@@ -26,12 +26,10 @@ pub fn parts(job: &[u8]) -> Option<Parts<'_>> {
     (rest.is_empty() && (6..=9_354).contains(&job.len())).then_some(parts)
 }
 
-/// The node's line: numbers joined by dots, `-` for the root, `met` if the tree
-/// is met, `none` on no.
+/// The node's line: numbers joined by dots, `-` for the root, `none` on no.
 fn node(answer: &TreeAnswer, names: &[u8]) -> String {
     match answer.length {
-        NO_NAME => "none".to_string(),
-        MET_NAME => "met".to_string(),
+        255 => "none".to_string(),
         0 => "-".to_string(),
         length => {
             let name = names.get(..length.into()).unwrap_or(&[]);

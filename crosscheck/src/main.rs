@@ -14,8 +14,6 @@ mod hex;
 mod inputs;
 mod job;
 mod lending;
-mod marked;
-mod marks;
 mod pairs;
 mod random;
 mod reference;

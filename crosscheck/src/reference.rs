@@ -6,8 +6,6 @@
 #[cfg(test)]
 mod examples;
 mod judges;
-#[cfg(test)]
-mod marked_examples;
 mod spelling;
 mod successors;
 mod table;
@@ -15,11 +13,10 @@ pub mod tree;
 
 use crate::answers::{
     Calls, Judges, Numbers, PlainAnswer, ReadAnswer, SameAnswer, StartAnswer, StepAnswer,
-    SuccessorsAnswer, TreeAnswer, WriteAnswer, MET_NAME, NO_NAME,
+    SuccessorsAnswer, TreeAnswer, WriteAnswer,
 };
-use judges::Verdict;
 pub use spelling::first_difference;
-pub use table::{Rule, MARK, NO_TRANSITION};
+pub use table::{Rule, NO_TRANSITION};
 
 /// Lengths of lent buffers, as the C header has them.
 pub const RECORD_LENGTH: usize = number(env!("SUTHRELDO_RECORD"));
@@ -118,16 +115,19 @@ fn tree_judge(table: &[u8], u: &[u8], v: &[u8], names: &mut [u8]) -> Result<Tree
     check_walk(&rule, u, v)?;
     put(names, NAME_LENGTH, &[])?;
     let found = judges::judge_by_trees(&rule, u, v);
-    let (verdict, length) = match found.verdict {
-        Verdict::No => (0, NO_NAME),
-        Verdict::Met => (1, MET_NAME),
-        Verdict::Node(name) => {
-            put(names, NAME_LENGTH, &name)?;
-            (1, name.len() as u8)
-        }
+    let mut answer = TreeAnswer {
+        number: 0,
+        verdict: 0,
+        length: 255,
+        entry: found.entry as u64,
+        period: found.period as u64,
     };
-    let (entry, period) = (found.entry as u64, found.period as u64);
-    Ok(TreeAnswer { number: 0, verdict, entry, period, length })
+    if let Some(name) = found.node {
+        put(names, NAME_LENGTH, &name)?;
+        answer.verdict = 1;
+        answer.length = name.len() as u8;
+    }
+    Ok(answer)
 }
 
 fn plain_judge(table: &[u8], u: &[u8], v: &[u8], scratch: &mut [u8]) -> Result<PlainAnswer, u8> {

@@ -1,23 +1,21 @@
 //! One walk in several spellings: what the library's judges say of one of
 //! them must hold for all. Entry and period may differ and are counted.
 
-use crate::answers::{Calls, PlainAnswer, SameAnswer, TreeAnswer, MET_NAME};
+use crate::answers::{Calls, PlainAnswer, SameAnswer, TreeAnswer};
 use crate::cases::{shown_spelling, Spelling};
 use crate::checks::Checks;
 use crate::ffi;
 use crate::hex;
 use crate::inputs;
 use crate::lending::Lending;
-use crate::marks;
 use crate::pairs;
 use crate::random::Random;
-use crate::reference::{Reference, Rule, NAME_LENGTH, SCRATCH_LENGTH};
+use crate::reference::{Reference, NAME_LENGTH, SCRATCH_LENGTH};
 use crate::respelling::respelled;
 use std::time::Instant;
 
-/// How many walks, and how many more with marks in their tables.
+/// How many walks.
 const ROUNDS: usize = 60_000;
-const MARKED_ROUNDS: usize = 40_000;
 
 /// Of the walks, one in so many is at the limit of length.
 const LIMIT_IN: usize = 250;
@@ -44,11 +42,10 @@ const CHECKS: [&str; 5] = ["accepted", "verdict", "node", "same", "changed"];
 struct Counts {
     checks: Checks<{ CHECKS.len() }>,
     pairs: usize,
-    /// Of the pairs, those with a yes, with a node below the root, with the met
-    /// tree, with other entries, and with other periods.
+    /// Of the pairs, those with a yes, with a node below the root, with other
+    /// entries, and with other periods.
     yes: usize,
     below_root: usize,
-    met: usize,
     entries: usize,
     periods: usize,
 }
@@ -56,14 +53,13 @@ struct Counts {
 impl Counts {
     fn new() -> Counts {
         let checks = Checks::new(CHECKS);
-        Counts { checks, pairs: 0, yes: 0, below_root: 0, met: 0, entries: 0, periods: 0 }
+        Counts { checks, pairs: 0, yes: 0, below_root: 0, entries: 0, periods: 0 }
     }
 
     fn report(&self) {
         self.checks.report();
-        let Counts { pairs, yes, below_root, met, entries, periods, .. } = self;
-        println!("{pairs} pairs, {yes} yes, {below_root} below the root, {met} met");
-        println!("the entry differs in {entries}, the period in {periods}");
+        println!("{} pairs, {} yes, {} below the root", self.pairs, self.yes, self.below_root);
+        println!("the entry differs in {}, the period in {}", self.entries, self.periods);
     }
 }
 
@@ -71,7 +67,7 @@ impl Counts {
 struct Judged {
     spelling: Spelling,
     tree: TreeAnswer,
-    /// The node's name; empty on no, and if the tree is met.
+    /// The node's name; empty on no.
     name: Vec<u8>,
     plain: PlainAnswer,
 }
@@ -107,7 +103,6 @@ fn check_judged(table: &[u8], one: &Judged, other: &Judged, counts: &mut Counts)
     counts.pairs += 1;
     counts.yes += usize::from(one.tree.verdict == 1);
     counts.below_root += usize::from(!one.name.is_empty());
-    counts.met += usize::from(one.tree.length == MET_NAME);
     counts.entries += usize::from(one.tree.entry != other.tree.entry);
     counts.periods += usize::from(one.tree.period != other.tree.period);
 }
@@ -132,15 +127,10 @@ fn check_same(calls: &dyn Calls, check: Check, walks: [&Spelling; 2], counts: &m
 }
 
 /// A walk under a table, in three or four spellings.
-fn random_spellings(random: &mut Random, with_marks: bool) -> (Vec<u8>, Vec<Spelling>) {
-    let mut table = inputs::mixed_table(random);
+fn random_spellings(random: &mut Random) -> (Vec<u8>, Vec<Spelling>) {
+    let table = inputs::mixed_table(random);
     let reach = inputs::reach(random, LIMIT_IN);
     let (u, v) = inputs::walk(random, reach, table[1].into());
-    if with_marks {
-        let mut rule = Rule::read(&table).expect("a good table");
-        marks::mark_for(random, &mut rule, &u, &v);
-        table = rule.table();
-    }
     let mut spellings: Vec<Spelling> = Vec::new();
     for _ in 0..random.between(2, 3) {
         spellings.push(respelled(random, &u, &v));
@@ -150,8 +140,8 @@ fn random_spellings(random: &mut Random, with_marks: bool) -> (Vec<u8>, Vec<Spel
 }
 
 /// One walk: every spelling judged, then every pair of them.
-fn check_walk(random: &mut Random, calls: &dyn Calls, with_marks: bool, counts: &mut Counts) {
-    let (table, spellings) = random_spellings(random, with_marks);
+fn check_walk(random: &mut Random, calls: &dyn Calls, counts: &mut Counts) {
+    let (table, spellings) = random_spellings(random);
     let mut all: Vec<Judged> = Vec::new();
     for spelling in spellings {
         let judged = judged(random, calls, &table, spelling);
@@ -174,14 +164,13 @@ fn check_walk(random: &mut Random, calls: &dyn Calls, with_marks: bool, counts: 
     }
 }
 
-/// So many random walks, under tables with marks or without; says whether
-/// nothing differs.
-fn run(seed: u64, rounds: usize, calls: &dyn Calls, with_marks: bool) -> bool {
+/// So many random walks; says whether nothing differs.
+fn run(seed: u64, rounds: usize, calls: &dyn Calls) -> bool {
     let begun = Instant::now();
     let mut random = Random::new(seed);
     let mut counts = Counts::new();
     for _ in 0..rounds {
-        check_walk(&mut random, calls, with_marks, &mut counts);
+        check_walk(&mut random, calls, &mut counts);
     }
     counts.report();
     println!("seed {seed}, {:.1} s", begun.elapsed().as_secs_f64());
@@ -194,9 +183,7 @@ pub fn spellings(seed: u64) -> bool {
         eprintln!("spellings needs the library: build with --features linked");
         return false;
     };
-    let well = run(seed, ROUNDS, library, false);
-    println!("with marks:");
-    run(seed, MARKED_ROUNDS, library, true) && well
+    run(seed, ROUNDS, library)
 }
 
 #[cfg(test)]
@@ -205,7 +192,6 @@ mod tests {
 
     #[test]
     fn the_reference_says_the_same_of_all_spellings() {
-        assert!(run(crate::SEED, 40, &Reference, false));
-        assert!(run(crate::SEED, 40, &Reference, true));
+        assert!(run(crate::SEED, 40, &Reference));
     }
 }

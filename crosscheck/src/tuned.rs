@@ -3,14 +3,13 @@
 //! tables made once for a call, one forward pass for a letter.
 
 mod judge;
-mod marks;
 mod plain;
 mod rows;
 mod table;
 mod tree;
 
-use crate::answers::{Judges, PlainAnswer, TreeAnswer, MET_NAME, NO_NAME};
-use crate::reference::{NAME_LENGTH, SCRATCH_LENGTH};
+use crate::answers::{Judges, PlainAnswer, TreeAnswer};
+use crate::reference::{LONGEST, NAME_LENGTH, SCRATCH_LENGTH};
 use judge::History;
 use rows::Rows;
 use table::{check_walk, parse, Successors};
@@ -30,29 +29,19 @@ fn judged<T: History>(
         return Err(10);
     }
     successors.close(header.letters);
-    let (round, letters) = marks::round_met(&successors, &header, u, v);
-    if let Some(entry) = round {
-        let met = TreeAnswer { number: 0, verdict: 1, length: MET_NAME, entry, period: 1 };
-        return Ok((met, letters));
-    }
     let found = judge::search::<T>(&successors, header.sets, header.start, u, v);
-    let mut answer = TreeAnswer {
-        number: 0,
-        verdict: 0,
-        length: NO_NAME,
-        entry: found.entry,
-        period: found.period,
-    };
+    let mut answer =
+        TreeAnswer { number: 0, verdict: 0, length: 255, entry: found.entry, period: found.period };
     if let Some(name) = found.node {
         let name = name.get();
         names[..name.len()].copy_from_slice(name);
         answer.verdict = 1;
         answer.length = name.len() as u8;
     }
-    Ok((answer, letters + found.letters))
+    Ok((answer, found.letters))
 }
 
-/// The letters the tuned tree judge reads for an accepted walk.
+/// The letters the tuned tree judge steps for an accepted walk.
 pub fn letters_stepped(table: &[u8], u: &[u8], v: &[u8]) -> u64 {
     judged::<Tree>(table, u, v, &mut [0; NAME_LENGTH]).map_or(0, |(_, letters)| letters)
 }
@@ -73,9 +62,6 @@ fn plainly(
         return Err(10);
     }
     scratch[..SCRATCH_LENGTH].fill(0);
-    if marks::in_reach(&moves, &header, u, v) {
-        return Ok(PlainAnswer { number: 0, verdict: 1 });
-    }
     let tails = read_tail(&moves, v);
     let verdict = plain::verdict(&moves, &tails, header.start, u, header.sets);
     Ok(PlainAnswer { number: 0, verdict: verdict.into() })

@@ -63,7 +63,7 @@ fn content(text: &str) -> impl Iterator<Item = (usize, &str)> {
     text.lines().enumerate().filter(|(_, line)| !line.starts_with('#') && !line.trim().is_empty())
 }
 
-/// Stored jobs: a job and its whole output. The library has
+/// jobs.txt and shortcuts.txt: a job and its whole output. The library has
 /// no part in question 12, so with `library` such jobs are left out.
 fn check_jobs(text: &str, judges: &dyn Judges, library: bool) -> Count {
     let mut count = Count::default();
@@ -177,7 +177,7 @@ pub fn vectors(folder: &str, slow: bool) -> bool {
     let mut differences = 0;
     let sum = &mut differences;
     let library = ffi::library();
-    for file in ["jobs.txt", "u3-jobs.txt", "shortcuts.txt"] {
+    for file in ["jobs.txt", "shortcuts.txt"] {
         let text = read(file);
         report(file, "reference", sum, || check_jobs(&text, &Reference, false));
         report(file, "tuned", sum, || check_jobs(&text, &Tuned, false));
@@ -185,7 +185,7 @@ pub fn vectors(folder: &str, slow: bool) -> bool {
             report(file, "library", sum, || check_jobs(&text, library, true));
         }
     }
-    for file in ["calls.txt", "boundaries.txt", "u2-calls.txt", "u3-calls.txt", "u7-calls.txt"] {
+    for file in ["calls.txt", "boundaries.txt", "u2-calls.txt", "u7-calls.txt"] {
         let text = read(file);
         report(file, "reference", sum, || check_calls(&text, &Reference));
         if let Some(library) = library {

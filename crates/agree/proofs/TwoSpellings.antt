@@ -11,7 +11,7 @@ use Rattle.word.proofs.Positions.{filled, letter_unrolled}
 use Rattle.word.proofs.SameAlong.{along_spellings}
 use Rattle.spelling.specs.SameCall.{same_outcome, SameAnswers}
 use Rattle.spelling.specs.declared.same.SameAnswer.{SameAnswer}
-use Rattle.history.specs.Finding.{Finding, yes_node, yes_met, no_node}
+use Rattle.history.specs.Finding.{Finding, yes_node, no_node}
 use Rattle.history.proofs.Walk.SameAlong.{found_along}
 use Rattle.treejudge.specs.JudgeCall.{tree_answer, names_after, Judged}
 use Rattle.treejudge.specs.declared.judge.TreeAnswer.{TreeAnswer}
@@ -59,7 +59,6 @@ own_numbers {R} {u} {v} {names} {answer} {after} J = go J.walk.finding J.answers
 
     go : (f : Finding) → answer ≡ tree_answer J.walk.entry J.walk.period f → answer ≡ tree_answer answer.entry answer.period f
     go (yes_node w) is = with (yes_node w) (ap (λ (x : TreeAnswer). x.entry) is) (ap (λ (x : TreeAnswer). x.period) is) is
-    go yes_met is = with yes_met (ap (λ (x : TreeAnswer). x.entry) is) (ap (λ (x : TreeAnswer). x.period) is) is
     go no_node is = with no_node (ap (λ (x : TreeAnswer). x.entry) is) (ap (λ (x : TreeAnswer). x.period) is) is
 
 pub same_node_lem : SameNode

@@ -1,24 +1,21 @@
 -- Two tables that are equal on a walk (document 02, U10): each judge's call gives the same on both.
 use mathlib.Core.Path.{◌≡◌, refl, sym, ◌∙◌}
-use mathlib.Core.Bool.{true}
 use mathlib.Core.List.{List, [], ◌∷◌}
 use Prim.Native.Nat.{ℕ}
-use borrow.Author.Tests.{ne_eqb, le-leb}
+use borrow.Author.Tests.{ne_eqb}
 use lib.Count.{ones, ones_in}
-use lib.Dec.{leb}
-use lib.ListN.{length, replicate, length-replicate}
+use lib.ListN.{replicate, length-replicate}
 use Rattle.base.specs.Outcome.{accepted}
 use Rattle.base.proofs.Storing.{stored_none}
 use Rattle.rule.specs.Rule.{Rule}
 use Rattle.table.specs.Cells.{cells_length, header_bytes, letter_cells}
 use Rattle.table.specs.Table.{read_rule}
-use Rattle.table.proofs.Ranges.{in_range_lem}
 use Rattle.table.proofs.RoundTrip.{read_well_formed}
 use Rattle.word.specs.EqualOn.{EqualOn}
 use Rattle.word.proofs.Positions.{filled}
 use Rattle.word.proofs.SameAlong.{SameAlong, along_edited, verdicts_along}
 use Rattle.word.proofs.TwoTables.{equal_by_bytes, same_way}
-use Rattle.history.specs.Finding.{Finding, yes_node, yes_met, no_node, Found}
+use Rattle.history.specs.Finding.{Finding, yes_node, no_node}
 use Rattle.plain.specs.PlainCall.{scratch_length, plain_outcome, PlainAnswers, scratch_after}
 use Rattle.plain.specs.declared.judge.PlainAnswer.{PlainAnswer}
 use Rattle.plain.proofs.PlainVerdict.{plain_decides}
@@ -26,7 +23,7 @@ use Rattle.treejudge.specs.JudgeCall.{name_room, tree_outcome, tree_answer, name
 use Rattle.treejudge.specs.Examples.{table_a}
 use Rattle.treejudge.specs.declared.judge.TreeAnswer.{TreeAnswer}
 use Rattle.treejudge.proofs.Examples.{row_test, row_answers}
-use Rattle.treejudge.proofs.TreeVerdict.{name_short, judged_one, judged_along}
+use Rattle.treejudge.proofs.TreeVerdict.{judged_one, judged_along}
 use Rattle.agree.specs.Edits.{WriteAlike, name_bytes, zero_bytes, SameTreeCalls, SamePlainCalls, UnusedEdits, UnusedBytes, edited_a, EditedExample}
 
 -- nothing is written
@@ -35,30 +32,20 @@ write_none lent lent' = record { bytes = []; size = refl; leaves = sym (stored_n
 
 -- THE TREE JUDGE
 
-module _ (table : List ℕ) (R : Rule) (reads : read_rule table ≡ accepted R) (u v : List ℕ) where
-  -- a node's name has at most as many bytes as the buffer is asked for
-  name_counts : (entry period : ℕ) (w : List ℕ) → Found R u v entry period (yes_node w) → leb (length w) name_room ≡ true
-  name_counts entry period w F =
-      let (well, range) = read_well_formed table R reads in
-      le-leb _ _ (name_short R u v entry period w F.witness well (in_range_lem range).some_set (in_range_lem range).states)
+-- the name of what is found is written
+write_name : (entry period : ℕ) (finding : Finding) (names names' : List ℕ)
+    → WriteAlike (name_bytes (tree_answer entry period finding)) names names' (names_after finding names) (names_after finding names')
+unfolding name_bytes tree_answer names_after
+write_name entry period (yes_node w) names names' = record { bytes = w; size = refl; leaves = refl; leaves' = refl }
+write_name entry period no_node names names' = write_none names names'
 
-  -- the name of what is found is written
-  write_name : (entry period : ℕ) (finding : Finding) → Found R u v entry period finding → (names names' : List ℕ)
-      → WriteAlike (name_bytes (tree_answer entry period finding)) names names' (names_after finding names) (names_after finding names')
-  unfolding name_bytes tree_answer names_after
-  write_name entry period (yes_node w) F names names' =
-      record { bytes = w; size = rw (name_counts entry period w F); leaves = refl; leaves' = refl }
-  write_name entry period yes_met F names names' = write_none names names'
-  write_name entry period no_node F names names' = write_none names names'
-
-  -- two calls on one rule and one walk, with any two buffers
-  judged_alike : {names names' : List ℕ} {answer answer' : TreeAnswer} {after after' : List ℕ}
-      → Judged R u v names answer after → Judged R u v names' answer' after'
-      → (answer ≡ answer') × WriteAlike (name_bytes answer) names names' after after'
-  judged_alike {names} {names'} J K =
-      let (same, found) = judged_one J K in
-      let W = K.walk in
-      (same, rw (same, K.answers, J.leaves, found, K.leaves) (write_name W.entry W.period W.finding W.found names names'))
+-- two calls on one rule and one walk, with any two buffers
+judged_alike : {R : Rule} {u v names names' : List ℕ} {answer answer' : TreeAnswer} {after after' : List ℕ}
+    → Judged R u v names answer after → Judged R u v names' answer' after'
+    → (answer ≡ answer') × WriteAlike (name_bytes answer) names names' after after'
+judged_alike {R} {u} {v} {names} {names'} J K =
+    let (same, found) = judged_one J K in
+    (same, rw (same, K.answers, J.leaves, found, K.leaves) (write_name K.walk.entry K.walk.period K.walk.finding names names'))
 
 module _ (table table' u v : List ℕ) (R S : Rule) (reads : read_rule table ≡ accepted R) (reads' : read_rule table' ≡ accepted S)
     (equal : EqualOn R S u v) where
@@ -73,7 +60,7 @@ module _ (table table' u v : List ℕ) (R S : Rule) (reads : read_rule table ≡
       (λ o o'. TreeAnswers o u v names answer after → TreeAnswers o' u v names' answer' after'
       → (answer ≡ answer') × WriteAlike (name_bytes answer) names names' after after')
       (λ number some T T'. (T.0 ∙ sym T'.0, rw (T.0, T.1, T'.1) (write_none names names')))
-      (λ nonempty J K. judged_alike table' S reads' u v (judged_along (along nonempty) (filled v nonempty) J) K)
+      (λ nonempty J K. judged_alike (judged_along (along nonempty) (filled v nonempty) J) K)
 
   -- THE PLAIN JUDGE
 

@@ -1,5 +1,4 @@
--- Demand 3: the verdicts of both judges, and the run itself, with the meaning that document 02, U3, widens: "demand 3 then has yes exactly when there
--- is an endless run as it says, or such a finite run".
+-- Demand 3: the verdicts of both judges, and the endless run itself.
 use Rattle.std.specs.Prelude.{◌≡◌, List, ℕ}
 use Rattle.base.specs.Outcome.{accepted}
 use Rattle.rule.specs.Rule.{Rule}
@@ -12,8 +11,8 @@ use Rattle.treejudge.specs.JudgeCall.{tree_outcome, TreeAnswers}
 use Rattle.treejudge.specs.declared.judge.TreeAnswer.{TreeAnswer}
 
 -- a verdict on a table and a walk is right: there is the rule that the table is read as, and the verdict "says yes exactly when some
--- endless run of the rule, over the lead-in followed by the tail for ever, goes through every accepting set infinitely often", or when some
--- finite run over a beginning of it ends with a marked transition, "and no otherwise"
+-- endless run of the rule, over the lead-in followed by the tail for ever, goes through every accepting set infinitely often, and
+-- no otherwise"
 abbrev pub Right : List ℕ → List ℕ → List ℕ → ℕ → Type 0
 Right table u v verdict = (R : Rule) × (read_rule table ≡ accepted R) × Decides verdict (Keeps R u v)
 

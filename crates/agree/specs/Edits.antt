@@ -1,5 +1,5 @@
 -- Editing a mode the walk never uses (document 02, U10): "A fitter edits the cells of one letter and wants to know which old verdicts stand."
-use Rattle.std.specs.Prelude.{◌≡◌, cond, List, [], ◌∷◌, ℕ, eqb, leb, length}
+use Rattle.std.specs.Prelude.{◌≡◌, cond, List, [], ◌∷◌, ℕ, eqb, length}
 use Rattle.base.specs.Outcome.{accepted}
 use Rattle.base.specs.LentBuffer.{stored}
 use Rattle.rule.specs.Rule.{Rule}
@@ -7,7 +7,7 @@ use Rattle.table.specs.Table.{read_rule}
 use Rattle.word.specs.EqualOn.{EqualOn, EqualBytesOn}
 use Rattle.plain.specs.PlainCall.{scratch_length, plain_outcome, PlainAnswers, scratch_after}
 use Rattle.plain.specs.declared.judge.PlainAnswer.{PlainAnswer}
-use Rattle.treejudge.specs.JudgeCall.{name_room, tree_outcome, TreeAnswers}
+use Rattle.treejudge.specs.JudgeCall.{tree_outcome, TreeAnswers}
 use Rattle.treejudge.specs.Examples.{AlwaysAnswers, table_a}
 use Rattle.treejudge.specs.declared.judge.TreeAnswer.{TreeAnswer}
 
@@ -20,9 +20,9 @@ pub record WriteAlike (count : ℕ) (lent lent' after after' : List ℕ) : Type 
   pub leaves : after ≡ stored 0 bytes lent
   pub leaves' : after' ≡ stored 0 bytes lent'
 
--- the tree judge writes the node's name, as many bytes as it says; none where the length is that of no name (254 and 255), and on a refusal
+-- the tree judge writes the node's name: on yes as many bytes as it says, on no and on a refusal none
 unfoldable pub name_bytes : TreeAnswer → ℕ
-name_bytes answer = cond (leb answer.length name_room) answer.length 0
+name_bytes answer = cond (eqb answer.verdict 1) answer.length 0
 
 -- the plain judge writes the scratch bytes that it wants, on a refusal none
 unfoldable pub zero_bytes : PlainAnswer → ℕ

@@ -2,7 +2,7 @@
 -- result, sets with the same members are the same number, a smaller set has fewer members.
 use mathlib.Core.Path.{◌≡◌, refl, sym, ◌∙◌, ap, ap₂}
 use mathlib.Core.Logic.{◌⊎◌, inl, inr, ⊎_elim}
-use mathlib.Core.Bool.{Bool, true, false, not, ◌&&◌, ◌||◌, cond, or_assoc, or-false}
+use mathlib.Core.Bool.{Bool, true, false, not, ◌&&◌, ◌||◌, cond, or_assoc}
 use Prim.Native.Nat.{ℕ, zero, suc, ◌+◌, ◌*◌, ◌-◌, ◌/◌, ◌%◌, ◌^◌, ◌≤◌, ◌<◌, min, max}
 use native.Mathlib.Omega.{arith}
 use native.Mathlib.Nat.{mod-lt, pow-suc, one-mul}
@@ -282,12 +282,6 @@ unfolding some
 some_out zero f h = clash refl h
 some_out (suc n) f h = ⊎_elim (λ e. (0, omega arith, e))
     (λ e. let (q, l, k) = some_out n (λ q. f (suc q)) e in (suc q, omega arith, k)) (or_in (f 0) _ h)
-
--- one number more
-pub some_last : (n : ℕ) (f : ℕ → Bool) → some (suc n) f ≡ (some n f || f n)
-unfolding some
-some_last zero f = or-false (f 0)
-some_last (suc n) f = ap (λ (b : Bool). f 0 || b) (some_last n (λ q. f (suc q))) ∙ sym (or_assoc (f 0) (some n (λ q. f (suc q))) (f (suc n)))
 
 pub some_ext : (n : ℕ) (f g : ℕ → Bool) → ((q : ℕ) → q < n → f q ≡ g q) → some n f ≡ some n g
 unfolding some

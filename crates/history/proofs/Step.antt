@@ -1,7 +1,6 @@
--- One letter: the local form, that it is document 01's steps, one node, the met tree, and the trees of a rule.
+-- One letter: the local form, that it is document 01's steps, one node, and the trees of a rule.
 pub mod LocalStep
 pub mod LabelsOfStep
-pub mod MetTree
 pub mod StepsJoined
 pub mod OlderSiblingLaws
 pub mod OneNode

@@ -1,8 +1,7 @@
--- Trees along a walk: positions, rounds, states, the met tree, and two rules along their walks.
+-- Trees along a walk: positions, rounds, states, and two rules along their walks.
 pub mod Stretches
 pub mod RoundPositions
 pub mod TreesOfWalk
-pub mod MetTrees
 pub mod WitnessByPosition
 pub mod StatesReached
 pub mod StatesOfTrees

@@ -1,11 +1,11 @@
--- One letter (document 01, "One letter"), step by step as the document numbers them; and the letter that meets the rule (document 02, U3).
-use Rattle.std.specs.Prelude.{Bool, true, false, ◌&&◌, ◌||◌, cond, List, [], ℕ, suc, eqb, ltb, get_or}
+-- One letter (document 01, "One letter"), step by step as the document numbers them.
+use Rattle.std.specs.Prelude.{Bool, true, false, ◌&&◌, cond, List, [], ℕ, suc, eqb, ltb, get_or}
 use Rattle.std.specs.Int.Bits.{bit_or}
 use Rattle.base.specs.BitSet.{minus, collect}
 use Rattle.base.specs.Lists.{any_of}
-use Rattle.rule.specs.Rule.{Rule, successors, successors_in, has_mark}
+use Rattle.rule.specs.Rule.{Rule, successors, successors_in}
 use Rattle.history.specs.Forest.{Forest, nil, node, size, change, listing, named, names, same_numbers}
-use Rattle.history.specs.Tree.{Tree, labels, is_met}
+use Rattle.history.specs.Tree.{Tree}
 
 -- where a node comes from: it was there before the letter, under this name, or the letter has sprouted it
 pub data Origin : Type 0 where
@@ -92,18 +92,9 @@ three_steps R a T = separated 0 (two_steps R a T)
 unfoldable pub five_steps : Rule → ℕ → Tree → Forest Grown
 five_steps R a T = pruned R.sets (three_steps R a T)
 
--- document 02, U3: "If the root's label has one on the letter read", a marked transition, "the next tree is the met tree, .. which steps to
--- itself": does the letter lead to the met tree?
-unfoldable pub meets : Rule → ℕ → Tree → Bool
-meets R a T = is_met T || has_mark R a (labels T)
-
--- the met tree's node. It comes from no old node, so none is stable or accepting: "the step into it has both maps 0 as well"
-unfoldable pub met_node : Forest Grown
-met_node = node (record { origin = sprouted; before = 0; label = 0; active = 255; accepting = false }) nil nil
-
 -- what a letter makes of a tree: the nodes after it
 unfoldable pub survivors : Rule → ℕ → Tree → Forest Grown
-survivors R a T = cond (meets R a T) met_node (five_steps R a T)
+survivors R a T = five_steps R a T
 
 -- the next tree: what survives, with labels and active sets alone
 unfoldable pub next_tree : Rule → ℕ → Tree → Tree

@@ -4,7 +4,7 @@ use Rattle.std.specs.Int.Count.{ones}
 use Rattle.base.specs.Outcome.{Outcome, accepted, ask}
 use Rattle.base.specs.BitSet.{member, collect}
 use Rattle.history.specs.Forest.{nil, node, size, same_numbers}
-use Rattle.history.specs.Tree.{Tree, labels, is_tree, met_tree}
+use Rattle.history.specs.Tree.{Tree, labels, is_tree}
 
 -- "A state's host is the deepest node holding it": its number, among siblings numbered from i on and all below them
 unfoldable pub host_from : ℕ → Tree → ℕ → ℕ
@@ -69,14 +69,10 @@ decoded n bytes =
     let left = drop (1 + ones s) bytes in
     (planted (length left) (hosted_in n s hosts) 0 0 left).0
 
--- are the bytes the record of a tree over n and k? They are compared with the record of the tree that they would be of.
+-- question 9, "A step goes on only where its bytes are the record of some tree over n and k: are they?"
+-- The bytes are compared with the record of the tree that they would be of.
 unfoldable pub is_record : ℕ → ℕ → List ℕ → Bool
 is_record n k bytes = same_numbers (record_of n (decoded n bytes)) bytes && is_tree n k (decoded n bytes)
 
--- document 02, U3: "the met tree, record 00 FF, which question 9 accepts on every table"
-unfoldable pub is_met_record : List ℕ → Bool
-is_met_record bytes = same_numbers (0x00 ∷ 0xFF ∷ []) bytes
-
--- question 9, "A step goes on only where its bytes are the record of some tree over n and k: are they?"
 unfoldable pub read_tree : ℕ → ℕ → List ℕ → Outcome Tree
-read_tree n k bytes = cond (is_met_record bytes) (accepted met_tree) (ask (is_record n k bytes) 9 (accepted (decoded n bytes)))
+read_tree n k bytes = ask (is_record n k bytes) 9 (accepted (decoded n bytes))

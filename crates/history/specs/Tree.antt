@@ -1,5 +1,5 @@
--- History trees (document 01, "Trees"): generalised history trees of Schewe and Varghese; and the met tree (document 02, U3).
-use Rattle.std.specs.Prelude.{Bool, true, false, not, ◌&&◌, ◌||◌, ℕ, ◌^◌, eqb, leb, ltb}
+-- History trees (document 01, "Trees"): generalised history trees of Schewe and Varghese.
+use Rattle.std.specs.Prelude.{Bool, true, false, not, ◌&&◌, ℕ, ◌^◌, eqb, leb, ltb}
 use Rattle.std.specs.Int.Bits.{bit_and, bit_or}
 use Rattle.base.specs.BitSet.{minus}
 use Rattle.rule.specs.Rule.{Rule}
@@ -40,23 +40,9 @@ is_tree n k nil = true
 is_tree n k (node x below nil) = ltb x.label (2 ^ n) && nodes_fit k (node x below nil)
 is_tree n k (node x below (node y other younger)) = false
 
--- "the met tree, record 00 FF" (document 02, U3): a root without states, whose byte behind the map is FF
-unfoldable pub met_tree : Tree
-met_tree = node (record { label = 0; active = 255 }) nil nil
-
-unfoldable pub is_met : Tree → Bool
-is_met nil = false
-is_met (node x nil nil) = eqb x.label 0 && eqb x.active 255
-is_met (node x nil (node y other younger)) = false
-is_met (node x (node y other younger) siblings) = false
-
--- is it the met tree, or a tree over n states and k sets?
-unfoldable pub is_met_or_tree : ℕ → ℕ → Tree → Bool
-is_met_or_tree n k T = is_met T || is_tree n k T
-
--- is it a tree of the rule? One over its states and its sets, or the met tree
+-- is it a tree of the rule? One over its states and its sets
 unfoldable pub is_tree_of : Rule → Tree → Bool
-is_tree_of R T = is_met_or_tree R.states R.sets T
+is_tree_of R T = is_tree R.states R.sets T
 
 -- "The starting tree is the root alone, the starting states, active set 1."
 unfoldable pub start_tree : Rule → Tree

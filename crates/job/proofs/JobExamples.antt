@@ -2,16 +2,15 @@
 use mathlib.Core.Path.{◌≡◌, refl}
 use mathlib.Core.List.{List, [], ◌∷◌, flat_map}
 use Prim.Native.Nat.{ℕ}
-use Rattle.base.specs.BitSet.{minus}
 use Rattle.base.specs.Lists.{all_of}
 use Rattle.base.specs.Outcome.{accepted}
 use Rattle.base.specs.Reading.{read_part, read_many, ended}
 use Rattle.rule.specs.Rule.{Rule}
-use Rattle.rule.specs.WellFormed.{start_fits, set_byte_fits}
-use Rattle.table.specs.Table.{in_range, ask_header, map_fits, read_byte, read_transition, read_row, read_cell, read_grid, read_body, read_rule}
+use Rattle.rule.specs.WellFormed.{start_fits}
+use Rattle.table.specs.Table.{in_range, ask_header, read_byte, read_transition, read_row, read_cell, read_grid, read_body, read_rule}
 use Rattle.word.specs.Judging.{walk_questions}
 use Rattle.word.specs.Walk.{lengths_fit, ask_walk}
-use Rattle.history.specs.Finding.{yes_node, yes_met, no_node}
+use Rattle.history.specs.Finding.{yes_node, no_node}
 use Rattle.treejudge.specs.Examples.{table_a}
 use Rattle.job.specs.Ascii.{ascii}
 use Rattle.job.specs.JobCall.{job_parts, job_outcome, digits, digits_within, line, yes_no, finding_verdict, dotted, name_text, node_text, five_lines, refusal_text}
@@ -36,7 +35,7 @@ rule_a = record {
 }
 
 reads_a : read_rule table_a ≡ accepted rule_a
-unfolding rule_a table_a read_rule ask_header in_range start_fits map_fits set_byte_fits minus read_body read_grid read_many read_cell read_row read_transition read_byte ended
+unfolding rule_a table_a read_rule ask_header in_range start_fits read_body read_grid read_many read_cell read_row read_transition read_byte ended
 reads_a = refl
 
 a_accepted : AcceptedJob job_a (record { table = table_a; lead = []; tail = 1 ∷ [] }) rule_a
@@ -48,11 +47,7 @@ lines_of_a : five_lines 2 1 (yes_node (0 ∷ [])) 1 ≡ ascii "verdict yes\nentr
 unfolding five_lines line yes_no finding_verdict node_text name_text dotted flat_map digits digits_within
 lines_of_a = refl
 
--- other lines: a rule that is met, no node, the root, a node below it, a refusal
-lines_met : five_lines 1 1 yes_met 1 ≡ ascii "verdict yes\nentry 1\nperiod 1\nnode met\nplain yes\n"
-unfolding five_lines line yes_no finding_verdict node_text digits digits_within
-lines_met = refl
-
+-- other lines: no node, the root, a node below it, a refusal
 lines_no : five_lines 0 123 no_node 0 ≡ ascii "verdict no\nentry 0\nperiod 123\nnode none\nplain no\n"
 unfolding five_lines line yes_no finding_verdict node_text name_text dotted flat_map digits digits_within
 lines_no = refl

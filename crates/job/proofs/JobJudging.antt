@@ -4,7 +4,6 @@ use mathlib.Core.Bool.{Bool, true, false, cond}
 use mathlib.Core.List.{List}
 use Prim.Native.Nat.{ℕ, ◌+◌, ◌≤◌}
 use native.Mathlib.Omega.{arith}
-use borrow.Author.Tests.{ne_eqb}
 use lib.Dec.{eqb}
 use lib.ListN.{length, take, drop, length-append}
 use lib.Seq.{take_at}
@@ -15,27 +14,25 @@ use Rattle.rule.specs.Rule.{Rule}
 use Rattle.word.specs.Judging.{walk_questions}
 use Rattle.word.proofs.JudgeQuestions.{with_room}
 use Rattle.word.proofs.RefusalNumbers.{walk_number}
-use Rattle.history.specs.Finding.{Finding, yes_node, yes_met, no_node}
+use Rattle.history.specs.Finding.{Finding, yes_node, no_node}
 use Rattle.plain.specs.PlainCall.{scratch_length, plain_outcome, PlainAnswers}
 use Rattle.plain.specs.declared.judge.PlainAnswer.{PlainAnswer}
-use Rattle.treejudge.specs.JudgeCall.{name_room, met_name, tree_outcome, tree_answer, names_after, TreeAnswers}
+use Rattle.treejudge.specs.JudgeCall.{name_room, tree_outcome, tree_answer, names_after, TreeAnswers}
 use Rattle.treejudge.specs.declared.judge.TreeAnswer.{TreeAnswer}
 use Rattle.job.specs.JobCall.{yes_no, finding_verdict, five_lines, refusal_text, text_of, PartsAnswers}
-use Rattle.job.specs.Inner.TextCode.{finding_of, NameFits}
+use Rattle.job.specs.Inner.TextCode.{finding_of}
 use Rattle.job.specs.declared.call.Text.{Text}
 
 -- THE FINDING
 
--- the first line says the verdict of what is found
+-- the first line says the verdict of the node that the answer names
 pub finding_says : (answer : TreeAnswer) (names : List ℕ) → yes_no (finding_verdict (finding_of answer names)) ≡ yes_no answer.verdict
 unfolding yes_no finding_verdict finding_of
-finding_says answer names = go (eqb answer.verdict 1) (eqb answer.length met_name)
+finding_says answer names = go (eqb answer.verdict 1)
   where
-    go : (yes met : Bool)
-        → yes_no (finding_verdict (cond yes (cond met yes_met (yes_node (take answer.length names))) no_node)) ≡ cond yes (yes_no 1) (yes_no 0)
-    go true true = refl
-    go true false = refl
-    go false met = refl
+    go : (t : Bool) → yes_no (finding_verdict (cond t (yes_node (take answer.length names)) no_node)) ≡ cond t (yes_no 1) (yes_no 0)
+    go true = refl
+    go false = refl
 
 -- the numbers of a name in a buffer that has room for it
 name_stored : (w names : List ℕ) → take (length w) (stored 0 w names) ≡ w
@@ -51,31 +48,26 @@ answer_parts : (entry period : ℕ) (finding : Finding)
     → ((tree_answer entry period finding).number ≡ 0) × ((tree_answer entry period finding).entry ≡ entry) × ((tree_answer entry period finding).period ≡ period)
 unfolding tree_answer
 answer_parts entry period (yes_node w) = (refl, refl, refl)
-answer_parts entry period yes_met = (refl, refl, refl)
 answer_parts entry period no_node = (refl, refl, refl)
 
--- what a tree judge's answer says is what is found: no name in the buffer is as long as the length that says that the rule is met
-finding_same : (entry period : ℕ) (finding : Finding) (names : List ℕ) → length (names_after finding names) ≡ name_room
+-- the node that a tree judge's answer names is the node found
+finding_same : (entry period : ℕ) (finding : Finding) (names : List ℕ)
     → finding_of (tree_answer entry period finding) (names_after finding names) ≡ finding
 unfolding finding_of tree_answer names_after
-finding_same entry period (yes_node w) names room =
-    rw (ne_eqb (length w) met_name (λ e. omega (arith, e, name_fits w names, room))) (ap yes_node (name_stored w names))
-finding_same entry period yes_met names room = refl
-finding_same entry period no_node names room = refl
+finding_same entry period (yes_node w) names = ap yes_node (name_stored w names)
+finding_same entry period no_node names = refl
 
 -- THE ANSWERS
 
 module _ (u v names : List ℕ) (answer : TreeAnswer) (after : List ℕ) where
   -- a name that is answered fits the buffer
-  answer_fits : (o : Outcome Rule) → TreeAnswers o u v names answer after → length after ≡ name_room → NameFits answer
+  answer_fits : (o : Outcome Rule) → TreeAnswers o u v names answer after → answer.verdict ≡ 1 → answer.length ≤ length after
   unfolding tree_answer names_after
-  answer_fits (refused number) (is, _) room one other = absurd (omega (arith, ap (λ (x : TreeAnswer). x.verdict) is))
-  answer_fits (accepted R) J room one other = go J.walk.finding J.answers J.leaves
+  answer_fits (refused number) (is, _) one = absurd (omega (arith, ap (λ (x : TreeAnswer). x.verdict) is))
+  answer_fits (accepted R) J one = go J.walk.finding J.answers J.leaves
     where
-      go : (f : Finding) → answer ≡ tree_answer J.walk.entry J.walk.period f → after ≡ names_after f names → answer.length ≤ name_room
-      go (yes_node w) is left =
-          omega (arith, name_fits w names, ap length left, room, ap (λ (x : TreeAnswer). x.length) is)
-      go yes_met is left = absurd (other (ap (λ (x : TreeAnswer). x.length) is))
+      go : (f : Finding) → answer ≡ tree_answer J.walk.entry J.walk.period f → after ≡ names_after f names → answer.length ≤ length after
+      go (yes_node w) is left = rw (left, is) (name_fits w names)
       go no_node is left = absurd (omega (arith, ap (λ (x : TreeAnswer). x.verdict) is))
 
   -- a number other than 0 is a refusal's
@@ -87,29 +79,29 @@ module _ (u v names : List ℕ) (answer : TreeAnswer) (after : List ℕ) where
       absurd (some (ap (λ (x : TreeAnswer). x.number) J.answers ∙ (answer_parts J.walk.entry J.walk.period J.walk.finding).0))
 
   -- the number 0 is none, and the five lines say what both judges answer
-  answer_judged : (o : Outcome Rule) (text : Text) (plain : PlainAnswer) → TreeAnswers o u v names answer after → length after ≡ name_room
-      → PlainAnswers o u v plain → IfRefused NotZero o → answer.number ≡ 0
+  answer_judged : (o : Outcome Rule) (text : Text) (plain : PlainAnswer) → TreeAnswers o u v names answer after → PlainAnswers o u v plain
+      → IfRefused NotZero o → answer.number ≡ 0
       → text ≡ text_of (five_lines answer.entry answer.period (finding_of answer after) plain.verdict) → PartsAnswers o u v text
-  answer_judged (refused number) text plain (is, _) room P some none says = absurd (some (sym (ap (λ (x : TreeAnswer). x.number) is) ∙ none))
-  answer_judged (accepted R) text plain J room (_, decides) some none says =
+  answer_judged (refused number) text plain (is, _) P some none says = absurd (some (sym (ap (λ (x : TreeAnswer). x.number) is) ∙ none))
+  answer_judged (accepted R) text plain J (_, decides) some none says =
       let W = J.walk in
       let (_, entry, period) = answer_parts W.entry W.period W.finding in
       record {
         walk = W;
         plain = plain.verdict;
         decides = decides;
-        says = says ∙ rw (J.answers, J.leaves, finding_same W.entry W.period W.finding names (rw J.leaves at room), entry, period);
+        says = says ∙ rw (J.answers, J.leaves, finding_same W.entry W.period W.finding names, entry, period);
       }
 
 -- a job's parts: with a name buffer and scratch bytes of the lengths needed, a judge asks no more than is asked of a job
 module _ (table u v names : List ℕ) (tree : TreeAnswer) (after : List ℕ) (T : TreeAnswers (tree_outcome table u v names) u v names tree after)
-    (room : length names ≡ name_room) (kept : length after ≡ name_room) where
+    (room : length names ≡ name_room) where
   tree_answers : TreeAnswers (walk_questions table u v) u v names tree after
   unfolding tree_outcome
   tree_answers = subst (λ (o : Outcome Rule). TreeAnswers o u v names tree after) (with_room name_room table u v names (omega arith)) T
 
-  pub parts_fit : NameFits tree
-  parts_fit = answer_fits u v names tree after (walk_questions table u v) tree_answers kept
+  pub parts_fit : length after ≡ name_room → tree.verdict ≡ 1 → tree.length ≤ name_room
+  parts_fit kept one = omega (arith, answer_fits u v names tree after (walk_questions table u v) tree_answers one)
 
   pub parts_refused : (text : Text) → (tree.number ≡ 0 → ⊥) → text ≡ text_of (refusal_text tree.number)
       → PartsAnswers (walk_questions table u v) u v text
@@ -122,5 +114,5 @@ module _ (table u v names : List ℕ) (tree : TreeAnswer) (after : List ℕ) (T 
   unfolding plain_outcome
   parts_judged scratch size plain P text none says =
       let same = with_room scratch_length table u v scratch (omega arith) in
-      answer_judged u v names tree after (walk_questions table u v) text plain tree_answers kept
+      answer_judged u v names tree after (walk_questions table u v) text plain tree_answers
       (subst (λ (o : Outcome Rule). PlainAnswers o u v plain) same P) (walk_number table u v) none says

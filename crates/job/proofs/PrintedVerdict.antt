@@ -29,7 +29,7 @@ module _ (R : Rule) (table u v : List ℕ) (a : Accepted table v R) (text : Text
   -- the first line's verdict is right, by the tree theorem
   first_decides : Decides (finding_verdict J.walk.finding) (Keeps R u v)
   unfolding finding_verdict
-  first_decides = walk_decides R u v J.walk a.well a.sets a.nonempty finding_verdict (λ w. refl) refl refl
+  first_decides = walk_decides R u v J.walk a.well a.sets a.nonempty finding_verdict (λ w. refl) refl
 
   -- the last line's, by the lasso theorem
   last_decides : Decides J.plain (Keeps R u v)

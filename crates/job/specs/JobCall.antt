@@ -6,9 +6,9 @@ use Rattle.base.specs.Outcome.{Outcome, refused, accepted, ask, ◌then◌}
 use Rattle.base.specs.Reading.{read_part, ended}
 use Rattle.rule.specs.Rule.{Rule}
 use Rattle.word.specs.Judging.{walk_questions}
-use Rattle.word.specs.Keeps.{KeepsByPaths}
+use Rattle.word.specs.Keeps.{KeepsByLasso}
 use Rattle.word.specs.Verdict.{Decides}
-use Rattle.history.specs.Finding.{Finding, yes_node, yes_met, no_node, WalkJudged}
+use Rattle.history.specs.Finding.{Finding, yes_node, no_node, WalkJudged}
 use Rattle.job.specs.Ascii.{ascii}
 use Rattle.job.specs.declared.call.Text.{Text}
 
@@ -62,7 +62,6 @@ yes_no verdict = cond (eqb verdict 1) (ascii "yes") (ascii "no")
 
 unfoldable pub finding_verdict : Finding → ℕ
 finding_verdict (yes_node w) = 1
-finding_verdict yes_met = 1
 finding_verdict no_node = 0
 
 -- "numbers joined by dots, `-` for the root"
@@ -73,10 +72,9 @@ unfoldable pub name_text : List ℕ → List ℕ
 name_text [] = ascii "-"
 name_text (i ∷ w) = digits i ++ flat_map dotted w
 
--- "the word `none` on no"; where the rule is met (document 02, U3), "the line printed `node met`"
+-- "the word `none` on no"
 unfoldable pub node_text : Finding → List ℕ
 node_text (yes_node w) = name_text w
-node_text yes_met = ascii "met"
 node_text no_node = ascii "none"
 
 -- "five lines: verdict, entry, period, node .., plain verdict"
@@ -102,12 +100,12 @@ text_room = 128
 unfoldable pub text_of : List ℕ → Text
 text_of bytes = record { bytes = bytes ++ replicate (text_room - length bytes) 0; length = length bytes }
 
--- a job that is judged: the walk is judged, the plain verdict says whether it keeps the rule, by paths, and the text has the five lines
+-- a job that is judged: the walk is judged, the plain verdict says whether it keeps the rule, by a loop, and the text has the five lines
 -- that say so
 pub record JobJudged (R : Rule) (u v : List ℕ) (text : Text) : Type 0 where
   pub walk : WalkJudged R u v
   pub plain : ℕ
-  pub decides : Decides plain (KeepsByPaths R u v)
+  pub decides : Decides plain (KeepsByLasso R u v)
   pub says : text ≡ text_of (five_lines walk.entry walk.period walk.finding plain)
 
 -- the answer to a job's parts: on a refusal its one line

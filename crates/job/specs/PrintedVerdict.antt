@@ -32,7 +32,7 @@ pub record Says (R : Rule) (u v : List ℕ) (text : Text) : Type 0 where
   pub plain : ℕ
   pub lines : text ≡ text_of (five_lines walk.entry walk.period walk.finding plain)
   -- the first line "says yes exactly when some endless run of the rule, over the lead-in followed by the tail for ever, goes through
-  -- every accepting set infinitely often", or when some finite run ends with a marked transition (document 02, U3), "and no otherwise"
+  -- every accepting set infinitely often, and no otherwise"
   pub first : Decides (finding_verdict walk.finding) (Keeps R u v)
   -- the last line says the same
   pub last : finding_verdict walk.finding ≡ plain

@@ -1,13 +1,14 @@
 // The lines that are printed.
 ghost use Rattle.std.specs.Prelude.{◌≡◌, ◌+◌, ◌≤◌, length};
+ghost use Rattle.treejudge.specs.JudgeCall.{name_room};
 ghost use Rattle.job.specs.Ascii.{ascii};
 ghost use Rattle.job.specs.JobCall.{digits, five_lines, line, node_text, refusal_text, text_of, text_room, yes_no};
-ghost use Rattle.job.specs.Inner.TextCode.{Appends, NameFits, finding_of};
+ghost use Rattle.job.specs.Inner.TextCode.{Appends, finding_of};
 
 use crate::call::{ROOM, Text};
 use crate::text::{append, append_name, append_number};
 use tree::nodes::Tree;
-use treejudge::judge::{MET_NAME, TreeAnswer};
+use treejudge::judge::TreeAnswer;
 
 // A line with `yes` or `no`.
 fn yes_no_line(text: Text, label: &[u8], verdict: u8) -> Text
@@ -32,25 +33,22 @@ fn number_line(text: Text, label: &[u8], number: u64) -> Text
     append(numbered, b"\n")
 }
 
-// The line with the node: "numbers joined by dots, `-` for the root, the word `none` on no"; `node met` where the rule is met.
+// The line with the node: "numbers joined by dots, `-` for the root, the word `none` on no".
 fn node_line(text: Text, tree: TreeAnswer, names: [u8; Tree::NAME]) -> Text
-    requires { NameFits tree × (text.length + 53 ≤ text_room) }
+    requires { (tree.verdict ≡ 1 → tree.length ≤ name_room) × (text.length + 53 ≤ text_room) }
     ensures { Appends text (line (ascii "node ") (node_text (finding_of tree names))) 34 result }
 {
     let labelled = append(text, b"node ");
-    if tree.verdict != 1 {
-        return append(labelled, b"none\n");
+    if tree.verdict == 1 {
+        let named = append_name(labelled, names, tree.length as usize);
+        return append(named, b"\n");
     }
-    if tree.length == MET_NAME {
-        return append(labelled, b"met\n");
-    }
-    let named = append_name(labelled, names, tree.length as usize);
-    append(named, b"\n")
+    append(labelled, b"none\n")
 }
 
 // "five lines: verdict, entry, period, node .., plain verdict"
 pub fn five_lines(tree: TreeAnswer, names: [u8; Tree::NAME], plain: u8) -> Text
-    requires { NameFits tree }
+    requires { tree.verdict ≡ 1 → tree.length ≤ name_room }
     ensures { result ≡ text_of (five_lines tree.entry tree.period (finding_of tree names) plain) }
 {
     let empty = Text {

@@ -1,20 +1,19 @@
 -- Reading letters: the tree after the letters read so far.
-use mathlib.Core.Path.{◌≡◌, sym, ◌∙◌, ap, subst}
-use mathlib.Core.Bool.{Bool, false}
-use mathlib.Core.List.{List, [], ◌∷◌, ◌++◌, append_assoc}
+use mathlib.Core.Path.{◌≡◌}
+use mathlib.Core.Bool.{Bool}
+use mathlib.Core.List.{List, []}
 use Prim.Native.Nat.{ℕ, suc, ◌+◌, ◌-◌, ◌≤◌, ◌<◌}
 use native.Mathlib.Numerals.{add-one}
 use native.Mathlib.Omega.{arith}
 use lib.ListN.{length, get_or, take, drop, take-append-drop}
-use lib.Seq.{take-suc, take_all, split_at}
+use lib.Seq.{take-suc, take_all}
 use Rattle.base.proofs.Every.{every_at, append_every}
 use Rattle.rule.specs.Limits.{max_letters}
 use Rattle.rule.specs.Rule.{Rule}
 use Rattle.word.specs.Inner.WalkLookups.{Lookups, HasLookup}
-use Rattle.history.specs.Tree.{Tree, is_met}
-use Rattle.history.specs.Letter.{meets, next_tree}
+use Rattle.history.specs.Tree.{Tree}
+use Rattle.history.specs.Letter.{next_tree}
 use Rattle.history.specs.Rounds.{read_letters}
-use Rattle.history.proofs.Walk.MetTrees.{unmet_before, quiet_at}
 use Rattle.history.proofs.Walk.TreesOfWalk.{read_append}
 use Rattle.tree.specs.Inner.Sides.{tree_on, Stands, Laid}
 use Rattle.tree.specs.Inner.Nodes.{HoldsTree}
@@ -46,22 +45,6 @@ read_more : (R : Rule) (w : List ℕ) (at : ℕ) (T : Tree) → at < length w
 unfolding read_letters
 read_more R w at T h = rw (take-suc w at 0 h, read_append)
 
--- if the tree after all letters of w, read behind others, is not met, none before it is
-pub unmet_there : (R : Rule) (before w : List ℕ) (at : ℕ) (T : Tree) → is_met (read_letters R (before ++ w) T) ≡ false
-    → is_met (read_letters R (before ++ take at w) T) ≡ false
-unmet_there R before w at T unmet =
-    unmet_before R (before ++ take at w) (drop at w) T
-    (subst (λ (l : List ℕ). is_met (read_letters R l T) ≡ false)
-    (ap (before ++◌) (sym (take-append-drop at w)) ∙ sym (append_assoc before (take at w) (drop at w))) unmet)
-
--- and no letter of w meets the rule
-pub quiet_there : (R : Rule) (before w : List ℕ) (at : ℕ) (T : Tree) → at < length w → is_met (read_letters R (before ++ w) T) ≡ false
-    → meets R (get_or w at 0) (read_letters R (before ++ take at w) T) ≡ false
-quiet_there R before w at T h unmet =
-    quiet_at R (before ++ take at w) (get_or w at 0) (drop (suc at) w) T
-    (subst (λ (l : List ℕ). is_met (read_letters R l T) ≡ false)
-    (ap (before ++◌) (split_at w at 0 h) ∙ sym (append_assoc before (take at w) (get_or w at 0 ∷ drop (suc at) w))) unmet)
-
 module _ (lookups : Lookups) (k : ℕ) (w : List ℕ) where
   -- at the start
   pub upto_none : (sides : List (List ℕ)) (from : OnSide) → Stands sides from → ReadUpTo lookups k w (tree_on sides from) 0 sides from
@@ -84,7 +67,7 @@ module _ (lookups : Lookups) (k : ℕ) (w : List ℕ) where
       -- the next letter can be read
       pub upto_ready : Readable lookups k w x → Steppable sides on.side on.count
       unfolding Readable
-      upto_ready (R, T, reads) = place_ready reads.holds.limits sides on (v.tree R T reads) (unmet_there R [] w at T reads.unmet) v.stands
+      upto_ready (R, T, reads) = place_ready reads.holds.limits sides on (v.tree R T reads) v.stands
 
       -- and leads on
       pub upto_more : at < length w → (next : Stepped) (after : List (List ℕ))
@@ -94,8 +77,7 @@ module _ (lookups : Lookups) (k : ℕ) (w : List ℕ) where
         upto = omega arith;
         stands = (step.arrays, omega arith);
         tree = λ R T reads. rw (add-one, read_more R w at T h) (place_steps reads.holds.limits sides on (v.tree R T reads) _ k _
-            reads.holds.number (every_at (HasLookup R lookups) w at 0 reads.has_lookups h).entries
-            (quiet_there R [] w at T h reads.unmet) next after step).next;
+            reads.holds.number (every_at (HasLookup R lookups) w at 0 reads.has_lookups h).entries next after step).next;
       }
 
 -- letters that are read from a tree, wherever it stands, to a tree that is taken up
@@ -111,19 +93,10 @@ module _ (lookups : Lookups) (k : ℕ) (w : List ℕ) (x y : CodeTree) (place : 
   unfolding ReadsTo
   reads_behind R T reads =
       let (front, rest) = append_every (HasLookup R lookups) (take place w) (drop place w) (rw (take-append-drop place w) reads.has_lookups) in
-      let parts : read_letters R w T ≡ read_letters R (take place w ++ drop place w) T =
-      ap (λ (l : List ℕ). read_letters R l T) (sym (take-append-drop place w)) in
-      let unmet : is_met (read_letters R (take place w ++ drop place w) T) ≡ false = ap is_met (sym parts) ∙ reads.unmet in
       record {
         holds = reads.holds;
         has_lookups = rest;
-        tree = skips.reads R T (record {
-          holds = reads.holds;
-          has_lookups = front;
-          tree = reads.tree;
-          unmet = unmet_before R (take place w) (drop place w) T unmet;
-        });
-        unmet = rw read_append at unmet;
+        tree = skips.reads R T (record { holds = reads.holds; has_lookups = front; tree = reads.tree });
       }
 
   pub behind_readable : Readable lookups k w x → Readable lookups k (drop place w) y

@@ -1,6 +1,6 @@
 -- Following nodes by their names: the maps before the first letter, and those after the letters read so far.
-use mathlib.Core.Path.{◌≡◌, sym, ◌∙◌, ap, subst}
-use mathlib.Core.Bool.{Bool, false}
+use mathlib.Core.Path.{◌≡◌, sym, ◌∙◌, ap}
+use mathlib.Core.Bool.{Bool}
 use mathlib.Core.List.{List, [], ◌∷◌, ◌++◌, append-nil, append_assoc}
 use Prim.Native.Nat.{ℕ, ◌+◌, ◌-◌, ◌^◌, ◌≤◌, ◌<◌}
 use native.Mathlib.Numerals.{add-one}
@@ -12,11 +12,10 @@ use Rattle.base.proofs.Every.{every_at, append_every}
 use Rattle.rule.specs.Limits.{max_states}
 use Rattle.rule.specs.Rule.{Rule}
 use Rattle.word.specs.Inner.WalkLookups.{Lookups, HasLookup}
-use Rattle.history.specs.Tree.{Tree, is_met}
+use Rattle.history.specs.Tree.{Tree}
 use Rattle.history.specs.Rounds.{read_letters}
 use Rattle.history.specs.Inner.OldNumbers.{no_node}
 use Rattle.history.proofs.Verdict.FollowingLaws.{follow_none, follow_kept, follow_accepted}
-use Rattle.history.proofs.Walk.MetTrees.{unmet_before}
 use Rattle.history.proofs.Walk.TreesOfWalk.{read_append}
 use Rattle.tree.specs.Inner.Sides.{tree_on, Stands}
 use Rattle.tree.specs.Inner.Nodes.{HoldsTree}
@@ -31,7 +30,6 @@ use Rattle.letters.specs.Inner.Reading.{Readable}
 use Rattle.letters.specs.Inner.Names.{all_kept, carried_maps, Follows, FollowsOn, Followable, FollowsTo}
 use Rattle.letters.specs.Inner.RootPass.{root_maps, SkipsTo}
 use Rattle.letters.specs.declared.follow.Maps.{Maps}
-use Rattle.letters.proofs.LettersRead.{quiet_there, unmet_there}
 
 -- the nodes of both maps that are stable at a letter; one that is accepting is a witness from there on
 abbrev pub staying : Stepped → Maps → Maps
@@ -74,11 +72,8 @@ module _ (lookups : Lookups) (k : ℕ) (w : List ℕ) where
     -- the letters can be read
     pub followed_reads : Followable lookups k w x m → Readable lookups k w x
     unfolding Followable Readable
-    followed_reads (R, T, before, v) = (
-      R,
-      read_letters R before T,
-      record { holds = v.holds; has_lookups = v.has_lookups; tree = v.follows.tree; unmet = rw read_append at v.unmet },
-    )
+    followed_reads (R, T, before, v) =
+        (R, read_letters R before T, record { holds = v.holds; has_lookups = v.has_lookups; tree = v.follows.tree })
 
     module _ (at : ℕ) (sides : List (List ℕ)) (on : OnSide) (n : Maps) (v : FollowedUpTo lookups k w x m at sides on n) where
       -- at the end
@@ -89,8 +84,7 @@ module _ (lookups : Lookups) (k : ℕ) (w : List ℕ) where
       -- the next letter can be read
       pub followed_ready : Followable lookups k w x m → Steppable sides on.side on.count
       unfolding Followable
-      followed_ready (R, T, before, F) =
-          place_ready F.holds.limits sides on (v.names R T before F).tree (unmet_there R before w at T F.unmet) v.stands
+      followed_ready (R, T, before, F) = place_ready F.holds.limits sides on (v.names R T before F).tree v.stands
 
       module _ (h : at < length w) (next : Stepped) (after : List (List ℕ))
           (step : Stepping (stepped_nodes (get_or lookups (get_or w at 0) []) k (nodes_on sides on.side on.count)) on.side sides next after) where
@@ -109,7 +103,7 @@ module _ (lookups : Lookups) (k : ℕ) (w : List ℕ) where
 
           steps : StepsTo R a (read_letters R read T) (tree_on after there) next
           steps = place_steps F.holds.limits sides on now.tree _ k a F.holds.number
-              (every_at (HasLookup R lookups) w at 0 F.has_lookups h).entries (quiet_there R before w at T h F.unmet) next after step
+              (every_at (HasLookup R lookups) w at 0 F.has_lookups h).entries next after step
 
           -- it carries both maps to the new numbers
           letter_follows : Follows R T (read ++ (a ∷ [])) (tree_on after there) (carried_maps (tree_on after there) (staying next n))
@@ -152,20 +146,10 @@ module _ (lookups : Lookups) (k : ℕ) (w : List ℕ) (x y : CodeTree) (m : Maps
   unfolding FollowsTo
   follows_behind R T before F =
       let (front, rest) = append_every (HasLookup R lookups) (take place w) (drop place w) (rw (take-append-drop place w) F.has_lookups) in
-      let parts : before ++ w ≡ (before ++ take place w) ++ drop place w =
-      ap (before ++◌) (sym (take-append-drop place w)) ∙ sym (append_assoc before (take place w) (drop place w)) in
-      let unmet : is_met (read_letters R ((before ++ take place w) ++ drop place w) T) ≡ false =
-      subst (λ (l : List ℕ). is_met (read_letters R l T) ≡ false) parts F.unmet in
       record {
         holds = F.holds;
         has_lookups = rest;
-        follows = skips.follows m R T before (record {
-          holds = F.holds;
-          has_lookups = front;
-          follows = F.follows;
-          unmet = unmet_before R (before ++ take place w) (drop place w) T unmet;
-        });
-        unmet = unmet;
+        follows = skips.follows m R T before (record { holds = F.holds; has_lookups = front; follows = F.follows });
       }
 
   pub behind_followable : Followable lookups k w x m → Followable lookups k (drop place w) y there_maps

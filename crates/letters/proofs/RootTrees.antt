@@ -16,13 +16,12 @@ use Rattle.rule.proofs.LookupLaws.{look_up_successors, look_up_successors_in}
 use Rattle.word.specs.Walk.{max_length}
 use Rattle.word.specs.Inner.WalkLookups.{Lookups, HasLookup}
 use Rattle.history.specs.Forest.{nil, node, size}
-use Rattle.history.specs.Tree.{Tree, labels, is_met}
+use Rattle.history.specs.Tree.{Tree, labels}
 use Rattle.history.specs.Rounds.{read_letters}
 use Rattle.history.specs.Inner.Root.{Root, Shows, lone_tree, root_kids, root_letter, root_letters}
 use Rattle.history.proofs.Tree.Conditions.{Active}
 use Rattle.history.proofs.Step.TreesOf.{of_nested}
 use Rattle.history.proofs.Repeat.RepeatExists.{letters_keep}
-use Rattle.history.proofs.Walk.MetTrees.{unmet_before}
 use Rattle.history.proofs.Walk.TreesOfWalk.{read_append}
 use Rattle.history.proofs.Root.RootLetter.{settled_active}
 use Rattle.history.proofs.Root.RootLetters.{read_alone, root_maps_lem}
@@ -78,11 +77,11 @@ first_node : (nodes : List CodeNode) (count : ℕ) → 0 < count
     → get_or (map without_old (take count nodes)) 0 blank_node ≡ without_old (get_or nodes 0 blank_node)
 first_node nodes count h = get_or-map without_old (take count nodes) 0 blank_node ∙ ap without_old (get_or-take count nodes 0 blank_node h)
 
-module _ {R : Rule} {T : Tree} {x : CodeTree} (some_set : 1 ≤ R.sets) (held : HoldsTree R T x) (unmet : is_met T ≡ false) where
+module _ {R : Rule} {T : Tree} {x : CodeTree} (some_set : 1 ≤ R.sets) (held : HoldsTree R T x) where
   -- what is carried shows the tree, and its active set is from 1 to k
   pub root_shown : Shows (root_on x) T × (1 ≤ (root_on x).active) × ((root_on x).active ≤ R.sets) × ((root_on x).accepted ≡ false)
   unfolding root_on nodes_of nodes_from size
-  root_shown = go T held.counts held.are (of_nested R T held.fits unmet).active
+  root_shown = go T held.counts held.are (of_nested R T held.fits).active
     where
       go : (T : Tree) → x.count ≡ size T → AreNodes (counted_nodes x) T → Active R.sets T
           → Shows (root_on x) T × (1 ≤ (root_on x).active) × ((root_on x).active ≤ R.sets) × ((root_on x).accepted ≡ false)
@@ -136,10 +135,10 @@ module _ (R : Rule) (lookups : Lookups) (k : ℕ) (holds : HasSets R k) where
 -- the letters can be read for the root alone
 pub root_passable : (lookups : Lookups) (k : ℕ) (w : List ℕ) (x : CodeTree) → Readable lookups k w x → length w ≤ max_length
     → (r : Root) → r ≡ root_on x → Passable k w r
-unfolding Readable read_letters
+unfolding Readable
 root_passable lookups k w x (R, T, reads) short r is =
     let limits = reads.holds.limits in
-    let (_, _, high, _) = root_shown limits.some_set reads.tree (unmet_before R [] w T reads.unmet) in
+    let (_, _, high, _) = root_shown limits.some_set reads.tree in
     record {
       sets = omega (arith, reads.holds.number, limits.sets);
       active = rw is (omega (arith, high, limits.sets));
@@ -160,11 +159,9 @@ skips_none lookups k w x = record {
 -- where the root is alone, the tree is that root, and only it is left to follow
 module _ (lookups : Lookups) (k : ℕ) (w : List ℕ) (x y : CodeTree) (place : ℕ) (r : Root) (alone : AloneAt lookups k w (root_on x) place r)
     (some : 0 < place) (lone : IsLone r y) where
-  module _ {R : Rule} {T : Tree} (holds : HasSets R k) (has : Every (HasLookup R lookups) (take place w)) (tree : HoldsTree R T x)
-      (unmet : is_met (read_letters R (take place w) T) ≡ false) where
-    shown : Shows (root_on x) T × (1 ≤ (root_on x).active) × ((root_on x).active ≤ R.sets) × ((root_on x).accepted ≡ false)
-    unfolding read_letters
-    shown = root_shown holds.limits.some_set tree (unmet_before R [] (take place w) T unmet)
+  module _ {R : Rule} {T : Tree} (holds : HasSets R k) (has : Every (HasLookup R lookups) (take place w)) (tree : HoldsTree R T x) where
+    abbrev shown : Shows (root_on x) T × (1 ≤ (root_on x).active) × ((root_on x).active ≤ R.sets) × ((root_on x).accepted ≡ false)
+    shown = root_shown holds.limits.some_set tree
 
     root_there : r ≡ root_letters R (take place w) (root_on x)
     root_there = alone.root ∙ roots_are R lookups k holds (take place w) has (root_on x) shown.1 shown.2
@@ -174,7 +171,7 @@ module _ (lookups : Lookups) (k : ℕ) (w : List ℕ) (x y : CodeTree) (place : 
 
     tree_there : HoldsTree R (read_letters R (take place w) T) y
     tree_there =
-        let read = read_alone R holds.limits.well holds.limits.some_set (take place w) (root_on x) T tree.fits unmet shown.0 none_there in
+        let read = read_alone R holds.limits.well holds.limits.some_set (take place w) (root_on x) T tree.fits shown.0 none_there in
         record {
           fits = letters_keep R holds.limits.well holds.limits.some_set (take place w) T tree.fits;
           counts = lone.counts ∙ rw (read, root_there);
@@ -185,7 +182,7 @@ module _ (lookups : Lookups) (k : ℕ) (w : List ℕ) (x y : CodeTree) (place : 
   unfolding ReadsTo FollowsTo root_maps
   skips_alone = record {
     upto = alone.upto;
-    reads = λ R T reads. tree_there reads.holds reads.has_lookups reads.tree reads.unmet;
+    reads = λ R T reads. tree_there reads.holds reads.has_lookups reads.tree;
     follows = λ m R T before F. followed m R T before F;
   }
     where
@@ -194,14 +191,13 @@ module _ (lookups : Lookups) (k : ℕ) (w : List ℕ) (x y : CodeTree) (place : 
       followed m R T before F =
           let limits = F.holds.limits in
           let tree = F.follows.tree in
-          let unmet : is_met (read_letters R (take place w) (read_letters R before T)) ≡ false = rw read_append at F.unmet in
-          let there = root_there F.holds F.has_lookups tree unmet in
-          let first = shown F.holds F.has_lookups tree unmet in
-          let (kept, witnesses) = root_maps_lem R limits.well limits.some_set T F.follows.first before (take place w) F.unmet (root_on x)
-          first.0 first.3 (none_there F.holds F.has_lookups tree unmet) in
+          let there = root_there F.holds F.has_lookups tree in
+          let first = root_shown limits.some_set tree in
+          let (kept, witnesses) = root_maps_lem R limits.well limits.some_set T F.follows.first before (take place w) (root_on x)
+          first.0 first.3 (none_there F.holds F.has_lookups tree) in
           rw (ne_eqb place 0 (λ e. omega arith)) (record {
             first = F.follows.first;
-            tree = rw read_append (tree_there F.holds F.has_lookups tree unmet);
+            tree = rw read_append (tree_there F.holds F.has_lookups tree);
             kept = lone.counts ∙ rw there (sym kept);
             witnesses = rw (F.follows.witnesses, lone.counts, there) (sym witnesses);
           })

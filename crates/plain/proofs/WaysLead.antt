@@ -1,4 +1,4 @@
--- Letters read by their look-ups lead where the paths of the rule lead: the rows of a tail.
+-- Letters read by their look-ups lead where the paths of the rule lead: the states after the lead-in, and the rows of a tail.
 use mathlib.Core.Path.{◌≡◌, refl, sym, ◌∙◌, ap, subst}
 use mathlib.Core.Logic.{◌⊎◌, ⊎_elim, inl, inr}
 use mathlib.Core.Bool.{Bool, true, ◌&&◌}
@@ -24,7 +24,7 @@ use Rattle.rule.proofs.LaneLaws.{in_lane_member}
 use Rattle.rule.proofs.LookupLaws.{look_up_successors, look_up_successors_in}
 use Rattle.word.specs.Lasso.{Leads}
 use Rattle.word.specs.Inner.WalkLookups.{Lookups, HasLookup}
-use Rattle.plain.specs.Inner.Letters.{over, own_row, extended, row_after}
+use Rattle.plain.specs.Inner.Letters.{over, states_after, own_row, extended, row_after}
 use Rattle.plain.proofs.LetterLaws.{onward_in, onward_out, extended_at}
 use Rattle.plain.proofs.WayLaws.{Takes, takes_union, takes_apart}
 
@@ -89,6 +89,24 @@ module _ (R : Rule) (well : WellFormed R) (states : R.states ≤ lane_width) (lo
         ∙ or_r (member (look_up lookup i (map_of row 0)) r) _ (onward_in lookup (map_of row i) q r k (look_in 0 (map_of row i) q r (omega arith) k e tt)))
     extended_in row q r i h e (inr (k, takes)) = rw (extended_at lookup row i h) (member_union _ _ r
         ∙ or_l (member (look_up lookup i (map_of row 0)) r) _ (look_in i (map_of row 0) q r h k e takes))
+
+  -- THE LEAD-IN
+
+  pub states_out : (w : List ℕ) (S t : ℕ) → Every (HasLookup R lookups) w → member (states_after lookups w S) t ≡ true
+      → (s : ℕ) × (c : ℕ) × (member S s ≡ true) × Leads R w s c t
+  unfolding states_after over
+  states_out [] S t fit m = (t, 0, m, (refl, refl))
+  states_out (a ∷ w) S t (has_lookups, fit) m =
+      let (r, d, inside, p) = states_out w (look_up (get_or lookups a []) 0 S) t fit m in
+      let (s, inside', e, _) = look_out a has_lookups 0 S r (omega arith) inside in
+      (s, _, inside', (r, d, e, p, refl))
+
+  pub states_in : (w : List ℕ) (S s c t : ℕ) → Every (HasLookup R lookups) w → member S s ≡ true → Leads R w s c t
+      → member (states_after lookups w S) t ≡ true
+  unfolding states_after over
+  states_in [] S s c t fit m (e, _) = rw e at m
+  states_in (a ∷ w) S s c t (has_lookups, fit) m (r, d, e, p, _) =
+      states_in w (look_up (get_or lookups a []) 0 S) r d t fit (look_in a has_lookups 0 S s r (omega arith) m e tt) p
 
   -- THE TAIL
 

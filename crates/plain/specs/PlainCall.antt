@@ -1,11 +1,11 @@
--- The plain judge's call (document 01, "Walks and verdicts"; document 02, U3): what it answers, and what it leaves in the lent scratch
+-- The plain judge's call (document 01, "Walks and verdicts"): what it answers, and what it leaves in the lent scratch
 -- bytes, for all inputs. It knows the table and nothing of trees.
 use Rattle.std.specs.Prelude.{◌≡◌, List, ℕ, ◌≤◌, length, replicate}
 use Rattle.base.specs.Outcome.{Outcome, refused, accepted, Tells}
 use Rattle.base.specs.LentBuffer.{stored}
 use Rattle.rule.specs.Rule.{Rule}
 use Rattle.word.specs.Judging.{judge_questions}
-use Rattle.word.specs.Keeps.{KeepsByPaths}
+use Rattle.word.specs.Keeps.{KeepsByLasso}
 use Rattle.word.specs.Verdict.{Decides}
 use Rattle.plain.specs.declared.judge.PlainAnswer.{PlainAnswer}
 
@@ -17,10 +17,10 @@ scratch_length = 256
 unfoldable pub plain_outcome : List ℕ → List ℕ → List ℕ → List ℕ → Outcome Rule
 plain_outcome table u v scratch = judge_questions scratch_length table u v scratch
 
--- the answer: yes exactly when the walk keeps the rule, by paths: a loop, or a mark in reach; on a refusal its number and zero
+-- the answer: yes exactly when the walk keeps the rule, by a loop; on a refusal its number and zero
 abbrev pub PlainAnswers : Outcome Rule → List ℕ → List ℕ → PlainAnswer → Type 0
 PlainAnswers (refused number) u v answer = answer ≡ record { number = number; verdict = 0 }
-PlainAnswers (accepted R) u v answer = (answer.number ≡ 0) × Decides answer.verdict (KeepsByPaths R u v)
+PlainAnswers (accepted R) u v answer = (answer.number ≡ 0) × Decides answer.verdict (KeepsByLasso R u v)
 
 -- the scratch bytes afterwards: "the bytes it wants are still left zero, those past them unchanged"; on a refusal all unchanged
 unfoldable pub scratch_after : Outcome Rule → List ℕ → List ℕ

@@ -2,12 +2,12 @@
 ghost use Rattle.std.specs.Prelude.{◌≡◌};
 ghost use Rattle.rule.specs.Rule.{Rule};
 ghost use Rattle.word.specs.Judging.{ask_room};
-ghost use Rattle.word.specs.Keeps.{KeepsByPaths};
-ghost use Rattle.word.specs.Lasso.{Lasso};
+ghost use Rattle.word.specs.Keeps.{KeepsByLasso};
 ghost use Rattle.word.specs.Inner.Prepared.{Prepared};
 ghost use Rattle.word.specs.Verdict.{Decides};
 ghost use Rattle.plain.specs.PlainCall.{PlainCall, PlainDone, scratch_length};
 
+use crate::lead::states_after;
 use crate::limits::SCRATCH_LENGTH;
 use crate::rounds::transitive_closure;
 use crate::scratch::clear;
@@ -18,7 +18,6 @@ use rule::lookup::ENTRIES;
 use table::header::Header;
 use table::reader::Reading;
 use word::lookups::Lookups;
-use word::marks::{MarkRound, mark_round, read_states};
 use word::questions::walk_questions;
 use word::walk::letters_left;
 
@@ -40,35 +39,23 @@ pub fn plain_refusal(number: u8) -> PlainAnswer
     }
 }
 
-// Has a walk a loop? Right for every rule with these numbers and these look-ups of the walk's letters.
-fn lasso_verdict<'a>(lookups: &Lookups, header: Header, u: &'a [u8], v: &'a [u8]) -> u8
+// The verdict on a walk, right for every rule with these numbers and these look-ups of the walk's letters.
+fn walk_verdict<'a>(lookups: &Lookups, header: Header, u: &'a [u8], v: &'a [u8]) -> u8
     requires { (R : Rule) × Prepared R header lookups.now u.now v.now }
     ensures { (R : Rule) → Prepared R header lookups.now u.now v.now
-        → Decides result (Lasso R u.now v.now) }
+        → Decides result (KeepsByLasso R u.now v.now) }
 {
     let n = header.states;
     // the states that "u" leads to from a starting state
     let lead = letters_left(u, v, false, 0);
-    let led = read_states(lookups, lead, header.start);
+    let from = states_after(lookups, header.start, lead);
     // the ways that one tail opens between any two states, then those of one or more tails
     let tail = letters_left(u, v, true, 0);
     let mut rows = tail_matrix(lookups, tail, n);
     transitive_closure(&mut rows, n);
     // a state s such that "u and i tails lead from a starting state to s, and j further tails lead from s back to s
     // taking at least one transition of each set"
-    some_lasso(&rows, led.states, n, header.sets)
-}
-
-// The verdict on a walk: a mark in reach, else a loop. It is right for every rule with these numbers and these look-ups of the walk's letters.
-fn walk_verdict<'a>(lookups: &Lookups, header: Header, u: &'a [u8], v: &'a [u8]) -> u8
-    requires { (R : Rule) × Prepared R header lookups.now u.now v.now }
-    ensures { (R : Rule) → Prepared R header lookups.now u.now v.now
-        → Decides result (KeepsByPaths R u.now v.now) }
-{
-    match mark_round(lookups, header, u, v) {
-        MarkRound::At(_) => 1,
-        MarkRound::Nowhere => lasso_verdict(lookups, header, u, v),
-    }
+    some_lasso(&rows, from, n, header.sets)
 }
 
 // The judge on look-ups that are ready for a walk: question 10 to the scratch bytes, then the verdict. It is right for every rule that the

@@ -1,5 +1,6 @@
 // The plain judge. It knows the table and nothing of trees.
 pub mod judge;
+mod lead;
 pub mod limits;
 mod rounds;
 mod scratch;

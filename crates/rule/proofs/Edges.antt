@@ -1,21 +1,20 @@
--- What well-formedness says of transitions: they lie inside the rule's letters and states; and which sets they belong to, whether marked
--- or not.
-use mathlib.Core.Path.{◌≡◌, refl, sym, ◌∙◌, ap}
+-- What well-formedness says of transitions: they lie inside the rule's letters and states; and which sets they belong to.
+use mathlib.Core.Path.{◌≡◌, refl, ap}
 use mathlib.Core.Bool.{true, ◌||◌}
 use mathlib.Core.Logic.{⊎_elim}
 use mathlib.Core.List.{List, [], ◌∷◌}
 use Prim.Native.Nat.{ℕ, zero, suc, ◌^◌, ◌<◌, suc-le-suc}
 use native.Mathlib.Omega.{arith}
-use borrow.Author.Tests.{eqb-true, eqb-false, ne_eqb, ltb-true}
-use lib.Dec.{eqb}
+use borrow.Author.Tests.{eqb-true, eqb-false, ltb-true}
+use lib.Dec.{eqb, ltb}
 use lib.ListN.{length, get_or}
-use Rattle.base.specs.BitSet.{member, minus}
-use Rattle.base.proofs.Logic.{clash, and_both, and_in, or_in, not_in, not_out}
-use Rattle.base.proofs.BitSet.{member_minus, member_single, member_lt}
+use Rattle.base.specs.BitSet.{member}
+use Rattle.base.proofs.Logic.{clash, and_both, and_in, or_in, not_in}
+use Rattle.base.proofs.BitSet.{member_lt}
 use Rattle.base.proofs.Every.{every_at}
-use Rattle.rule.specs.Limits.{no_transition, mark_bit}
+use Rattle.rule.specs.Limits.{no_transition}
 use Rattle.rule.specs.Rule.{Grid, Rule, cell_at, edge, edge_in}
-use Rattle.rule.specs.WellFormed.{set_byte_fits, bytes_fit, RowFits, SquareFits, WellFormed}
+use Rattle.rule.specs.WellFormed.{bytes_fit, RowFits, SquareFits, WellFormed}
 
 -- a place that holds anything but the default is a place of the list
 inside : {A : Type 0} (l : List A) (i : ℕ) (d : A) → (get_or l i d ≡ d → ⊥) → i < length l
@@ -23,14 +22,14 @@ inside [] i d h = absurd (h refl)
 inside (x ∷ l) zero d h = omega arith
 inside (x ∷ l) (suc i) d h = suc-le-suc (inside l i d h)
 
--- a byte of a fitting row is no transition, or fits the k sets
+-- a byte of a fitting row is no transition, or a map of the k sets
 set_byte_lem : (k : ℕ) (row : List ℕ) (r : ℕ) → bytes_fit k row ≡ true → (get_or row r no_transition ≡ no_transition → ⊥)
-    → set_byte_fits k (get_or row r no_transition) ≡ true
+    → get_or row r no_transition < 2 ^ k
 unfolding bytes_fit
 set_byte_lem k [] r fit there = absurd (there refl)
-set_byte_lem k (x ∷ row) zero fit there = ⊎_elim (λ e. absurd (there (eqb-true x no_transition e))) (λ fits. fits)
-    (or_in (eqb x no_transition) (set_byte_fits k x) (and_in (eqb x no_transition || set_byte_fits k x) (bytes_fit k row) fit).0)
-set_byte_lem k (x ∷ row) (suc r) fit there = set_byte_lem k row r (and_in (eqb x no_transition || set_byte_fits k x) (bytes_fit k row) fit).1 there
+set_byte_lem k (x ∷ row) zero fit there = ⊎_elim (λ e. absurd (there (eqb-true x no_transition e))) (ltb-true x (2 ^ k))
+    (or_in (eqb x no_transition) (ltb x (2 ^ k)) (and_in (eqb x no_transition || ltb x (2 ^ k)) (bytes_fit k row) fit).0)
+set_byte_lem k (x ∷ row) (suc r) fit there = set_byte_lem k row r (and_in (eqb x no_transition || ltb x (2 ^ k)) (bytes_fit k row) fit).1 there
 
 -- the places of a transition in a well-formed rule's grid
 module _ (R : Rule) (well : WellFormed R) (a q r : ℕ) (h : edge R.grid a q r ≡ true) where
@@ -64,10 +63,10 @@ module _ (R : Rule) (well : WellFormed R) (a q r : ℕ) (h : edge R.grid a q r �
     omega (arith, inside row r no_transition there, row_fits.0),
   )
 
-  -- and but for the mark its byte is a map of the rule's sets
-  pub edge_sets : minus (cell_at R.grid a q r) (2 ^ mark_bit) < 2 ^ R.sets
-  unfolding cell_at set_byte_fits
-  edge_sets = ltb-true _ _ (set_byte_lem R.sets row r row_fits.1 there)
+  -- and its byte is a map of the rule's sets
+  pub edge_sets : cell_at R.grid a q r < 2 ^ R.sets
+  unfolding cell_at
+  edge_sets = set_byte_lem R.sets row r row_fits.1 there
 
 -- a transition of a set is a transition
 pub edge_in_edge : (grid : Grid) (i a q r : ℕ) → edge_in grid i a q r ≡ true → edge grid a q r ≡ true
@@ -85,10 +84,7 @@ pub member_edge_in : (grid : Grid) (i a q r : ℕ)
 unfolding edge_in
 member_edge_in grid i a q r e m = and_both (edge grid a q r) (member (cell_at grid a q r) i) e m
 
--- but for the mark there are only the rule's sets
-pub edge_in_set : (R : Rule) → WellFormed R → (i a q r : ℕ) → edge_in R.grid (suc i) a q r ≡ true → (i ≡ mark_bit → ⊥) → i < R.sets
-edge_in_set R well i a q r h other =
-    let x = cell_at R.grid a q r in
-    let no-mark = not_out _ (member_single mark_bit i ∙ ne_eqb mark_bit i (λ e. other (sym e))) in
-    member_lt R.sets (minus x (2 ^ mark_bit)) i (edge_sets R well a q r (edge_in_edge R.grid (suc i) a q r h))
-    (member_minus x (2 ^ mark_bit) i ∙ and_both (member x i) _ (edge_in_member R.grid i a q r h) no-mark)
+-- there are only the rule's sets
+pub edge_in_set : (R : Rule) → WellFormed R → (i a q r : ℕ) → edge_in R.grid (suc i) a q r ≡ true → i < R.sets
+edge_in_set R well i a q r h = member_lt R.sets (cell_at R.grid a q r) i
+    (edge_sets R well a q r (edge_in_edge R.grid (suc i) a q r h)) (edge_in_member R.grid i a q r h)

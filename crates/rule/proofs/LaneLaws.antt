@@ -1,16 +1,14 @@
 -- The laws of words of lanes (specs/inner/Lanes.antt): the map in a lane, words made of maps, lanes chosen, and maps put into them.
 use mathlib.Core.Path.{◌≡◌, refl, sym, ◌∙◌, ap, ap₂}
-use mathlib.Core.Bool.{Bool, true, false, ◌&&◌, ◌||◌, cond}
+use mathlib.Core.Bool.{Bool, true, false, ◌&&◌, cond}
 use Prim.Native.Nat.{ℕ, zero, suc, ◌+◌, ◌*◌, ◌/◌, ◌%◌, ◌^◌, ◌≤◌, ◌<◌}
 use native.Mathlib.Omega.{arith}
-use borrow.Author.Tests.{eqb-true, eq-eqb}
 use lib.Bits.{bit_and, bit_or, and_block, and_mask, and_zero_r, or_block, or_self, or_shr, or_mod, or_zero_l, or_zero_r}
 use lib.Dec.{eqb, eqb-zero-suc, eqb-suc-zero, eqb-suc-suc}
 use lib.Pow.{shr-shr, pow-add}
 use Rattle.base.specs.BitSet.{member}
-use Rattle.base.proofs.BitSet.{bit_member, member_none, member_union, member_single, member_from, member_mod}
-use Rattle.base.proofs.Logic.{bool_ext}
-use Rattle.rule.specs.Inner.Lanes.{lane_width, lanes, map_of, word_of, chosen_lanes, each_lane, spread, lanes_with, in_lane, in_lanes}
+use Rattle.base.proofs.BitSet.{bit_member, member_none, member_from, member_mod}
+use Rattle.rule.specs.Inner.Lanes.{lane_width, map_of, word_of, chosen_lanes, each_lane, lanes_with, in_lane, in_lanes}
 
 -- THE MAP IN A LANE
 
@@ -139,30 +137,6 @@ one_lane (suc k) zero small = omega (arith, chosen_ext k _ (λ j. false) (λ j l
 one_lane (suc k) (suc i) small =
     rw (next_lane i, pow-add 2 lane_width (lane_width * i), eqb-zero-suc i)
     (omega (arith, one_lane k i (omega arith), chosen_ext k _ (λ j. eqb j i) (λ j l. eqb-suc-suc j i)))
-
--- the lanes of either choice
-chosen_union : (k : ℕ) (f g : ℕ → Bool) → bit_or (chosen_lanes k f) (chosen_lanes k g) ≡ chosen_lanes k (λ i. f i || g i)
-unfolding chosen_lanes
-chosen_union k f g = word_of_union k _ _ (λ j. omega (arith, kept_le 1 (f j))) (λ j. omega (arith, kept_le 1 (g j)))
-    ∙ word_of_ext k _ _ (λ i small. go (f i) (g i))
-  where
-    go : (a b : Bool) → bit_or (cond a 1 0) (cond b 1 0) ≡ cond (a || b) 1 0
-    go true true = refl
-    go true false = refl
-    go false true = refl
-    go false false = refl
-
--- equality of numbers, tested either way
-pub eqb_comm : (i j : ℕ) → eqb i j ≡ eqb j i
-eqb_comm i j = bool_ext _ _ (λ e. eq-eqb j i (sym (eqb-true i j e))) (λ e. eq-eqb i j (sym (eqb-true j i e)))
-
--- the lane of one more relation
-pub spread_more : (relations i : ℕ) → i < lanes → bit_or (spread relations) (in_lane 1 i) ≡ spread (bit_or relations (2 ^ i))
-unfolding spread in_lane
-spread_more relations i small =
-    let one : 1 * 2 ^ (lane_width * i) ≡ 2 ^ (lane_width * i) = omega arith in
-    ap (bit_or (chosen_lanes lanes (member relations))) (one ∙ one_lane lanes i small) ∙ chosen_union lanes (member relations) (λ j. eqb j i)
-    ∙ chosen_ext lanes _ _ (λ j l. sym (member_union relations (2 ^ i) j ∙ ap (member relations j ||◌) (member_single i j ∙ eqb_comm i j)))
 
 -- chosen below k they are, as a number, at most each of the lanes below n, if k is at most n
 pub chosen_le : (k n : ℕ) (f : ℕ → Bool) → k ≤ n → chosen_lanes k f ≤ each_lane n

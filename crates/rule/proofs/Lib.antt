@@ -1,12 +1,9 @@
 -- Transitions and successors.
 pub mod Edges
-pub mod Successors
-pub mod Marks
 pub mod SameSquares
 pub mod Padding
 -- The word of lanes, and the look-up.
 pub mod LaneLaws
-pub mod SetBytes
 pub mod ByRelation
 pub mod RowWords
 pub mod LookupSteps

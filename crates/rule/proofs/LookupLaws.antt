@@ -1,11 +1,11 @@
 -- Two entries of a letter's look-up give the image of any set of states under each of its relations: so a look-up gives the
--- successors of a set of states, those by transitions of one set, and those by marked transitions.
-use mathlib.Core.Path.{◌≡◌, refl, sym, ◌∙◌, ap, ap₂}
-use mathlib.Core.Bool.{or-false}
+-- successors of a set of states, and those by transitions of one set.
+use mathlib.Core.Path.{◌≡◌, sym, ◌∙◌, ap, ap₂}
+use mathlib.Core.Bool.{Bool, ◌&&◌}
 use mathlib.Core.List.{List, [], ◌++◌}
 use Prim.Native.Nat.{ℕ, zero, suc, ◌+◌, ◌*◌, ◌/◌, ◌%◌, ◌^◌, ◌≤◌, ◌<◌}
 use native.Mathlib.Omega.{arith}
-use borrow.Author.Tests.{ne_eqb, lt-ltb}
+use borrow.Author.Tests.{lt-ltb}
 use lib.Bits.{bit_or, or_shifted_r}
 use lib.ListN.{length, get_or, get_or-append}
 use lib.Seq.{get_or-append-add}
@@ -13,14 +13,12 @@ use Rattle.base.specs.BitSet.{member, image}
 use Rattle.base.specs.Lists.{tabulate}
 use Rattle.base.proofs.BitSet.{member_union, collect_members, image_lt, image_union, image_mod}
 use Rattle.base.proofs.Tabulate.{length_tabulate, get_d_tabulate}
-use Rattle.rule.specs.Limits.{mark_bit}
-use Rattle.rule.specs.Inner.Lanes.{lane_width, lanes, set_lanes, mark_lane, map_of}
-use Rattle.rule.specs.Rule.{Rule, cell_at, edge, edge_in, marked, successors, successors_in, marked_successors}
+use Rattle.rule.specs.Inner.Lanes.{lane_width, lanes, set_lanes, map_of}
+use Rattle.rule.specs.Rule.{Rule, cell_at, edge, edge_in, successors, successors_in}
 use Rattle.rule.specs.WellFormed.{WellFormed}
 use Rattle.rule.specs.Inner.Padded.{padded}
 use Rattle.rule.specs.Inner.Lookup.{relation, images, Lookup, letter_lookup, images_by, look_up}
 use Rattle.rule.proofs.ByRelation.{relations_ext, relations_union, relations_at}
-use Rattle.rule.proofs.Marks.{marked_successors_lem}
 use Rattle.rule.proofs.Padding.{image_padded, image_padded_in}
 
 -- a union leads where its parts lead, by each relation
@@ -64,7 +62,7 @@ look_up_image square i s h = ap (λ (x : ℕ). map_of x i) (ap₂ bit_or first s
     both = let e : 16 * (s / 16 % 16) ≡ s / 16 % 16 * 2 ^ 4 = omega arith in
         ap (bit_or (s % 16)) e ∙ or_shifted_r (s / 16 % 16) 4 (s % 16) (omega arith) ∙ omega arith
 
--- of the rule that the arrays hold: the successors of any set, those by transitions of set i, and those by marked transitions
+-- of the rule that the arrays hold: the successors of any set, and those by transitions of set i
 module _ (R : Rule) (well : WellFormed R) (small : R.states ≤ lane_width) where
   pub look_up_successors : (a s : ℕ) → look_up (letter_lookup (get_or (padded R.grid) a [])) 0 s ≡ successors R a s
   unfolding relation edge cell_at
@@ -76,10 +74,4 @@ module _ (R : Rule) (well : WellFormed R) (small : R.states ≤ lane_width) wher
   look_up_successors_in zero a s low high = absurd (omega arith)
   look_up_successors_in (suc i) a s low high = look_up_image (get_or (padded R.grid) a []) (suc i) s (omega arith)
       ∙ image_padded_in R well lane_width small (suc i) a s _
-      (λ q r. rw (lt-ltb i set_lanes (omega arith), ne_eqb (suc i) mark_lane (λ e. omega arith))
-      (or-false (edge_in (padded R.grid) (suc i) a q r)))
-
-  pub look_up_marked : (a s : ℕ) → look_up (letter_lookup (get_or (padded R.grid) a [])) mark_lane s ≡ marked_successors R a s
-  unfolding relation marked edge_in edge cell_at
-  look_up_marked a s = look_up_image (get_or (padded R.grid) a []) mark_lane s (omega arith)
-      ∙ image_padded_in R well lane_width small (suc mark_bit) a s _ (λ q r. refl) ∙ sym (marked_successors_lem R a s)
+      (λ q r. ap (λ (b : Bool). b && edge_in (padded R.grid) (suc i) a q r) (lt-ltb i set_lanes (omega arith)))

@@ -2,7 +2,7 @@
 -- which it makes it (specs/inner/LookupSteps.antt).
 use mathlib.Core.Path.{◌≡◌, refl, sym, ◌∙◌, ap, ap₂}
 use mathlib.Core.Logic.{◌⊎◌, inl, inr, ⊎_elim}
-use mathlib.Core.Bool.{Bool, true, false, not, ◌&&◌, ◌||◌, cond, and-false}
+use mathlib.Core.Bool.{Bool, true, false, not, ◌&&◌, cond, and-false}
 use mathlib.Core.List.{List, [], ◌∷◌, ◌++◌}
 use Prim.Native.Nat.{ℕ, zero, suc, ◌+◌, ◌*◌, ◌-◌, ◌/◌, ◌%◌, ◌^◌, ◌≤◌, ◌<◌}
 use native.Mathlib.Decide.{dec_lt, ℕ_discrete}
@@ -16,35 +16,34 @@ use lib.Pow.{pow-add, pow_mono}
 use lib.Seq.{ext_get_or, get_or-append-add, get_or-set_same, get_or-set_other}
 use Rattle.base.specs.BitSet.{member, collect, some, image}
 use Rattle.base.specs.Lists.{tabulate}
-use Rattle.base.proofs.BitSet.{member_zero, member_none, member_single, union_assoc, union_above, member_collect, collect_ext, some_in, some_out, image_none}
+use Rattle.base.proofs.BitSet.{member_zero, member_suc, member_none, member_single, member_below, union_assoc, union_above, member_collect, collect_ext, some_in, some_out, image_none}
 use Rattle.base.proofs.Logic.{and_in, and_both, bool_ext}
 use Rattle.base.proofs.Tabulate.{length_tabulate, get_d_tabulate, tabulate_ext}
-use Rattle.rule.specs.Limits.{no_transition, mark_bit}
-use Rattle.rule.specs.Inner.Lanes.{lane_width, set_lanes, mark_lane, named_by}
-use Rattle.rule.specs.Rule.{Grid, cell_at, edge, edge_in, marked}
+use Rattle.rule.specs.Limits.{no_transition}
+use Rattle.rule.specs.Inner.Lanes.{lane_width, set_lanes}
+use Rattle.rule.specs.Rule.{Grid, cell_at, edge, edge_in}
 use Rattle.rule.specs.Inner.Lookup.{relations_of, relation, row_word, square_words, grid_words, images, Lookup, letter_lookup, joined_word, joined_lookup}
 use Rattle.rule.specs.Inner.LookupSteps.{StateAdded}
 use Rattle.rule.proofs.ByRelation.{relations_ext, relations_none}
 use Rattle.rule.proofs.LookupLaws.{images_union}
 use Rattle.rule.proofs.RowWords.{word_at, words_at}
-use Rattle.rule.proofs.SetBytes.{named_member}
 
 -- a byte's map of relations says which relations its transition stands in
 relation_byte : (square : List (List ℕ)) (i q r : ℕ)
     → relation square i q r ≡ member (relations_of (get_or (get_or square q []) r no_transition)) i
-unfolding relation edge edge_in marked cell_at relations_of named_by
+unfolding relation edge edge_in cell_at relations_of
 relation_byte square zero q r = go (eqb (get_or (get_or square q []) r no_transition) no_transition) (get_or (get_or square q []) r no_transition)
   where
-    go : (b : Bool) (x : ℕ) → not b ≡ member (cond b 0 (1 + named_by x)) 0
+    go : (b : Bool) (x : ℕ) → not b ≡ member (cond b 0 (1 + 2 * (x % 2 ^ set_lanes))) 0
     go true x = sym (member_none 0)
-    go false x = let e : (1 + named_by x) % 2 ≡ 1 = omega arith in
-        sym (member_zero (1 + named_by x) ∙ ap (λ (d : ℕ). eqb d 1) e)
+    go false x = let e : (1 + 2 * (x % 2 ^ set_lanes)) % 2 ≡ 1 = omega arith in
+        sym (member_zero (1 + 2 * (x % 2 ^ set_lanes)) ∙ ap (λ (d : ℕ). eqb d 1) e)
 relation_byte square (suc i) q r = go (eqb (get_or (get_or square q []) r no_transition) no_transition) (get_or (get_or square q []) r no_transition)
   where
-    go : (b : Bool) (x : ℕ) → ((ltb i set_lanes && (not b && member x i)) || (eqb (suc i) mark_lane && (not b && member x mark_bit)))
-        ≡ member (cond b 0 (1 + named_by x)) (suc i)
-    go true x = rw (and-false (ltb i set_lanes), and-false (eqb (suc i) mark_lane)) (sym (member_none (suc i)))
-    go false x = sym (named_member x i)
+    go : (b : Bool) (x : ℕ) → (ltb i set_lanes && (not b && member x i)) ≡ member (cond b 0 (1 + 2 * (x % 2 ^ set_lanes))) (suc i)
+    go true x = and-false (ltb i set_lanes) ∙ sym (member_none (suc i))
+    go false x = let e : (1 + 2 * (x % 2 ^ set_lanes)) / 2 ≡ x % 2 ^ set_lanes = omega arith in
+        sym (member_suc (1 + 2 * (x % 2 ^ set_lanes)) i ∙ ap (λ (d : ℕ). member d i) e ∙ member_below set_lanes x i)
 
 -- THE IMAGES OF A SET
 

@@ -3,7 +3,7 @@
 use mathlib.Core.Path.{◌≡◌, refl, sym, ◌∙◌, ap, ap₂}
 use mathlib.Core.Bool.{Bool, true, false, ◌&&◌, ◌||◌, and-false, and-true, or-false}
 use mathlib.Core.List.{List, [], ◌∷◌, map}
-use Prim.Native.Nat.{ℕ, zero, suc, ◌+◌, ◌-◌, ◌/◌, ◌%◌, ◌^◌, ◌≤◌, ◌<◌}
+use Prim.Native.Nat.{ℕ, zero, suc, ◌+◌, ◌*◌, ◌-◌, ◌/◌, ◌%◌, ◌^◌, ◌≤◌, ◌<◌}
 use native.Mathlib.Decide.{ℕ_discrete}
 use native.Mathlib.Omega.{arith}
 use borrow.Author.Tests.{eq-eqb, ne_eqb}
@@ -19,7 +19,7 @@ use Rattle.base.proofs.LowestBit.{lowest_inside, lowest_stands, cleared_member, 
 use Rattle.rule.specs.Limits.{max_states, max_letters, no_transition}
 use Rattle.rule.specs.Rule.{Grid}
 use Rattle.rule.specs.Inner.Padded.{blank_row, blank_cells}
-use Rattle.rule.specs.Inner.Lanes.{lane_width, named_by, spread, in_lane, with_state}
+use Rattle.rule.specs.Inner.Lanes.{lane_width, set_lanes, spread, in_lane, with_state}
 use Rattle.rule.specs.Inner.Lookup.{relations_of, row_word, square_words, grid_words}
 use Rattle.rule.proofs.ByRelation.{relations_ext, relations_none, relations_union, relations_in, relations_in_one}
 use Rattle.rule.proofs.Padding.{blank_row_lem}
@@ -47,9 +47,9 @@ word_start standing made e = record {
   is = e ∙ sym (ap (λ (x : ℕ). bit_or x (in_lane standing 0)) word_blank ∙ or_zero_l (in_lane standing 0));
 }
 
--- the transition of the lowest standing bit is there, with the set byte x
+-- the transition of the lowest standing bit is there, with the sets x
 module _ {row : List ℕ} {rest made : ℕ} (v : WordSoFar row rest made) (room : lane_width ≤ length row) (some : 0 < rest) (few : rest < 2 ^ lane_width)
-    (width : ℕ) (wide : lane_width ≤ width) (x : ℕ) (there : x ≡ no_transition → ⊥) where
+    (width : ℕ) (wide : lane_width ≤ width) (x : ℕ) (small : x < 2 ^ set_lanes) where
   abbrev r : ℕ
   r = count_trailing_zeros width rest
 
@@ -58,18 +58,18 @@ module _ {row : List ℕ} {rest made : ℕ} (v : WordSoFar row rest made) (room 
 
   -- the bits that stand before and after it
   abbrev before : ℕ → ℕ → Bool
-  before i q = (member (relations_of (get_or row q no_transition)) i || (eqb i 0 && member rest q)) || (member (named_by x) i && member (2 ^ r) q)
+  before i q = (member (relations_of (get_or row q no_transition)) i || (eqb i 0 && member rest q)) || (member (2 * x) i && member (2 ^ r) q)
 
   abbrev after : ℕ → ℕ → Bool
   after i q = member (relations_of (get_or (set row r x) q no_transition)) i || (eqb i 0 && member (bit_and rest (rest - 1)) q)
 
   same : (i q : ℕ) → Dec (q ≡ r) → before i q ≡ after i q
-  unfolding relations_of named_by
+  unfolding relations_of
   same i q (yes e) = rw (
     e,
     v.blank r (lowest_stands width lane_width rest wide some few),
     get_or-set_same row r x no_transition (omega (arith, inside)),
-    ne_eqb x no_transition there,
+    ne_eqb x no_transition (λ z. omega arith),
     cleared_member width lane_width rest wide some few r,
     lowest_stands width lane_width rest wide some few,
     member_single r r,
@@ -77,13 +77,13 @@ module _ {row : List ℕ} {rest made : ℕ} (v : WordSoFar row rest made) (room 
     member_none i,
   ) (go i)
     where
-      go : (i : ℕ) → ((eqb i 0 && true) || (member (named_by x) i && true)) ≡ (member (1 + named_by x) i || (eqb i 0 && false))
-      go zero = let e : (1 + named_by x) % 2 ≡ 1 = omega arith in
-          sym (ap (λ (b : Bool). b || false) (member_zero (1 + named_by x) ∙ ap (λ (d : ℕ). eqb d 1) e))
+      go : (i : ℕ) → ((eqb i 0 && true) || (member (2 * x) i && true)) ≡ (member (1 + 2 * (x % 2 ^ set_lanes)) i || (eqb i 0 && false))
+      go zero = let e : (1 + 2 * (x % 2 ^ set_lanes)) % 2 ≡ 1 = omega arith in
+          sym (ap (λ (b : Bool). b || false) (member_zero (1 + 2 * (x % 2 ^ set_lanes)) ∙ ap (λ (d : ℕ). eqb d 1) e))
       go (suc j) =
-          let same_half : (1 + named_by x) / 2 ≡ named_by x / 2 = omega arith in
-          rw (eqb-suc-zero j, member_suc (named_by x) j, member_suc (1 + named_by x) j, same_half, and-true (member (named_by x / 2) j))
-          (sym (or-false (member (named_by x / 2) j)))
+          let half : 2 * x / 2 ≡ x = omega arith in
+          let half' : (1 + 2 * (x % 2 ^ set_lanes)) / 2 ≡ x = omega arith in
+          rw (eqb-suc-zero j, member_suc (2 * x) j, half, member_suc (1 + 2 * (x % 2 ^ set_lanes)) j, half', and-true (member x j)) (sym (or-false (member x j)))
   same i q (no e) = rw (
     get_or-set_other row r q x no_transition e,
     cleared_member width lane_width rest wide some few q,
@@ -91,16 +91,16 @@ module _ {row : List ℕ} {rest made : ℕ} (v : WordSoFar row rest made) (room 
     member_single r q,
     ne_eqb r q (λ z. e (sym z)),
     and-true (member rest q),
-    and-false (member (named_by x) i),
+    and-false (member (2 * x) i),
   ) (or-false _)
 
-  pub word_take : WordSoFar (set row r x) (bit_and rest (rest - 1)) (with_state made r (spread (named_by x)))
+  pub word_take : WordSoFar (set row r x) (bit_and rest (rest - 1)) (with_state made r (spread (2 * x)))
   unfolding with_state spread row_word
   word_take = record {
     blank = λ q m. let (stands, other) = cleared_others width lane_width rest wide some few q m in
         get_or-set_other row r q x no_transition other ∙ v.blank q stands;
     is = ap₂ bit_or (v.is ∙ ap (bit_or (row_word row)) (relations_in_one rest 0 few (omega arith)) ∙ relations_union _ _)
-        (relations_in (2 ^ r) (member (named_by x)) (pow-lt inside)) ∙ relations_union _ _
+        (relations_in (2 ^ r) (member (2 * x)) (pow-lt inside)) ∙ relations_union _ _
         ∙ relations_ext before after (λ i q h l. same i q (ℕ_discrete q r))
         ∙ sym (ap (bit_or (row_word (set row r x))) (relations_in_one (bit_and rest (rest - 1)) 0
         (omega (arith, and_le_l rest (rest - 1))) (omega arith)) ∙ relations_union _ _);

@@ -1,14 +1,13 @@
 -- The transitions under a letter depend on the square of that letter alone: two letters with the same square, of one rule or of two,
 -- have the same transitions in the same sets, and so the same successors.
 use mathlib.Core.Path.{◌≡◌, refl, ap, ap₂}
-use mathlib.Core.Bool.{Bool, not}
+use mathlib.Core.Bool.{Bool}
 use mathlib.Core.List.{List, []}
 use Prim.Native.Nat.{ℕ, zero, suc}
-use lib.Dec.{eqb}
 use lib.ListN.{get_or}
 use Rattle.base.specs.BitSet.{image}
 use Rattle.rule.specs.Limits.{no_transition}
-use Rattle.rule.specs.Rule.{Rule, square_of, cell_at, edge, edge_in, marked, successors, successors_in, marked_successors, has_mark}
+use Rattle.rule.specs.Rule.{Rule, square_of, cell_at, edge, edge_in, successors, successors_in}
 
 module _ (R S : Rule) (a b : ℕ) (same : square_of R a ≡ square_of S b) where
   pub same_cell : (q r : ℕ) → cell_at R.grid a q r ≡ cell_at S.grid b q r
@@ -24,10 +23,6 @@ module _ (R S : Rule) (a b : ℕ) (same : square_of R a ≡ square_of S b) where
   same_edge_in zero q r = refl
   same_edge_in (suc i) q r = rw (same_edge q r, same_cell q r)
 
-  pub same_marked : (q r : ℕ) → marked R.grid a q r ≡ marked S.grid b q r
-  unfolding marked
-  same_marked q r = rw (same_edge q r, same_cell q r)
-
   -- the images of a set of states
   module _ (states : R.states ≡ S.states) where
     same_image : (E F : ℕ → ℕ → Bool) → ((q r : ℕ) → E q r ≡ F q r) → (s : ℕ) → image R.states E s ≡ image S.states F s
@@ -40,7 +35,3 @@ module _ (R S : Rule) (a b : ℕ) (same : square_of R a ≡ square_of S b) where
     pub same_successors_in : (i s : ℕ) → successors_in R i a s ≡ successors_in S i b s
     unfolding successors_in
     same_successors_in i s = same_image (edge_in R.grid i a) (edge_in S.grid i b) (same_edge_in i) s
-
-    pub same_has_mark : (s : ℕ) → has_mark R a s ≡ has_mark S b s
-    unfolding has_mark marked_successors
-    same_has_mark s = ap (λ (x : ℕ). not (eqb x 0)) (same_image (marked R.grid a) (marked S.grid b) same_marked s)

@@ -17,7 +17,3 @@ max_sets = 4
 -- a grid's byte: "255 is no transition"
 abbrev pub no_transition : ℕ
 no_transition = 255
-
--- document 02, U3: "Bit 7 of a set byte now marks a transition that meets the rule for good"
-abbrev pub mark_bit : ℕ
-mark_bit = 7

@@ -1,7 +1,7 @@
 -- A rule (document 01, "The rule table"): a transition-based generalised Büchi automaton.
 use Rattle.std.specs.Prelude.{Bool, false, not, ◌&&◌, List, [], ℕ, zero, suc, eqb, get_or}
 use Rattle.base.specs.BitSet.{member, image}
-use Rattle.rule.specs.Limits.{no_transition, mark_bit}
+use Rattle.rule.specs.Limits.{no_transition}
 
 -- "A grid has for each letter a square of n rows and n columns: row the state, column the next state, one byte
 -- each": squares by letter, rows by state, bytes by next state
@@ -39,11 +39,6 @@ unfoldable pub edge_in : Grid → ℕ → ℕ → ℕ → ℕ → Bool
 edge_in grid zero a q r = false
 edge_in grid (suc i) a q r = edge grid a q r && member (cell_at grid a q r) i
 
--- document 02, U3: "Bit 7 of a set byte now marks a transition that meets the rule for good": that transition is there and is marked.
--- A mark is no set.
-unfoldable pub marked : Grid → ℕ → ℕ → ℕ → Bool
-marked grid a q r = edge grid a q r && member (cell_at grid a q r) mark_bit
-
 -- the successors of a set of states under letter a
 unfoldable pub successors : Rule → ℕ → ℕ → ℕ
 successors R a s = image R.states (edge R.grid a) s
@@ -51,11 +46,3 @@ successors R a s = image R.states (edge R.grid a) s
 -- the successors of a set of states under letter a by transitions of set i
 unfoldable pub successors_in : Rule → ℕ → ℕ → ℕ → ℕ
 successors_in R i a s = image R.states (edge_in R.grid i a) s
-
--- the successors of a set of states under letter a by marked transitions
-unfoldable pub marked_successors : Rule → ℕ → ℕ → ℕ
-marked_successors R a s = image R.states (marked R.grid a) s
-
--- does a set of states have a marked transition under letter a?
-unfoldable pub has_mark : Rule → ℕ → ℕ → Bool
-has_mark R a s = not (eqb (marked_successors R a s) 0)

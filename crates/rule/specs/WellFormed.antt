@@ -1,23 +1,17 @@
 -- Rules whose starting map and grid fit their numbers.
 use Rattle.std.specs.Prelude.{◌≡◌, Bool, true, not, ◌&&◌, ◌||◌, List, [], ◌∷◌, ℕ, ◌^◌, eqb, ltb, length}
-use Rattle.base.specs.BitSet.{minus}
 use Rattle.base.specs.Lists.{Every}
-use Rattle.rule.specs.Limits.{no_transition, mark_bit}
+use Rattle.rule.specs.Limits.{no_transition}
 use Rattle.rule.specs.Rule.{Rule}
 
 -- "Is the starting map non-empty, no bit from n up?"
 unfoldable pub start_fits : ℕ → ℕ → Bool
 start_fits n start = not (eqb start 0) && ltb start (2 ^ n)
 
--- "Does .. a set byte [have] none from k up?" Bit 7 may stand (document 02, U3): it "now marks a transition that meets the rule for good,
--- and question 5 permits it; a grid byte may carry it too under 11". So: but for the mark, is the byte below 2^k?
-unfoldable pub set_byte_fits : ℕ → ℕ → Bool
-set_byte_fits k x = ltb (minus x (2 ^ mark_bit)) (2 ^ k)
-
--- "each 255 or below 2^k", but for marks
+-- "each 255 or below 2^k"
 unfoldable pub bytes_fit : ℕ → List ℕ → Bool
 bytes_fit k [] = true
-bytes_fit k (x ∷ bytes) = (eqb x no_transition || set_byte_fits k x) && bytes_fit k bytes
+bytes_fit k (x ∷ bytes) = (eqb x no_transition || ltb x (2 ^ k)) && bytes_fit k bytes
 
 -- a row of n bytes, and a square of n rows, that fit k sets
 abbrev pub RowFits : ℕ → ℕ → List ℕ → Type 0

@@ -1,20 +1,15 @@
 // A word of lanes: some maps of states in one number, each in a lane of its own. This module and specs/inner/Lanes.antt, which has the same
 // numbers, alone say where a lane lies.
-ghost use Rattle.std.specs.Prelude.{◌≡◌, suc, ◌+◌, ◌*◌, ◌^◌, ◌<◌, ◌≤◌};
-ghost use Rattle.rule.specs.Limits.{mark_bit};
-ghost use Rattle.rule.specs.Inner.Lanes.{each_lane, in_lane, in_lanes, lane_width, lanes, lanes_with, map_of, named_by, set_lanes, spread, with_state};
-
-use crate::limits::MARK;
+ghost use Rattle.std.specs.Prelude.{◌≡◌, suc, ◌*◌, ◌^◌, ◌<◌, ◌≤◌};
+ghost use Rattle.rule.specs.Inner.Lanes.{each_lane, in_lane, in_lanes, lane_width, lanes, lanes_with, map_of, set_lanes, spread, with_state};
 
 // The bits of a lane, and how many maps they can have.
 pub const LANE_WIDTH: usize = 8;
 
 const LANE_MAPS: u64 = 256;
 
-// The lanes of a word: 0 for all transitions, 1 to 6 for those of the sets 1 to 6, and 7 for those that are marked.
+// The lanes of a word: 0 for all transitions, 1 to 6 for those of the sets 1 to 6, and 7, which stays empty.
 const LANES: usize = 8;
-
-pub const MARK_LANE: usize = 7;
 
 // Bit 0 of each lane. Some lanes are chosen by a number that has bit 0 of each of them.
 const EACH_LANE: u64 = 0x0101_0101_0101_0101;
@@ -69,25 +64,9 @@ pub fn lanes_to(last: usize) -> u64
 
 // The lanes of some relations, which are given as a map. The factor has the bits 0, 7, 14, .., 42. So bit i + 7·j of the product stands just
 // if i is one of the relations, for i and j up to 6; those with i = j are kept.
-fn spread(relations: u16) -> u64
+pub fn spread(relations: u16) -> u64
     requires { relations < 2 ^ suc set_lanes }
     ensures { result ≡ spread relations }
 {
     (relations as u64 * 0x408_1020_4081) & 0x0001_0101_0101_0101
-}
-
-// The lanes that a set byte names, if it is not marked: those of its sets.
-pub fn lanes_of(sets: u8) -> u64
-    requires { sets < 2 ^ set_lanes }
-    ensures { result ≡ spread (named_by sets) }
-{
-    spread(2 * sets as u16)
-}
-
-// The same if it is marked: those of its sets, and the mark's, for which the factor of `spread` has no room.
-pub fn marked_lanes(sets: u8) -> u64
-    requires { (2 ^ mark_bit ≤ sets) × (sets < 2 ^ mark_bit + 2 ^ set_lanes) }
-    ensures { result ≡ spread (named_by sets) }
-{
-    lanes_of(sets - MARK) | in_lane(1, MARK_LANE)
 }

@@ -1,4 +1,4 @@
-// The limits of document 01, "The rule table", and the mark of document 02, U3; specs/Limits.antt has the same numbers.
+// The limits of document 01, "The rule table"; specs/Limits.antt has the same numbers.
 pub const STATES: usize = 8;
 
 pub const LETTERS: usize = 16;
@@ -7,9 +7,6 @@ pub const SETS: usize = 4;
 
 // A grid's byte for "no transition".
 pub const NO_TRANSITION: u8 = 255;
-
-// Bit 7 of a set byte: the mark of a transition that meets the rule for good.
-pub const MARK: u8 = 128;
 
 // The read table: arrays of arrays by letter, state and next state.
 pub type Row = [u8; STATES];

@@ -7,15 +7,13 @@ ghost use Rattle.rule.specs.Inner.LookupSteps.{StateAdded};
 use crate::limits::SquareWords;
 
 // The look-up of a letter: the images of the sets within the lowest four states, then of those within the next four. The images
-// of a set are one word of lanes: lane i has the image under relation i (0: all transitions, i: those of set i, the mark's lane: those that
-// are marked).
+// of a set are one word of lanes: lane i has the image under relation i (0: all transitions, i: those of set i).
 pub type Lookup = [u64; ENTRIES];
 
 // Sixteen sets in each half.
 pub const ENTRIES: usize = 32;
 
-// The images of a map of states, all in one word: the next states in lane 0, in lane i those reached by a transition of set i, and in the
-// mark's lane those reached by a marked one.
+// The images of a map of states, all in one word: the next states in lane 0, and in lane i those reached by a transition of set i.
 pub fn look_up(lookup: &Lookup, states: u16) -> u64
     ensures { result ≡ images_by lookup.now states }
 {

@@ -1,28 +1,22 @@
 -- The numbers that the call answers: no question has the number 0.
 use mathlib.Core.Path.{◌≡◌, refl}
-use mathlib.Core.Bool.{Bool, true, false, cond}
 use mathlib.Core.List.{List}
 use Prim.Native.Nat.{ℕ}
 use native.Mathlib.Omega.{arith}
 use lib.Dec.{leb}
 use lib.ListN.{length}
-use Rattle.base.specs.Outcome.{Outcome, refused, accepted, ask, number_of}
+use Rattle.base.specs.Outcome.{Outcome, refused, accepted, number_of}
 use Rattle.base.proofs.Numbers.{IfRefused, NotZero, ask_number, then_number, tells}
 use Rattle.table.specs.LetterQuestions.{letter_questions}
 use Rattle.table.proofs.RefusalNumbers.{letter_number}
-use Rattle.history.specs.Tree.{met_tree}
-use Rattle.history.specs.Record.{decoded, is_record, is_met_record, read_tree}
+use Rattle.history.specs.Record.{is_record, read_tree}
 use Rattle.tree.specs.StartCall.{record_room}
 use Rattle.step.specs.StepCall.{Moved, step_under, step_outcome, step_answer, StepNumber}
 
 -- question 9
 tree_questions : (n k : ℕ) (bytes : List ℕ) → IfRefused NotZero (read_tree n k bytes)
 unfolding read_tree
-tree_questions n k bytes = go (is_met_record bytes)
-  where
-    go : (met : Bool) → IfRefused NotZero (cond met (accepted met_tree) (ask (is_record n k bytes) 9 (accepted (decoded n bytes))))
-    go true = tt
-    go false = ask_number NotZero (is_record n k bytes) 9 _ (λ e. omega arith) tt
+tree_questions n k bytes = ask_number NotZero (is_record n k bytes) 9 _ (λ e. omega arith) tt
 
 step_questions : (table : List ℕ) (a : ℕ) (bytes buffer : List ℕ) → IfRefused NotZero (step_outcome table a bytes buffer)
 unfolding step_outcome step_under

@@ -1,8 +1,6 @@
 -- The call.
 pub mod StepCall
 pub mod CallNumbers
--- The letter that meets the rule.
-pub mod Meeting
 -- One letter in one pass over the nodes of a tree.
 pub mod StepOfNodes
 pub mod Levels

@@ -10,11 +10,11 @@ use Rattle.rule.specs.Rule.{Rule}
 use Rattle.rule.specs.Inner.Lookup.{Lookup, look_up}
 use Rattle.table.specs.Inner.ReadRule.{WithinLimits}
 use Rattle.history.specs.Forest.{nil, node, size, change, named}
-use Rattle.history.specs.Tree.{Tree, is_tree}
+use Rattle.history.specs.Tree.{Tree, is_tree_of}
 use Rattle.history.specs.Letter.{begun, succeeded, sprouting, two_steps}
 use Rattle.history.specs.Inner.OldNumbers.{no_node, old_number}
-use Rattle.history.proofs.Tree.Conditions.{Fits, OneRoot, tree_out}
-use Rattle.history.proofs.Step.TreesKept.{few_nodes}
+use Rattle.history.proofs.Tree.Conditions.{Fits, OneRoot}
+use Rattle.history.proofs.Step.TreesOf.{of_out, of_few}
 use Rattle.tree.specs.Inner.Nodes.{blank_node, nodes_of, without_old, AreNodes}
 use Rattle.tree.specs.declared.nodes.Node.{Node as CodeNode}
 use Rattle.tree.proofs.TreeNodes.{nodes_size, are_nodes_size}
@@ -94,13 +94,12 @@ module _ {R : Rule} (limits : WithinLimits R) (a : ℕ) where
 pub running_set : CarriedAlong
 unfolding CarriedAlong deepest
 running_set R limits a T tree lookup by nodes are i at r =
-    let t = tree_out R.states R.sets T tree in
+    let t = of_out R T tree in
     let read : read_nodes (look_up lookup) R.sets 0 at_start (take i nodes) ≡ read_nodes (E limits a) R.sets 0 at_start (take i (nodes_of T)) =
     rw (by, ← are, ← take_without_old i nodes) (sym (read_without_old (E limits a) R.sets 0 at_start (take i nodes))) in
     let p = r.pass ∙ ap (closed_to at.top) read in
     subst (λ (set : ℕ). RunningSet R a T i at.top set) (ap (λ (q : Pass). (deepest q.levels).running) (sym p))
-    (along_tree limits a T t.one_root t.fits (omega (arith, few_nodes R.states R.sets T tree, limits.states)) i at.top
-    (rw read at (level_open r)))
+    (along_tree limits a T t.one_root t.fits (omega (arith, of_few R T tree, limits.states)) i at.top (rw read at (level_open r)))
 
 -- WHAT IS REACHED
 
@@ -127,11 +126,11 @@ module _ (R : Rule) (a : ℕ) (nodes : List CodeNode) where
   as_many : (T : Tree) → AreNodes nodes T → length nodes ≡ length (nodes_of T)
   as_many T are = are_nodes_size nodes T are ∙ sym (nodes_size T)
 
-  -- each node of a tree over the rule's states and sets is a sibling that is reached, at its depth
-  pub old_sibling : (T : Tree) → is_tree R.states R.sets T ≡ true → AreNodes nodes T → (i : ℕ) → i < length nodes
+  -- each node of a tree is a sibling that is reached, at its depth
+  pub old_sibling : (T : Tree) → is_tree_of R T ≡ true → AreNodes nodes T → (i : ℕ) → i < length nodes
       → (n : ℕ) × ReachedSibling R a T i (get_or nodes i blank_node).depth n
   unfolding size
-  old_sibling T tree are i less = go T (tree_out R.states R.sets T tree).one_root are
+  old_sibling T tree are i less = go T (of_out R T tree).one_root are
     where
       go : (F : Tree) → OneRoot F → AreNodes nodes F → (n : ℕ) × ReachedSibling R a F i (get_or nodes i blank_node).depth n
       go nil one same = absurd (omega (arith, are_nodes_size nodes nil same))
@@ -141,13 +140,13 @@ module _ (R : Rule) (a : ℕ) (nodes : List CodeNode) where
       go (node x below (node y other younger)) one same = absurd one
 
   -- and so is the child that a parent sprouts, where its level is open and the next node is not below it
-  pub sprouted_sibling : (T : Tree) → is_tree R.states R.sets T ≡ true → AreNodes nodes T → {lookup : Lookup} {k : ℕ} (i : ℕ) {at : Standing}
+  pub sprouted_sibling : (T : Tree) → is_tree_of R T ≡ true → AreNodes nodes T → {lookup : Lookup} {k : ℕ} (i : ℕ) {at : Standing}
       → AtSibling lookup k nodes i at → i ≤ length nodes → 0 < at.top → (i < length nodes → (get_or nodes i blank_node).depth < at.top)
       → (n : ℕ) × ReachedSibling R a T i at.top n
   unfolding read_nodes closed_to size
   sprouted_sibling T tree are zero {at} r within deep next =
       absurd (omega (arith, level_open r, (levels_left at.top at_start.levels).1))
-  sprouted_sibling T tree are (suc i) {at} r within deep next = go T (tree_out R.states R.sets T tree).one_root are
+  sprouted_sibling T tree are (suc i) {at} r within deep next = go T (of_out R T tree).one_root are
     where
       go : (F : Tree) → OneRoot F → AreNodes nodes F → (n : ℕ) × ReachedSibling R a F (suc i) at.top n
       go nil one same = absurd (omega (arith, are_nodes_size nodes nil same))

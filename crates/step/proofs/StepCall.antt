@@ -1,7 +1,6 @@
 -- One letter on a record, under a rule and by the letter's look-up: what is answered, and what is left in the buffer, from the tree that was
--- read and from what the letter has made of its nodes, or from the met tree.
+-- read and from what the letter has made of its nodes.
 use mathlib.Core.Path.{◌≡◌, refl, sym, ◌∙◌, ap}
-use mathlib.Core.Bool.{true, false}
 use mathlib.Core.List.{List}
 use Prim.Native.Nat.{ℕ, ◌≤◌, ◌<◌}
 use native.Mathlib.Omega.{arith}
@@ -18,10 +17,8 @@ use Rattle.table.specs.Inner.Preparing.{PreparedLetter}
 use Rattle.table.specs.declared.header.Header.{Header}
 use Rattle.history.specs.Forest.{size}
 use Rattle.history.specs.Tree.{Tree}
-use Rattle.history.specs.Letter.{meets}
 use Rattle.history.specs.Record.{read_tree}
 use Rattle.history.proofs.Records.QuestionNine.{record_accepted}
-use Rattle.history.proofs.Step.MetTree.{quiet_unmet, next_tree_met, met_accepting, met_stable}
 use Rattle.history.proofs.Step.TreesOf.{of_tree}
 use Rattle.tree.specs.Inner.RecordCode.{checked_tree, count_as, tree_beside, Checks}
 use Rattle.tree.specs.Inner.Nodes.{HoldsTree}
@@ -35,7 +32,6 @@ use Rattle.tree.specs.declared.sides.OnSide.{OnSide}
 use Rattle.tree.proofs.TreeNodes.{has_holds}
 use Rattle.tree.proofs.NodesOfRecord.{limits_yes}
 use Rattle.tree.proofs.RecordOfNodes.{held_record, held_recordable}
-use Rattle.step.specs.Inner.Meeting.{LetterOn, into_met}
 use Rattle.step.specs.Inner.Stepping.{StepsTo, nodes_on, Steppable, Stepping}
 use Rattle.step.specs.Inner.Pass.{stepped_nodes}
 use Rattle.step.specs.StepCall.{step_under, step_answer, step_after, StepDone}
@@ -102,20 +98,8 @@ module _ {R : Rule} {header : Header} {a : ℕ} {lookup : Lookup} (p : PreparedL
       unfolding step_under step_after
       step_no_room h answer e = rw (w.reads, lt-leb _ _ h) (e, refl)
 
-      -- it can be asked whether the letter meets the rule
-      pub letter_on : LetterOn R a w.tree lookup x
-      letter_on = record { limits = p.limits; is_lookup = p.is_lookup; holds = w.holds }
-
-      -- if it does, the answer is the met tree's record, and both maps are 0
-      pub step_met : meets R a w.tree ≡ true → record_room ≤ length before → (answer : StepAnswer) (buffer : List ℕ)
-          → StepDone (accepted (into_met header.states)) before answer buffer → StepDone (step_under R a bytes before) before answer buffer
-      unfolding step_under
-      step_met is h answer buffer done =
-          rw (w.reads, le-leb _ _ h, next_tree_met R a w.tree is, met_accepting R a w.tree is, met_stable R a w.tree is)
-          (rw p.numbers at done)
-
-      -- if it does not, it can be read from the tree on the first side,
-      module _ (quiet : meets R a w.tree ≡ false) {sides : List (List ℕ)} (laid : Laid x sides) where
+      -- the letter can be read from the tree on the first side,
+      module _ {sides : List (List ℕ)} (laid : Laid x sides) where
         abbrev first : OnSide
         first = record { side = 0; count = count }
 
@@ -123,7 +107,7 @@ module _ {R : Rule} {header : Header} {a : ℕ} {lookup : Lookup} (p : PreparedL
         here = rw (laid.are, w.counts) w.holds
 
         pub step_ready : Steppable sides 0 count
-        step_ready = place_ready p.limits sides first here (quiet_unmet R a w.tree quiet) (laid.arrays, omega arith)
+        step_ready = place_ready p.limits sides first here (laid.arrays, omega arith)
 
         -- and its look-up is the rule's: so the next tree is on the second
         module _ {r : Stepped} {after : List (List ℕ)}
@@ -132,7 +116,7 @@ module _ {R : Rule} {header : Header} {a : ℕ} {lookup : Lookup} (p : PreparedL
           sets = ap (λ (x : Header). x.sets) (sym p.numbers)
 
           steps : StepsTo R a w.tree (tree_on after (record { side = 1; count = r.count })) r
-          steps = place_steps p.limits sides first here lookup header.sets a sets p.is_lookup.entries quiet r after step
+          steps = place_steps p.limits sides first here lookup header.sets a sets p.is_lookup.entries r after step
 
           -- it can be recorded
           pub step_recordable : Recordable header.states (tree_on after (record { side = 1; count = r.count }))

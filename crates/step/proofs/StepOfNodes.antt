@@ -1,5 +1,5 @@
--- The pass over the nodes of a tree is the step of a letter that does not meet the rule: it gives the nodes of the next tree, the old numbers
--- of its nodes and the two maps. So it leads from a tree in place to the next one, on the other side.
+-- The pass over the nodes of a tree is the letter's step: it gives the nodes of the next tree, the old numbers of its nodes
+-- and the two maps. So it leads from a tree in place to the next one, on the other side.
 use mathlib.Core.Path.{◌≡◌, refl, sym, ◌∙◌, ap, subst}
 use mathlib.Core.Bool.{Bool, true, false, cond}
 use mathlib.Core.List.{List, [], ◌∷◌, ◌++◌, map}
@@ -18,11 +18,10 @@ use Rattle.rule.specs.Inner.Padded.{padded}
 use Rattle.rule.proofs.LookupLaws.{look_up_successors, look_up_successors_in}
 use Rattle.table.specs.Inner.ReadRule.{WithinLimits}
 use Rattle.history.specs.Forest.{nil, node, size}
-use Rattle.history.specs.Tree.{Tree, is_met, is_tree_of}
-use Rattle.history.specs.Letter.{sprouted, five_steps, meets, survivors, next_tree}
+use Rattle.history.specs.Tree.{Tree, is_tree_of}
+use Rattle.history.specs.Letter.{sprouted, five_steps, survivors, next_tree}
 use Rattle.history.specs.Inner.OldNumbers.{no_node, old_number, old_numbers}
 use Rattle.history.proofs.Tree.Conditions.{Fits, Active, OneRoot}
-use Rattle.history.proofs.Step.MetTree.{quiet_unmet}
 use Rattle.history.proofs.Step.TreesOf.{of_out, of_root, of_few, of_nested, next_is_tree}
 use Rattle.history.proofs.Step.StepsJoined.{plain_node, survivors_steps}
 use Rattle.tree.specs.Inner.PackedNodes.{counted_nodes}
@@ -99,18 +98,16 @@ with_old k [] h i less = absurd (omega arith)
 with_old k (x ∷ nodes) h zero less = h 0 (omega arith)
 with_old k (x ∷ nodes) h (suc i) less = with_old k nodes (λ i less. h (suc i) (omega arith)) i (omega arith)
 
-active_sets : (R : Rule) (nodes : List CodeNode) (T : Tree) → is_tree_of R T ≡ true → is_met T ≡ false → AreNodes nodes T
-    → ActiveSets R.sets nodes
+active_sets : (R : Rule) (nodes : List CodeNode) (T : Tree) → is_tree_of R T ≡ true → AreNodes nodes T → ActiveSets R.sets nodes
 unfolding nodes_of
-active_sets R nodes T tree unmet are = with_old R.sets nodes (rw are (actives_from R.sets 0 T (of_nested R T tree unmet).active))
+active_sets R nodes T tree are = with_old R.sets nodes (rw are (actives_from R.sets 0 T (of_nested R T tree).active))
 
--- so the look-up has images for them, but for the met tree's
-pub sets_fit : (R : Rule) (nodes : List CodeNode) (T : Tree) → R.sets ≤ max_sets → is_tree_of R T ≡ true → is_met T ≡ false → AreNodes nodes T
-    → SetsFit nodes
-sets_fit R nodes T h tree unmet are i = go (dec_lt i (length nodes))
+-- so the look-up has images for them
+pub sets_fit : (R : Rule) (nodes : List CodeNode) (T : Tree) → R.sets ≤ max_sets → is_tree_of R T ≡ true → AreNodes nodes T → SetsFit nodes
+sets_fit R nodes T h tree are i = go (dec_lt i (length nodes))
   where
     go : Dec (i < length nodes) → (get_or nodes i blank_node).active ≤ max_sets
-    go (yes less) = omega (arith, (active_sets R nodes T tree unmet are i less).1)
+    go (yes less) = omega (arith, (active_sets R nodes T tree are i less).1)
     go (no more) = rw (get_or-eq_default nodes blank_node {n = i} (omega arith)) (omega arith)
 
 -- ONE LETTER
@@ -126,8 +123,7 @@ module _ {R : Rule} (limits : WithinLimits R) (a : ℕ) where
   pub images_in : (i s : ℕ) → 1 ≤ i → i ≤ R.sets → images i s ≡ successors_in R i a s
   images_in i s low high = look_up_successors_in R limits.well limits.states i a s low (omega (arith, limits.sets))
 
--- one that does not meet the rule
-module _ {R : Rule} (limits : WithinLimits R) (a : ℕ) (T : Tree) (tree : is_tree_of R T ≡ true) (quiet : meets R a T ≡ false) where
+module _ {R : Rule} (limits : WithinLimits R) (a : ℕ) (T : Tree) (tree : is_tree_of R T ≡ true) where
   abbrev E : ℕ → ℕ → ℕ
   E = images limits a
 
@@ -144,7 +140,7 @@ module _ {R : Rule} (limits : WithinLimits R) (a : ℕ) (T : Tree) (tree : is_tr
 
   -- the pass gives the nodes after the letter
   gives : Gives (old_number T) whole (survivors R a T)
-  gives = let t = of_out R T tree (quiet_unmet R a T quiet) in rw (survivors_steps R a T quiet) (go T none t.one_root t.fits few)
+  gives = let t = of_out R T tree in rw (survivors_steps R a T) (go T none t.one_root t.fits few)
     where
       go : (F : Tree) → old_number F sprouted ≡ no_node → OneRoot F → Fits R.sets F → size F < no_node
           → Gives (old_number F) (closed_to 0 (read_nodes E R.sets 0 at_start (nodes_of F))) (five_steps R a F)
@@ -184,23 +180,23 @@ module _ {R : Rule} (limits : WithinLimits R) {T : Tree} (sides : List (List ℕ
   abbrev nodes : List CodeNode
   nodes = nodes_on sides x.side x.count
 
-  -- a letter can be read from it, if it is not met
-  pub place_ready : is_met T ≡ false → Stands sides x → Steppable sides x.side x.count
-  place_ready unmet (arrays, side) = record {
+  -- a letter can be read from it
+  pub place_ready : Stands sides x → Steppable sides x.side x.count
+  place_ready (arrays, side) = record {
     arrays = arrays;
     side = side;
     few = tree_small limits.states here;
-    fits = sets_fit R nodes T limits.sets here.fits unmet here.are;
+    fits = sets_fit R nodes T limits.sets here.fits here.are;
   }
 
   module _ (lookup : Lookup) (k a : ℕ) (sets : R.sets ≡ k) (by : lookup ≡ letter_lookup (get_or (padded R.grid) a []))
-      (quiet : meets R a T ≡ false) (r : Stepped) (after : List (List ℕ)) (step : Stepping (stepped_nodes lookup k nodes) x.side sides r after) where
+      (r : Stepped) (after : List (List ℕ)) (step : Stepping (stepped_nodes lookup k nodes) x.side sides r after) where
     -- the pass over its nodes
     over_tree : stepped_nodes lookup k nodes
         ≡ closed_to 0 (read_nodes (look_up (letter_lookup (get_or (padded R.grid) a []))) R.sets 0 at_start (nodes_of T))
     unfolding stepped_nodes
     over_tree = rw (← sets, by, ← here.are) (ap (closed_to 0) (sym (read_without_old _ R.sets 0 at_start nodes)))
 
-    -- is the step of a letter that does not meet the rule, to the next tree on the other side
+    -- is the letter's step, to the next tree on the other side
     pub place_steps : StepsTo R a T (tree_on after (record { side = 1 - x.side; count = r.count })) r
-    place_steps = let s = rw over_tree at step in steps limits a T here.fits quiet _ r s.nodes s.count s.accepting s.stable
+    place_steps = let s = rw over_tree at step in steps limits a T here.fits _ r s.nodes s.count s.accepting s.stable

@@ -3,4 +3,3 @@ pub mod Pass
 pub mod LevelArrays
 pub mod AtSibling
 pub mod Stepping
-pub mod Meeting

@@ -1,21 +1,16 @@
 // One letter on a record.
-ghost use Rattle.std.specs.Prelude.{◌≡◌, ℕ, ◌≤◌, length};
-ghost use Rattle.base.specs.Outcome.{accepted, refused};
-ghost use Rattle.rule.specs.Limits.{max_states};
+ghost use Rattle.std.specs.Prelude.{◌≡◌, ℕ};
+ghost use Rattle.base.specs.Outcome.{refused};
 ghost use Rattle.rule.specs.Rule.{Rule};
 ghost use Rattle.table.specs.Inner.Preparing.{PreparedLetter};
-ghost use Rattle.tree.specs.StartCall.{record_room};
 ghost use Rattle.step.specs.StepCall.{StepCall, StepDone, step_answer, step_under};
-ghost use Rattle.step.specs.Inner.Meeting.{SomeLetterOn, TellsMeeting, into_met};
 
 use crate::pass::step_nodes;
-use rule::lanes::{MARK_LANE, map_of};
-use rule::lookup::{ENTRIES, Lookup, look_up};
+use rule::lookup::{ENTRIES, Lookup};
 use table::header::Header;
 use table::letter::letter_questions;
 use table::reader::Reading;
 use tree::nodes::Tree;
-use tree::packed::unpack;
 use tree::record::Count;
 use tree::sides::OnSide;
 use tree::writing::put_record;
@@ -43,39 +38,6 @@ fn step_refusal(number: u8) -> StepAnswer
     }
 }
 
-// Document 02, U3: does the letter lead to the met tree? It does from the met tree, and where the root's label has a marked transition. Right for
-// every rule, letter and tree that these are of.
-fn meets(lookup: &Lookup, tree: Tree) -> bool
-    requires { SomeLetterOn lookup.now tree }
-    ensures { TellsMeeting lookup.now tree result }
-{
-    if tree.size() == 0 {
-        return false;
-    }
-    let nodes = tree.preorder();
-    let root = unpack(nodes[0]);
-    if root.active == Tree::MET {
-        return true;
-    }
-    map_of(look_up(lookup, root.label), MARK_LANE) != 0
-}
-
-// The step into the met tree: its record, and "both maps 0".
-fn met_answer(n: usize, buffer: &mut [u8]) -> StepAnswer
-    requires { (n ≤ max_states) × (record_room ≤ length buffer.old) }
-    ensures { StepDone (accepted (into_met n)) buffer.old result buffer.new }
-{
-    let met = Tree::met();
-    let sides = met.laid();
-    let written = put_record(&sides, met.on_first_side(), n, buffer);
-    StepAnswer {
-        number: 0,
-        written: written,
-        accepting: 0,
-        stable: 0,
-    }
-}
-
 // Questions 9 and 10, then the letter, by its look-up and the numbers of a rule. It is right for every rule and letter that these are of.
 fn step_prepared(lookup: &Lookup, header: Header, bytes: &[u8], buffer: &mut [u8]) -> StepAnswer
     requires { (R : Rule) × (a : ℕ) × PreparedLetter R header a lookup.now }
@@ -90,9 +52,6 @@ fn step_prepared(lookup: &Lookup, header: Header, bytes: &[u8], buffer: &mut [u8
     };
     if buffer.len() < Tree::RECORD {
         return step_refusal(10);
-    }
-    if meets(lookup, tree) {
-        return met_answer(header.states, buffer);
     }
     let mut sides = tree.laid();
     let next = step_nodes(lookup, header.sets as u8, &mut sides, 0, count);

@@ -13,9 +13,7 @@ fn main() {
     run_file(b"calls.txt", Kind::Calls);
     run_file(b"boundaries.txt", Kind::Calls);
     run_file(b"u2-calls.txt", Kind::Calls);
-    run_file(b"u3-calls.txt", Kind::Calls);
     run_file(b"u7-calls.txt", Kind::Calls);
     run_file(b"jobs.txt", Kind::Jobs);
-    run_file(b"u3-jobs.txt", Kind::Jobs);
     run_file(b"shortcuts.txt", Kind::Jobs);
 }

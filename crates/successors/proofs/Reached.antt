@@ -16,11 +16,10 @@ use Rattle.base.proofs.Accepted.{IfAccepted, asked}
 use Rattle.base.proofs.BitSet.{empty_set, image_in, image_out, image_mod, some_member, member_none, member_collect}
 use Rattle.base.proofs.Logic.{clash, never, and_both}
 use Rattle.base.proofs.Tabulate.{length_tabulate, get_d_tabulate, tabulate_ext}
-use Rattle.rule.specs.Limits.{max_sets, mark_bit}
+use Rattle.rule.specs.Limits.{max_sets}
 use Rattle.rule.specs.Rule.{Rule, edge, edge_in, successors, successors_in}
 use Rattle.rule.specs.WellFormed.{WellFormed}
 use Rattle.rule.proofs.Edges.{edge_inside, edge_in_edge, edge_in_set}
-use Rattle.rule.proofs.Marks.{marked_edge}
 use Rattle.table.specs.LetterQuestions.{letter_questions}
 use Rattle.table.specs.Table.{in_range}
 use Rattle.table.proofs.LetterAsked.{letter_accepted}
@@ -43,12 +42,12 @@ module _ (R : Rule) (well : WellFormed R) (a : ℕ) where
   to_state : (q r : ℕ) → edge R.grid a q r ≡ true → r < R.states
   to_state q r e = (edge_inside R well a q r e).2
 
-  -- no transition is one of a set that the rule does not have; the mark's bit is that of no set
-  no_set : (i s : ℕ) → R.sets ≤ i → (i ≡ mark_bit → ⊥) → successors_in R (suc i) a s ≡ 0
+  -- no transition is one of a set that the rule does not have
+  no_set : (i s : ℕ) → R.sets ≤ i → successors_in R (suc i) a s ≡ 0
   unfolding successors_in
-  no_set i s large other = empty_set _ (λ r. never _ (λ m.
+  no_set i s large = empty_set _ (λ r. never _ (λ m.
       let (q, _, _, _, e) = image_out R.states (edge_in R.grid (suc i) a) s r m in
-      omega (arith, edge_in_set R well i a q r e other)))
+      omega (arith, edge_in_set R well i a q r e)))
 
   -- the answer of an accepted call
   reached : (s : ℕ) → Reached R a s (successors_answer (accepted R) a s)
@@ -59,15 +58,13 @@ module _ (R : Rule) (well : WellFormed R) (a : ℕ) where
         (sym (get_d_tabulate max_sets (λ i. successors_in R (suc i) a s) i 0 small))
         (image_exact R.states (edge_in R.grid (suc i) a) (λ q r e. to_state q r (edge_in_edge R.grid (suc i) a q r e)) s r);
     others = λ i large. go i large (dec_lt i max_sets);
-    by_mark = λ r (q, q_in, inside, e). (image_exact R.states (edge R.grid a) to_state s r).1
-        (q, q_in, inside, marked_edge R.grid a q r e);
   }
     where
       maps : List ℕ
       maps = tabulate max_sets (λ i. successors_in R (suc i) a s)
 
       go : (i : ℕ) → R.sets ≤ i → Dec (i < max_sets) → get_or maps i 0 ≡ 0
-      go i large (yes small) = get_d_tabulate max_sets (λ i. successors_in R (suc i) a s) i 0 small ∙ no_set i s large (λ e. omega arith)
+      go i large (yes small) = get_d_tabulate max_sets (λ i. successors_in R (suc i) a s) i 0 small ∙ no_set i s large
       go i large (no other) = get_or-eq_default maps 0 (omega (arith, length_tabulate max_sets (λ i. successors_in R (suc i) a s)))
 
 -- THE THEOREMS

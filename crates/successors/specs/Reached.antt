@@ -1,9 +1,9 @@
--- What an answer of the look-up says of the rule, by members (document 02, U2, with the marks of U3).
+-- What an answer of the look-up says of the rule, by members (document 02, U2).
 use Rattle.std.specs.Prelude.{◌≡◌, Bool, true, ◌↔◌, List, ℕ, suc, ◌%◌, ◌^◌, ◌<◌, ◌≤◌, get_or}
 use Rattle.base.specs.BitSet.{member}
 use Rattle.base.specs.Outcome.{accepted}
 use Rattle.rule.specs.Limits.{max_sets}
-use Rattle.rule.specs.Rule.{Rule, edge, edge_in, marked}
+use Rattle.rule.specs.Rule.{Rule, edge, edge_in}
 use Rattle.table.specs.Table.{read_rule}
 use Rattle.successors.specs.SuccessorsCall.{successors_outcome, successors_answer, SuccessorsCall}
 use Rattle.successors.specs.declared.call.SuccessorsAnswer.{SuccessorsAnswer}
@@ -19,10 +19,8 @@ pub record Reached (R : Rule) (a s : ℕ) (answer : SuccessorsAnswer) : Type 0 w
   -- "and, for each accepting set, exactly those reached by a transition of that set": the map for set i + 1 stands at place i
   pub by_set : (i r : ℕ) → i < max_sets
       → (member (get_or answer.reached i 0) r ≡ true) ↔ LeadsTo R.states (edge_in R.grid (suc i) a) s r
-  -- no state for a set that the rule does not have: a mark counts for none
+  -- no state for a set that the rule does not have
   pub others : (i : ℕ) → R.sets ≤ i → get_or answer.reached i 0 ≡ 0
-  -- but a marked transition still reaches its next state
-  pub by_mark : (r : ℕ) → LeadsTo R.states (marked R.grid a) s r → member answer.next r ≡ true
 
 -- whatever the table, the letter and the set, and the answer that the contract gives: if its number is 0, there is the rule that the table
 -- is read as, the letter is one of its letters, and the answer has exactly the states reached

@@ -13,8 +13,7 @@ unfoldable pub successors_outcome : List ℕ → ℕ → Outcome Rule
 successors_outcome table a = letter_questions table a
 
 -- "it shall give the next states and, for each accepting set, exactly those reached by a transition of that set": set i at place i − 1.
--- A mark (document 02, U3) is no accepting set: where a marked transition leads stands among the next states, and under the sets that it
--- belongs to. On a refusal its number and zero for all else.
+-- On a refusal its number and zero for all else.
 unfoldable pub successors_answer : Outcome Rule → ℕ → ℕ → SuccessorsAnswer
 successors_answer (refused number) a s = record { number = number; next = 0; reached = replicate max_sets 0 }
 successors_answer (accepted R) a s =

@@ -13,7 +13,7 @@ use table::letter::letter_questions;
 use table::reader::Reading;
 
 // 0, the map of the next states, and for each accepting set the map of those that a transition of it reaches: set i at place i − 1,
-// 0 for a set that the rule does not have. Marks count for no set. Or the number of the question that failed and zeros.
+// 0 for a set that the rule does not have. Or the number of the question that failed and zeros.
 #[repr(C)]
 #[derive(Drop)]
 pub struct SuccessorsAnswer {

@@ -2,15 +2,18 @@
 use mathlib.Core.Path.{◌≡◌, refl, sym, ◌∙◌, ap}
 use mathlib.Core.Bool.{Bool, true, false}
 use mathlib.Core.List.{List, [], ◌∷◌}
-use Prim.Native.Nat.{ℕ, ◌+◌, ◌≤◌, ◌<◌}
+use Prim.Native.Nat.{ℕ, suc, ◌+◌, ◌-◌, ◌/◌, ◌^◌, ◌≤◌, ◌<◌}
 use native.Mathlib.Omega.{arith}
 use native.Mathlib.Numerals.{add-one}
-use borrow.Author.Tests.{ltb-true, ltb-false}
+use borrow.Author.Tests.{ltb-true, ltb-false, lt-ltb, le-ltb}
 use lib.Dec.{ltb}
 use lib.ListN.{length, get_or, drop, drop_of_length-le}
 use lib.Seq.{drop-cons}
+use Rattle.base.specs.BitSet.{some}
 use Rattle.base.specs.Outcome.{Outcome, refused, accepted, ask}
 use Rattle.base.specs.Reading.{Read}
+use Rattle.base.proofs.Tests.{same_below}
+use Rattle.rule.specs.Limits.{max_states}
 use Rattle.table.specs.Table.{read_byte}
 use Rattle.table.specs.Inner.Cursor.{byte_at}
 
@@ -37,32 +40,37 @@ at_byte s at x next e = go (ltb at (length s)) refl e
     go false h e = let z : ◌≡◌ {A = ℕ} 0 1 = cc in absurd (omega arith)
 
 -- question 4: no byte is there
-pub byte_missing : (s : List ℕ) (at : ℕ) (fits : ℕ → Bool) → refused 4 ≡ byte_at s at → refused 4 ≡ read_byte fits (drop at s)
+pub byte_missing : (s : List ℕ) (at w : ℕ) → refused 4 ≡ byte_at s at → refused 4 ≡ read_byte w (drop at s)
 unfolding read_byte
-byte_missing s at fits e = rw (drop_of_length-le s (at_end s at e))
+byte_missing s at w e = rw (drop_of_length-le s (at_end s at e))
 
--- a byte that passes question 5 fits
-pub byte_passed : (fits : ℕ → Bool) (x : ℕ) (bytes rest : List ℕ) → accepted (x, rest) ≡ read_byte fits bytes → fits x ≡ true
+-- a byte that passes question 5 is below the limit
+pub byte_below : (w x : ℕ) (bytes rest : List ℕ) → accepted (x, rest) ≡ read_byte w bytes → x < 2 ^ w
 unfolding read_byte
-byte_passed fits x [] rest e = let z : ◌≡◌ {A = ℕ} 0 1 = cc in absurd (omega arith)
-byte_passed fits x (y ∷ bytes) rest e = go (fits y) refl e
+byte_below w x [] rest e = let z : ◌≡◌ {A = ℕ} 0 1 = cc in absurd (omega arith)
+byte_below w x (y ∷ bytes) rest e = go (ltb y (2 ^ w)) refl e
   where
-    go : (b : Bool) → fits y ≡ b → ◌≡◌ {A = Read ℕ} (accepted (x, rest)) (ask b 5 (accepted (y, bytes))) → fits x ≡ true
+    go : (b : Bool) → ltb y (2 ^ w) ≡ b → ◌≡◌ {A = Read ℕ} (accepted (x, rest)) (ask b 5 (accepted (y, bytes))) → x < 2 ^ w
     go true h e =
         let pair : ◌≡◌ {A = ℕ × List ℕ} (x, rest) (y, bytes) = cc in
-        rw (ap (λ (p : ℕ × List ℕ). p.0) pair) h
+        rw (ap (λ (p : ℕ × List ℕ). p.0) pair) (ltb-true y (2 ^ w) h)
     go false h e = let z : ◌≡◌ {A = ℕ} 0 1 = cc in absurd (omega arith)
 
-module _ (s : List ℕ) (at : ℕ) (fits : ℕ → Bool) (x next : ℕ) (e : accepted (x, next) ≡ byte_at s at) where
+-- the highest byte in which only the bits below w stand
+highest : (w : ℕ) → w ≤ max_states → suc (255 / 2 ^ (8 - w)) ≡ 2 ^ w
+unfolding some
+highest w h = same_below 9 (λ w. suc (255 / 2 ^ (8 - w))) (λ w. 2 ^ w) refl w (omega arith)
+
+module _ (s : List ℕ) (at w x y next : ℕ) (e : accepted (x, next) ≡ byte_at s at) (short : w ≤ max_states) (same : y ≡ x) where
   -- the byte that is there, with its question
-  there : read_byte fits (drop at s) ≡ ask (fits x) 5 (accepted (x, drop next s))
+  there : read_byte w (drop at s) ≡ ask (ltb x (2 ^ w)) 5 (accepted (x, drop next s))
   unfolding read_byte
   there = let (h, e₁, e₂) = at_byte s at x next e in rw (drop-cons s at 0 h, e₁, e₂, add-one at)
 
   -- question 5 answered yes
-  pub byte_accepted : fits x ≡ true → accepted (x, drop next s) ≡ read_byte fits (drop at s)
-  byte_accepted h = sym (there ∙ rw h)
+  pub byte_accepted : y ≤ 255 / 2 ^ (8 - w) → accepted (x, drop next s) ≡ read_byte w (drop at s)
+  byte_accepted h = sym (there ∙ rw (lt-ltb x (2 ^ w) (omega (arith, highest w short))))
 
   -- question 5 answered no
-  pub byte_refused : fits x ≡ false → refused 5 ≡ read_byte fits (drop at s)
-  byte_refused h = sym (there ∙ rw h)
+  pub byte_refused : 255 / 2 ^ (8 - w) < y → refused 5 ≡ read_byte w (drop at s)
+  byte_refused h = sym (there ∙ rw (le-ltb x (2 ^ w) (omega (arith, highest w short))))

@@ -13,9 +13,9 @@ use Rattle.base.specs.Lists.{pad}
 use Rattle.base.proofs.Accepted.{IfAccepted, followed, weaker, then_accepted, then_same, then_assoc}
 use Rattle.rule.specs.Limits.{max_states, max_letters, no_transition}
 use Rattle.rule.specs.Inner.Padded.{blank_row, blank_square, padded_row, padded_square, padded}
-use Rattle.table.specs.Table.{map_fits, read_byte, read_transition, read_row, read_cell, read_grid}
+use Rattle.table.specs.Table.{read_byte, read_transition, read_row, read_cell, read_grid}
 use Rattle.table.specs.Inner.Cursor.{replaced, read_square, read_padded}
-use Rattle.table.proofs.Reading.{map_read}
+use Rattle.table.proofs.Reading.{byte_read_lem}
 
 -- one thing, then more behind it
 abbrev read_cons : {A : Type 0} → Read A → (List ℕ → Read (List A)) → Read (List A)
@@ -73,8 +73,8 @@ pub read_cell_wide : (n k w : ℕ) (bytes : List ℕ) → n ≤ w
     → read_cell n k w bytes ≡ (read_cell n k n bytes then λ x. accepted (pad w no_transition x.0, x.1))
 unfolding read_cell
 read_cell_wide n k w bytes le =
-    let standing = read_byte (map_fits n) bytes in
-    then_same standing _ _ (weaker _ _ standing (map_read n bytes) λ x says. row_wide k n w x.0 x.1 le says.0)
+    let standing = read_byte n bytes in
+    then_same standing _ _ (weaker _ _ standing (byte_read_lem n bytes) λ x says. row_wide k n w x.0 x.1 le says.0)
     ∙ sym (then_assoc standing _ _)
 
 -- as many as were asked for

@@ -5,8 +5,9 @@ use Prim.Native.Nat.{ℕ, ◌^◌, ◌≤◌, ◌<◌}
 use native.Mathlib.Omega.{arith}
 use borrow.Author.Tests.{leb-true, ltb-true, eqb-false}
 use lib.Dec.{leb, eqb}
+use lib.Pow.{pow_mono}
 use Rattle.base.proofs.Logic.{and_in, not_in}
-use Rattle.rule.specs.Limits.{max_states, max_letters, max_sets, mark_bit}
+use Rattle.rule.specs.Limits.{max_states, max_letters, max_sets, no_transition}
 use Rattle.rule.specs.WellFormed.{start_fits}
 use Rattle.table.specs.Table.{in_range}
 
@@ -36,9 +37,9 @@ in_range_lem {n} {m} {k} h =
       sets = leb-true _ _ k₂;
     }
 
--- so no set has the mark's bit
-pub sets_small : (n m k : ℕ) → in_range n m k ≡ true → k < mark_bit
-sets_small n m k h = omega (arith, (in_range_lem h).sets)
+-- so no set byte is the byte of "no transition"
+pub sets_small : (n m k : ℕ) → in_range n m k ≡ true → 2 ^ k ≤ no_transition
+sets_small n m k h = omega (arith, pow_mono (in_range_lem h).sets)
 
 pub start_fits_lem : (n start : ℕ) → start_fits n start ≡ true → (start ≡ 0 → ⊥) × (start < 2 ^ n)
 unfolding start_fits

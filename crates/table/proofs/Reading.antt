@@ -1,12 +1,12 @@
 -- Reading cells: a grid is read back from the bytes of its cells, and what is read has just the bytes that it is read from.
--- The numbers n, m and k are any; for the second, k is below the mark's bit, so that no set byte is the byte of "no transition".
+-- The numbers n, m and k are any; for the second, a set byte of k sets must not be the byte of "no transition".
 use mathlib.Core.Path.{◌≡◌, refl, sym, ap, ap₂, ◌∙◌}
 use mathlib.Core.Bool.{Bool, true, false, not, ◌||◌, cond}
 use mathlib.Core.List.{List, [], ◌∷◌, ◌++◌, flatten, flat_map, append_assoc}
-use Prim.Native.Nat.{ℕ, zero, suc, ◌+◌, ◌*◌, ◌/◌, ◌%◌, ◌^◌, ◌<◌}
+use Prim.Native.Nat.{ℕ, zero, suc, ◌+◌, ◌*◌, ◌/◌, ◌%◌, ◌^◌, ◌<◌, ◌≤◌}
 use native.Mathlib.Omega.{arith}
-use borrow.Author.Tests.{eqb-true, eqb-false, lt-ltb, ltb-true, ne_eqb}
-use lib.Dec.{eqb}
+use borrow.Author.Tests.{eqb-true, eqb-false, ltb-true, lt-ltb, ne_eqb}
+use lib.Dec.{eqb, ltb}
 use lib.ListN.{length}
 use Rattle.base.specs.Outcome.{accepted, ◌then◌}
 use Rattle.base.specs.Lists.{Every}
@@ -15,11 +15,10 @@ use Rattle.base.proofs.Logic.{and_in, and_both}
 use Rattle.base.proofs.Accepted.{IfAccepted, asked, weaker, followed}
 use Rattle.base.proofs.Every.{every_weaker}
 use Rattle.base.proofs.Flattening.{flat_map_flatten}
-use Rattle.rule.specs.Limits.{no_transition, mark_bit}
+use Rattle.rule.specs.Limits.{no_transition}
 use Rattle.rule.specs.Rule.{Grid}
-use Rattle.rule.specs.WellFormed.{set_byte_fits, bytes_fit, RowFits, SquareFits}
-use Rattle.rule.proofs.SetBytes.{fits_there}
-use Rattle.table.specs.Table.{map_byte, set_bytes, cell_bytes, map_fits, read_byte, read_transition, read_row, read_cell, read_grid}
+use Rattle.rule.specs.WellFormed.{bytes_fit, RowFits, SquareFits}
+use Rattle.table.specs.Table.{map_byte, set_bytes, cell_bytes, read_byte, read_transition, read_row, read_cell, read_grid}
 
 -- ONE CELL
 
@@ -37,10 +36,10 @@ unfolding map_byte set_bytes bytes_fit read_transition read_byte read_row
 read_row_bytes k [] rest h = refl
 read_row_bytes k (x ∷ row) rest h = go (eqb x no_transition) refl head.0 (read_row_bytes k row rest head.1)
   where
-    head : ((eqb x no_transition || set_byte_fits k x) ≡ true) × (bytes_fit k row ≡ true)
-    head = and_in (eqb x no_transition || set_byte_fits k x) (bytes_fit k row) h
+    head : ((eqb x no_transition || ltb x (2 ^ k)) ≡ true) × (bytes_fit k row ≡ true)
+    head = and_in (eqb x no_transition || ltb x (2 ^ k)) (bytes_fit k row) h
 
-    go : (t : Bool) → eqb x no_transition ≡ t → (t || set_byte_fits k x) ≡ true
+    go : (t : Bool) → eqb x no_transition ≡ t → (t || ltb x (2 ^ k)) ≡ true
         → read_row k (length row) (map_byte row) (set_bytes row ++ rest) ≡ accepted (row, rest)
         → read_row k (suc (length row)) (cond t 0 1 + 2 * map_byte row) (cond t (set_bytes row) (x ∷ set_bytes row) ++ rest)
         ≡ accepted (x ∷ row, rest)
@@ -59,7 +58,7 @@ map_byte_lt (x ∷ row) = go (eqb x no_transition) (map_byte_lt row)
 
 -- a cell is read back from its bytes
 pub read_cell_bytes : (n k : ℕ) (row rest : List ℕ) → RowFits n k row → read_cell n k n (cell_bytes row ++ rest) ≡ accepted (row, rest)
-unfolding read_cell cell_bytes read_byte map_fits
+unfolding read_cell cell_bytes read_byte
 read_cell_bytes n k row rest (long, fits) =
     rw (← long, lt-ltb (map_byte row) (2 ^ length row) (map_byte_lt row)) (read_row_bytes k row rest fits)
 
@@ -97,29 +96,24 @@ abbrev pub ReadAs : {A : Type 0} → (A → Type 0) → (A → List ℕ) → Lis
 ReadAs P bytes all x = P x.0 × (all ≡ bytes x.0 ++ x.1)
 
 -- one byte
-byte_read_lem : (fits : ℕ → Bool) (all : List ℕ) → IfAccepted (ReadAs (λ x. fits x ≡ true) (λ x. x ∷ []) all) (read_byte fits all)
+pub byte_read_lem : (w : ℕ) (all : List ℕ) → IfAccepted (ReadAs (λ x. x < 2 ^ w) (λ x. x ∷ []) all) (read_byte w all)
 unfolding read_byte
-byte_read_lem fits [] = tt
-byte_read_lem fits (x ∷ rest) = asked _ (fits x) 5 (accepted (x, rest)) (λ e. (e, refl))
-
--- a map: it is below the limit
-pub map_read : (n : ℕ) (all : List ℕ) → IfAccepted (ReadAs (λ x. x < 2 ^ n) (λ x. x ∷ []) all) (read_byte (map_fits n) all)
-unfolding map_fits
-map_read n all = weaker _ _ (read_byte (map_fits n) all) (byte_read_lem (map_fits n) all) (λ x says. (ltb-true x.0 (2 ^ n) says.0, says.1))
+byte_read_lem w [] = tt
+byte_read_lem w (x ∷ rest) = asked _ (ltb x (2 ^ w)) 5 (accepted (x, rest)) (λ e. (ltb-true x (2 ^ w) e, refl))
 
 -- one next state; t says that its bit stands
 Transition : ℕ → Bool → List ℕ → ℕ × List ℕ → Type 0
 Transition k t all x =
     (eqb x.0 no_transition ≡ not t)
-    × ((eqb x.0 no_transition || set_byte_fits k x.0) ≡ true)
+    × ((eqb x.0 no_transition || ltb x.0 (2 ^ k)) ≡ true)
     × (all ≡ cond (not t) x.1 (x.0 ∷ x.1))
 
-transition_read : (k : ℕ) → k < mark_bit → (t : Bool) (all : List ℕ) → IfAccepted (Transition k t all) (read_transition k t all)
+transition_read : (k : ℕ) → 2 ^ k ≤ no_transition → (t : Bool) (all : List ℕ) → IfAccepted (Transition k t all) (read_transition k t all)
 unfolding read_transition Transition
 transition_read k small true all =
-    weaker _ _ (read_byte (set_byte_fits k) all) (byte_read_lem (set_byte_fits k) all) λ x says.
-    let other = ne_eqb x.0 no_transition (fits_there k x.0 small says.0) in
-    (other, rw (other, says.0), says.1)
+    weaker _ _ (read_byte k all) (byte_read_lem k all) λ x says.
+    let other = ne_eqb x.0 no_transition (omega arith) in
+    (other, rw (other, lt-ltb x.0 (2 ^ k) says.0), says.1)
 transition_read k small false all = (refl, refl, refl)
 
 -- one row: it has the map that it was read by
@@ -147,7 +141,7 @@ row_cons k w standing all t e x (is, fit, here) row (long, fits, map, behind) =
     (ap suc long, and_both _ _ fit fits, rw (is, map) (by_lowest standing t e), rw is bytes)
 
 -- so for each row
-row_read : (k : ℕ) → k < mark_bit → (w standing : ℕ) (all : List ℕ) → standing < 2 ^ w
+row_read : (k : ℕ) → 2 ^ k ≤ no_transition → (w standing : ℕ) (all : List ℕ) → standing < 2 ^ w
     → IfAccepted (Row k w standing all) (read_row k w standing all)
 unfolding read_row Row map_byte bytes_fit set_bytes
 row_read k small zero standing all h = (refl, refl, omega arith, refl)
@@ -158,10 +152,10 @@ row_read k small (suc w) standing all h =
     row_cons k w standing all bit refl x told row says
 
 -- one cell
-cell_read : (n k : ℕ) → k < mark_bit → (all : List ℕ) → IfAccepted (ReadAs (RowFits n k) cell_bytes all) (read_cell n k n all)
+cell_read : (n k : ℕ) → 2 ^ k ≤ no_transition → (all : List ℕ) → IfAccepted (ReadAs (RowFits n k) cell_bytes all) (read_cell n k n all)
 unfolding read_cell cell_bytes Row
 cell_read n k small all =
-    followed _ _ (read_byte (map_fits n) all) _ (map_read n all) λ standing told.
+    followed _ _ (read_byte n all) _ (byte_read_lem n all) λ standing told.
     weaker _ _ (read_row k n standing.0 standing.1) (row_read k small n standing.0 standing.1 told.0) λ row says.
     ((says.0, says.1), told.1 ∙ ap₂ ◌∷◌ (sym says.2) says.3)
 
@@ -179,14 +173,14 @@ many_read P bytes one h (suc c) all =
     )
 
 -- a square, and so a grid
-square_read : (n k : ℕ) → k < mark_bit → (all : List ℕ)
+square_read : (n k : ℕ) → 2 ^ k ≤ no_transition → (all : List ℕ)
     → IfAccepted (ReadAs (SquareFits n k) (flat_map cell_bytes) all) (read_many (read_cell n k n) n all)
 square_read n k small = many_read (RowFits n k) cell_bytes (read_cell n k n) (cell_read n k small) n
 
 abbrev pub GridRead : ℕ → ℕ → ℕ → List ℕ → Grid × List ℕ → Type 0
 GridRead n m k = ReadAs (λ grid. (length grid ≡ m) × Every (SquareFits n k) grid) (λ grid. flat_map cell_bytes (flatten grid))
 
-pub grid_read : (n m k : ℕ) → k < mark_bit → (all : List ℕ) → IfAccepted (GridRead n m k all) (read_grid n m k all)
+pub grid_read : (n m k : ℕ) → 2 ^ k ≤ no_transition → (all : List ℕ) → IfAccepted (GridRead n m k all) (read_grid n m k all)
 unfolding read_grid
 grid_read n m k small all =
     let squares = read_many (read_cell n k n) n in

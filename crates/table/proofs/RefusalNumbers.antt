@@ -1,15 +1,15 @@
 -- The numbers of refusals: no question has the number 0, so 0 tells that a call is accepted.
 use mathlib.Core.Bool.{Bool, true, false}
 use mathlib.Core.List.{List, [], ◌∷◌}
-use Prim.Native.Nat.{ℕ, zero, suc, ◌/◌, ◌%◌}
+use Prim.Native.Nat.{ℕ, zero, suc, ◌/◌, ◌%◌, ◌^◌}
 use native.Mathlib.Omega.{arith}
 use lib.Dec.{eqb, leb, ltb}
 use lib.ListN.{length, get_or, drop}
 use Rattle.base.specs.Outcome.{Outcome}
 use Rattle.base.specs.Reading.{Read, read_many, ended}
 use Rattle.base.proofs.Numbers.{IfRefused, ask_number, then_number, NotZero}
-use Rattle.rule.specs.WellFormed.{start_fits, set_byte_fits}
-use Rattle.table.specs.Table.{in_range, ask_header, map_fits, read_byte, read_transition, read_row, read_cell, read_grid, read_body, read_rule, grid_fits, write_rule}
+use Rattle.rule.specs.WellFormed.{start_fits}
+use Rattle.table.specs.Table.{in_range, ask_header, read_byte, read_transition, read_row, read_cell, read_grid, read_body, read_rule, grid_fits, write_rule}
 use Rattle.table.specs.LetterQuestions.{letter_questions}
 
 -- QUESTIONS 2 AND 3
@@ -21,14 +21,14 @@ header_number_lem n m k start next later =
 
 -- QUESTIONS 1 TO 6
 
-byte_number : (fits : ℕ → Bool) (bytes : List ℕ) → IfRefused NotZero (read_byte fits bytes)
+byte_number : (w : ℕ) (bytes : List ℕ) → IfRefused NotZero (read_byte w bytes)
 unfolding read_byte
-byte_number fits [] = λ e. omega arith
-byte_number fits (x ∷ rest) = ask_number NotZero (fits x) 5 _ (λ e. omega arith) tt
+byte_number w [] = λ e. omega arith
+byte_number w (x ∷ rest) = ask_number NotZero (ltb x (2 ^ w)) 5 _ (λ e. omega arith) tt
 
 transition_number : (k : ℕ) (t : Bool) (bytes : List ℕ) → IfRefused NotZero (read_transition k t bytes)
 unfolding read_transition
-transition_number k true bytes = byte_number (set_byte_fits k) bytes
+transition_number k true bytes = byte_number k bytes
 transition_number k false bytes = tt
 
 row_number : (k w standing : ℕ) (bytes : List ℕ) → IfRefused NotZero (read_row k w standing bytes)
@@ -40,7 +40,7 @@ row_number k (suc w) standing bytes =
 
 cell_number : (n k w : ℕ) (bytes : List ℕ) → IfRefused NotZero (read_cell n k w bytes)
 unfolding read_cell
-cell_number n k w bytes = then_number NotZero (read_byte (map_fits n) bytes) _ (byte_number (map_fits n) bytes) (λ x. row_number k w x.0 x.1)
+cell_number n k w bytes = then_number NotZero (read_byte n bytes) _ (byte_number n bytes) (λ x. row_number k w x.0 x.1)
 
 many_number : {A : Type 0} (one : List ℕ → Read A) → ((bytes : List ℕ) → IfRefused NotZero (one bytes)) → (c : ℕ) (bytes : List ℕ)
     → IfRefused NotZero (read_many one c bytes)

@@ -3,11 +3,11 @@
 use mathlib.Core.Path.{◌≡◌, refl, sym, ap, ◌∙◌}
 use mathlib.Core.Bool.{Bool, true, false, ◌&&◌, ◌||◌, cond, and_assoc}
 use mathlib.Core.List.{List, [], ◌∷◌, ◌++◌, flatten, flat_map, append-nil}
-use Prim.Native.Nat.{ℕ, suc, ◌+◌, ◌*◌, ◌≤◌, suc-le-suc}
+use Prim.Native.Nat.{ℕ, suc, ◌+◌, ◌*◌, ◌^◌, ◌≤◌, suc-le-suc}
 use native.Mathlib.Nat.{mul-le-mul}
 use native.Mathlib.Omega.{arith}
 use borrow.Author.Tests.{eqb-true, eq-eqb, le-leb}
-use lib.Dec.{eqb, leb}
+use lib.Dec.{eqb, leb, ltb}
 use lib.ListN.{length, length-append}
 use Rattle.base.specs.Outcome.{accepted}
 use Rattle.base.specs.Lists.{Every}
@@ -17,7 +17,7 @@ use Rattle.base.proofs.Accepted.{IfAccepted, of_accepted, asked, followed}
 use Rattle.base.proofs.Every.{flatten_every, every_flatten, every_both, every_weaker}
 use Rattle.rule.specs.Limits.{max_states, max_letters, no_transition}
 use Rattle.rule.specs.Rule.{Grid, Rule}
-use Rattle.rule.specs.WellFormed.{set_byte_fits, bytes_fit, SquareFits, WellFormed, start_fits}
+use Rattle.rule.specs.WellFormed.{bytes_fit, SquareFits, WellFormed, start_fits}
 use Rattle.table.specs.Table.{set_bytes, cell_bytes, table_bytes, grid_bytes, grid_of, in_range, ask_header, read_grid, read_body, read_rule, grid_fits, write_rule}
 use Rattle.table.proofs.Ranges.{in_range_lem, sets_small}
 use Rattle.table.proofs.Parts.{Squares, fits_squares, grid_squares, grid_of_bytes, bytes_of_grid, grid_length, row_count, row_lengths}
@@ -75,7 +75,7 @@ fit_append : (k : ℕ) (a b : List ℕ) → bytes_fit k (a ++ b) ≡ (bytes_fit 
 unfolding bytes_fit
 fit_append k [] b = refl
 fit_append k (x ∷ a) b =
-    let fits = eqb x no_transition || set_byte_fits k x in
+    let fits = eqb x no_transition || ltb x (2 ^ k) in
     ap (fits &&◌) (fit_append k a b) ∙ sym (and_assoc fits (bytes_fit k a) (bytes_fit k b))
 
 flatten_fit : (k : ℕ) (rows : List (List ℕ)) → bytes_fit k (flatten rows) ≡ true → Every (λ row. bytes_fit k row ≡ true) rows

@@ -17,7 +17,6 @@ use Rattle.base.specs.Reading.{Read}
 use Rattle.base.proofs.Accepted.{then_assoc}
 use Rattle.base.proofs.LowestBit.{lowest_here, lowest_above, lowest_inside, cleared_even, cleared_here, cleared_above, cleared_ones}
 use Rattle.rule.specs.Limits.{no_transition}
-use Rattle.rule.specs.WellFormed.{set_byte_fits}
 use Rattle.table.specs.Table.{read_byte, read_transition, read_row}
 
 -- what follows may be replaced by what is equal
@@ -29,7 +28,7 @@ then_each (accepted a) f g e = e a
 pub read_over : ℕ → List ℕ → ℕ → List ℕ → Read (List ℕ)
 read_over k [] rest bytes = accepted ([], bytes)
 read_over k (x ∷ row) rest bytes =
-    cond (eqb (rest % 2) 1) (read_byte (set_byte_fits k) bytes) (accepted (x, bytes)) then λ y.
+    cond (eqb (rest % 2) 1) (read_byte k bytes) (accepted (x, bytes)) then λ y.
     read_over k row (rest / 2) y.1 then λ ys.
     accepted (y.0 ∷ ys.0, ys.1)
 
@@ -40,7 +39,7 @@ over_blank k zero rest bytes = refl
 over_blank k (suc w) rest bytes =
     rw (go (eqb (rest % 2) 1)) (then_each (read_transition k (eqb (rest % 2) 1) bytes) _ _ λ x. rw (over_blank k w (rest / 2) x.1))
   where
-    go : (b : Bool) → cond b (read_byte (set_byte_fits k) bytes) (accepted (no_transition, bytes)) ≡ read_transition k b bytes
+    go : (b : Bool) → cond b (read_byte k bytes) (accepted (no_transition, bytes)) ≡ read_transition k b bytes
     go true = refl
     go false = refl
 
@@ -54,7 +53,7 @@ over_none k (x ∷ row) bytes = rw (over_none k row bytes)
 abbrev Lowest : ℕ → ℕ → List ℕ → ℕ → List ℕ → Type 0
 Lowest k w row rest bytes =
     read_over k row rest bytes
-    ≡ (read_byte (set_byte_fits k) bytes then λ x. read_over k (set row (count_trailing_zeros w rest) x.0) (bit_and rest (rest - 1)) x.1)
+    ≡ (read_byte k bytes then λ x. read_over k (set row (count_trailing_zeros w rest) x.0) (bit_and rest (rest - 1)) x.1)
 
 over_lowest : (k w : ℕ) (row : List ℕ) (rest : ℕ) (bytes : List ℕ) → length row ≤ w → 0 < rest → rest < 2 ^ length row
     → Lowest k w row rest bytes
@@ -68,7 +67,7 @@ over_lowest k (suc w) (x ∷ row) rest bytes le some small =
     go (yes h) ih =
         let even : rest % 2 ≡ 0 = omega arith in
         rw (even, lowest_above w rest even, cleared_even rest, cleared_above rest some even, ih (omega arith))
-        (then_assoc (read_byte (set_byte_fits k) bytes) _ _)
+        (then_assoc (read_byte k bytes) _ _)
     go (no h) ih =
         let odd : rest % 2 ≡ 1 = omega arith in
         rw (odd, lowest_here w rest odd, cleared_even rest, cleared_here rest odd)
@@ -114,12 +113,12 @@ module _ {s : List ℕ} {k w : ℕ} {whole : Read (List ℕ)} {row : List ℕ} {
       pub row_inside : count_trailing_zeros width rest < w
       row_inside = lowest_inside width w rest wide row_some v.small
 
-      next : (read_byte (set_byte_fits k) (drop at s) then λ x. read_over k (set row (count_trailing_zeros width rest) x.0) (bit_and rest (rest - 1)) x.1)
+      next : (read_byte k (drop at s) then λ x. read_over k (set row (count_trailing_zeros width rest) x.0) (bit_and rest (rest - 1)) x.1)
           ≡ whole
       next = sym (over_lowest k width row rest (drop at s) (omega (arith, v.size)) row_some (rw v.size v.small)) ∙ v.ahead
 
       -- its set byte is there
-      pub row_take : (x at' : ℕ) → accepted (x, drop at' s) ≡ read_byte (set_byte_fits k) (drop at s)
+      pub row_take : (x at' : ℕ) → accepted (x, drop at' s) ≡ read_byte k (drop at s)
           → RowSoFar s k w whole (set row (count_trailing_zeros width rest) x) at' (bit_and rest (rest - 1)) (left - 1)
       row_take x at' e = record {
         size = length-set row (count_trailing_zeros width rest) x ∙ v.size;
@@ -129,7 +128,7 @@ module _ {s : List ℕ} {k w : ℕ} {whole : Read (List ℕ)} {row : List ℕ} {
       }
 
       -- its set byte is refused
-      pub row_refused : (number : ℕ) → refused number ≡ read_byte (set_byte_fits k) (drop at s) → refused number ≡ whole
+      pub row_refused : (number : ℕ) → refused number ≡ read_byte k (drop at s) → refused number ≡ whole
       row_refused number e = rw (← e) at next
 
   -- no byte is left: no bit stands, and the row is whole

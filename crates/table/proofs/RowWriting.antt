@@ -3,17 +3,17 @@
 use mathlib.Core.Path.{◌≡◌, refl, ◌∙◌, ap}
 use mathlib.Core.Bool.{Bool, true, false, cond}
 use mathlib.Core.List.{List, [], ◌∷◌, ◌++◌, flat_map}
-use Prim.Native.Nat.{ℕ, suc, ◌+◌, ◌-◌, ◌*◌, ◌≤◌, ◌<◌}
+use Prim.Native.Nat.{ℕ, suc, ◌+◌, ◌-◌, ◌*◌, ◌^◌, ◌≤◌, ◌<◌}
 use native.Mathlib.Omega.{arith}
 use native.Mathlib.Numerals.{add-one}
-use borrow.Author.Tests.{eq-eqb, ne_eqb}
+use borrow.Author.Tests.{eq-eqb, ne_eqb, lt-ltb, le-ltb}
 use lib.Dec.{eqb}
 use lib.ListN.{length, get_or, drop, length-drop, drop_of_length-le}
 use lib.Pow.{pow_mono}
 use lib.Seq.{drop-cons, drop-length}
 use Rattle.base.specs.Outcome.{refused, accepted}
 use Rattle.rule.specs.Limits.{max_states, no_transition}
-use Rattle.rule.specs.WellFormed.{set_byte_fits, bytes_fit}
+use Rattle.rule.specs.WellFormed.{bytes_fit}
 use Rattle.table.specs.Table.{map_byte, set_bytes}
 use Rattle.table.specs.Inner.Writing.{transition_count}
 use Rattle.table.proofs.Reading.{map_byte_lt}
@@ -47,27 +47,27 @@ module _ {k : ℕ} {bytes : List ℕ} {count i : ℕ} (v : CountedSoFar k bytes 
 
     module _ (there : get_or bytes i 0 ≡ no_transition → ⊥) where
       -- the next byte is a transition
-      pub count_one : set_byte_fits k (get_or bytes i 0) ≡ true → CountedSoFar k bytes (count + 1) (i + 1)
+      pub count_one : get_or bytes i 0 < 2 ^ k → CountedSoFar k bytes (count + 1) (i + 1)
       unfolding bytes_fit set_bytes
-      count_one fit =
+      count_one l =
           let next = drop-cons bytes i 0 h in
           let one = ne_eqb (get_or bytes i 0) no_transition there in
           let few : length (set_bytes (drop i bytes)) ≡ suc (length (set_bytes (drop (suc i) bytes))) = rw (next, one) in
           rw (add-one i) (record {
             few = h;
             small = omega (arith, v.small);
-            fits = v.fits ∙ rw (next, one, fit);
+            fits = v.fits ∙ rw (next, one, lt-ltb (get_or bytes i 0) (2 ^ k) l);
             number = omega (arith, v.number);
           })
 
       -- the next byte fails question 11
-      pub count_misfit : set_byte_fits k (get_or bytes i 0) ≡ false → refused 11 ≡ transition_count k bytes
+      pub count_misfit : 2 ^ k ≤ get_or bytes i 0 → refused 11 ≡ transition_count k bytes
       unfolding transition_count bytes_fit
-      count_misfit unfit = rw (
+      count_misfit l = rw (
         v.fits,
         drop-cons bytes i 0 h,
         ne_eqb (get_or bytes i 0) no_transition there,
-        unfit,
+        le-ltb (get_or bytes i 0) (2 ^ k) l,
       )
 
   pub count_done : length bytes ≤ i → accepted count ≡ transition_count k bytes

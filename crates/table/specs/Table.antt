@@ -6,7 +6,7 @@ use Rattle.base.specs.Outcome.{Outcome, refused, accepted, ask, ◌then◌}
 use Rattle.base.specs.Reading.{Read, read_many, ended}
 use Rattle.rule.specs.Limits.{max_states, max_letters, max_sets, no_transition}
 use Rattle.rule.specs.Rule.{Grid, Rule}
-use Rattle.rule.specs.WellFormed.{start_fits, set_byte_fits, bytes_fit}
+use Rattle.rule.specs.WellFormed.{start_fits, bytes_fit}
 
 -- WHAT A TABLE'S BYTES ARE
 
@@ -52,20 +52,15 @@ in_range n m k = (leb 1 n && leb n max_states) && ((leb 1 m && leb m max_letters
 unfoldable pub ask_header : {A : Type 0} → ℕ → ℕ → ℕ → ℕ → Outcome A → Outcome A
 ask_header n m k start next = ask (in_range n m k) 2 (ask (start_fits n start) 3 next)
 
--- "Does a map have no bit from n up"
-unfoldable pub map_fits : ℕ → ℕ → Bool
-map_fits n x = ltb x (2 ^ n)
-
 -- "At each cell byte in turn: is it there? 4. Does a map have no bit from n up, a set byte none from k up? 5":
--- one cell byte, which has to fit as a map or as a set byte
-unfoldable pub read_byte : (ℕ → Bool) → List ℕ → Read ℕ
-read_byte fits [] = refused 4
-read_byte fits (x ∷ rest) = ask (fits x) 5 (accepted (x, rest))
+-- one cell byte in which the bits below w may stand
+unfoldable pub read_byte : ℕ → List ℕ → Read ℕ
+read_byte w [] = refused 4
+read_byte w (x ∷ rest) = ask (ltb x (2 ^ w)) 5 (accepted (x, rest))
 
--- the grid's byte for one next state: a set byte where its bit stands in the map, else no transition.
--- "Bit 7 of a set byte now marks a transition that meets the rule for good, and question 5 permits it" (document 02, U3)
+-- the grid's byte for one next state: a set byte where its bit stands in the map, else no transition
 unfoldable pub read_transition : ℕ → Bool → List ℕ → Read ℕ
-read_transition k true bytes = read_byte (set_byte_fits k) bytes
+read_transition k true bytes = read_byte k bytes
 read_transition k false bytes = accepted (no_transition, bytes)
 
 -- a row of w next states by its map, lowest bit first
@@ -76,9 +71,9 @@ read_row k (suc w) standing bytes =
     read_row k w (standing / 2) x.1 then λ row.
     accepted (x.0 ∷ row.0, row.1)
 
--- a cell, as a row of w next states: its map byte, then its set bytes
+-- a cell, as a row of w next states: its map byte, in which the bits below n may stand, then its set bytes
 unfoldable pub read_cell : ℕ → ℕ → ℕ → List ℕ → Read (List ℕ)
-read_cell n k w bytes = read_byte (map_fits n) bytes then λ standing. read_row k w standing.0 standing.1
+read_cell n k w bytes = read_byte n bytes then λ standing. read_row k w standing.0 standing.1
 
 -- m times n cells, letter by letter, state by state
 unfoldable pub read_grid : ℕ → ℕ → ℕ → List ℕ → Read Grid
@@ -102,7 +97,7 @@ read_rule table =
     (ask_header n m k start
     (read_body n m k start (drop 4 table)))
 
--- "has the grid m·n·n bytes, each 255 or below 2^k?" Of the mark: "a grid byte may carry it too under 11" (document 02, U3)
+-- "has the grid m·n·n bytes, each 255 or below 2^k?"
 unfoldable pub grid_fits : ℕ → ℕ → ℕ → List ℕ → Bool
 grid_fits n m k bytes = eqb (length bytes) (m * n * n) && bytes_fit k bytes
 

@@ -3,26 +3,18 @@ ghost use Rattle.std.specs.Prelude.{◌≡◌, ◌^◌, ◌<◌, ◌≤◌, drop
 ghost use Rattle.rule.specs.Limits.{max_letters, max_sets, max_states};
 ghost use Rattle.rule.specs.Inner.Padded.{blank_cells, blank_row, blank_square};
 ghost use Rattle.rule.specs.Inner.Lookup.{grid_words, row_word, square_words};
-ghost use Rattle.table.specs.Table.{map_fits, read_byte, read_cell, read_row};
-ghost use Rattle.table.specs.Inner.Cursor.{SetsRead, byte_read, progress, read_padded, read_square};
+ghost use Rattle.table.specs.Table.{read_byte, read_cell, read_row};
+ghost use Rattle.table.specs.Inner.Cursor.{byte_read, progress, read_padded, read_square};
 
-use crate::bits::{low_bits, sets_fit};
 use crate::byte_reader::byte_at;
 use crate::cursor::{Cursor, Next};
-use rule::lanes::{in_lane, lanes_of, marked_lanes, with_state};
+use rule::lanes::{in_lane, spread, with_state};
 use rule::limits::{Cells, NO_TRANSITION, Row, STATES, Square, SquareWords, Words};
 
-// A map byte with the cursor behind it, or the number of the question that it fails.
+// A cell byte with the cursor behind it, or the number of the question that it fails.
 #[derive(Drop)]
-pub enum MapByte {
+pub enum CellByte {
     Byte(u8, Cursor),
-    Refused(u8),
-}
-
-// A set byte, the lanes that it names and the cursor behind it, or the number of the question that it fails.
-#[derive(Drop)]
-pub enum SetByte {
-    Byte(u8, u64, Cursor),
     Refused(u8),
 }
 
@@ -33,38 +25,24 @@ pub enum Progress {
     Refused(u8),
 }
 
-// Questions 4 and 5 at a map byte: no byte with the bits below n alone is above the one that has them all.
-fn read_map(s: &[u8], c: Cursor, n: usize) -> MapByte
-    requires { n ≤ max_states }
-    ensures { byte_read s.now result ≡ read_byte (map_fits n) (drop c.at s.now) }
+fn widen(x: u8) -> u16
+    ensures { result ≡ x }
 {
-    match byte_at(s, c.at) {
-        Next::End => MapByte::Refused(4),
-        Next::Byte(x, next) => {
-            if x <= low_bits(n) {
-                MapByte::Byte(x, next)
-            } else {
-                MapByte::Refused(5)
-            }
-        }
-    }
+    x as u16
 }
 
-// Questions 4 and 5 at a set byte. One without a mark takes one test alone: most tables have no others.
-fn read_sets(s: &[u8], c: Cursor, k: usize) -> SetByte
-    requires { k ≤ max_sets }
-    ensures { SetsRead k s.now c.at result }
+// Questions 4 and 5 at one cell byte, in which the bits below `width` may stand: none is above 255 shifted down to these bits.
+fn read_byte(s: &[u8], c: Cursor, width: usize) -> CellByte
+    requires { width ≤ max_states }
+    ensures { byte_read s.now result ≡ read_byte width (drop c.at s.now) }
 {
     match byte_at(s, c.at) {
-        Next::End => SetByte::Refused(4),
-        Next::Byte(sets, next) => {
-            if sets <= low_bits(k) {
-                return SetByte::Byte(sets, lanes_of(sets), next);
-            }
-            if sets_fit(sets, k) {
-                SetByte::Byte(sets, marked_lanes(sets), next)
+        Next::End => CellByte::Refused(4),
+        Next::Byte(x, next) => {
+            if widen(x) <= 255u16 >> (8 - width) {
+                CellByte::Byte(x, next)
             } else {
-                SetByte::Refused(5)
+                CellByte::Refused(5)
             }
         }
     }
@@ -86,15 +64,15 @@ fn read_row(s: &[u8], from: Cursor, map: u16, k: usize, row: &mut Row, word: &mu
         let r = u64::trailing_zeros(rest) as usize;
         rest = rest & (rest - 1);
         left -= 1;
-        match read_sets(s, at, k) {
-            SetByte::Refused(number) => {
+        match read_byte(s, at, k) {
+            CellByte::Refused(number) => {
                 *row = [NO_TRANSITION; STATES];
                 *word = 0;
                 return Progress::Refused(number);
             }
-            SetByte::Byte(sets, lanes, next) => {
+            CellByte::Byte(sets, next) => {
                 row[r] = sets;
-                made = with_state(made, r, lanes);
+                made = with_state(made, r, spread(2 * widen(sets)));
                 at = next;
             }
         }
@@ -103,15 +81,15 @@ fn read_row(s: &[u8], from: Cursor, map: u16, k: usize, row: &mut Row, word: &mu
     Progress::At(at)
 }
 
-// A cell: its map byte, in which the bits below n may stand, then its set bytes, into a blank row.
+// A cell: its map byte, in which bits below n may stand, then its set bytes, into a blank row.
 fn read_cell(s: &[u8], from: Cursor, n: usize, k: usize, row: &mut Row, word: &mut u64) -> Progress
     requires { ((n ≤ max_states) × (k ≤ max_sets)) × ((row.old ≡ blank_row) × (word.old ≡ row_word row.old)) }
     ensures { (progress s.now result row.new ≡ read_cell n k max_states (drop from.at s.now))
         × (word.new ≡ row_word row.new) }
 {
-    match read_map(s, from, n) {
-        MapByte::Refused(number) => Progress::Refused(number),
-        MapByte::Byte(map, next) => read_row(s, next, map as u16, k, row, word),
+    match read_byte(s, from, n) {
+        CellByte::Refused(number) => Progress::Refused(number),
+        CellByte::Byte(map, next) => read_row(s, next, map as u16, k, row, word),
     }
 }
 

@@ -1,5 +1,4 @@
 // Rule tables: reader, writer, a table read into arrays of arrays; the questions to a table and a letter.
-mod bits;
 mod byte_reader;
 mod cells;
 mod cursor;

@@ -2,12 +2,11 @@
 ghost use Rattle.std.specs.Prelude.{◌≡◌, [], ◌∷◌, ◌+◌, ◌*◌, ◌<◌, ◌≤◌, length};
 ghost use Rattle.base.specs.Outcome.{refused};
 ghost use Rattle.base.specs.LentBuffer.{stored};
-ghost use Rattle.rule.specs.Limits.{max_sets, max_states};
+ghost use Rattle.rule.specs.Limits.{max_states};
 ghost use Rattle.table.specs.Table.{cell_bytes, map_byte, set_bytes, write_rule};
 ghost use Rattle.table.specs.WriteCall.{WriteCall, write_answer};
 ghost use Rattle.table.specs.Inner.Writing.{counted_as, length_of, row_cells, transition_count};
 
-use crate::bits::sets_fit;
 use crate::header::header_number;
 use rule::limits::NO_TRANSITION;
 
@@ -33,11 +32,12 @@ enum Length {
     Refused(u8),
 }
 
-// Question 11's "each 255 or below 2^k", marks permitted, and the number of transitions.
+// Question 11's "each 255 or below 2^k", and the number of transitions.
 fn count_transitions(grid: &[u8], k: usize) -> Counted
-    requires { k ≤ max_sets }
+    requires { k < 16 }
     ensures { counted_as result ≡ transition_count k grid.now }
 {
+    let limit = 1u16 << k;
     let mut count = 0usize;
     let mut i = 0usize;
     while i < grid.len() {
@@ -46,7 +46,7 @@ fn count_transitions(grid: &[u8], k: usize) -> Counted
         if sets == NO_TRANSITION {
             continue;
         }
-        if !sets_fit(sets, k) {
+        if limit <= sets as u16 {
             return Counted::Misfit;
         }
         count += 1;

@@ -5,31 +5,12 @@ use mathlib.Core.List.{List, [], ◌∷◌}
 use Prim.Native.Nat.{ℕ, suc, ◌+◌, ◌-◌, ◌/◌, ◌^◌, ◌≤◌, ◌<◌}
 use native.Mathlib.Omega.{arith}
 use native.Mathlib.Numerals.{add-one}
-use borrow.Author.Tests.{eq-eqb, ne_eqb, eqb-true, le-leb, lt-leb, lt-ltb, le-ltb}
+use borrow.Author.Tests.{eq-eqb, ne_eqb, le-leb, lt-leb, lt-ltb, le-ltb}
 use lib.Count.{ones}
 use lib.Dec.{eqb, leb, ltb}
 use lib.ListN.{length, get_or, drop, drop_of_length-le}
 use lib.Seq.{drop-cons}
-use Rattle.base.proofs.Logic.{never, bool_ext}
-use Rattle.history.specs.Record.{is_met_record}
 use Rattle.history.specs.Inner.RecordChecks.{is_host, all_host, active_fits, tags_follow, tags_fit, body_fits, record_checks}
-use Rattle.history.proofs.Names.Names.{same_self, same_equal}
-
--- THE MET TREE'S RECORD
-
--- bytes that differ from it, in their length or at some place, are another one
-pub met_other : (f : List ℕ → ℕ) (bytes : List ℕ) → (f bytes ≡ f (0x00 ∷ 0xFF ∷ []) → ⊥) → false ≡ is_met_record bytes
-unfolding is_met_record
-met_other f bytes other = sym (never _ (λ same. other (sym (ap f (same_equal (0x00 ∷ 0xFF ∷ []) bytes same)))))
-
--- of two bytes, the first of them 0, the second tells
-pub met_last : (bytes : List ℕ) → length bytes ≡ 2 → get_or bytes 0 0 ≡ 0 → eqb (get_or bytes 1 0) 255 ≡ is_met_record bytes
-unfolding is_met_record
-met_last [] two first = absurd (omega arith)
-met_last (x ∷ []) two first = absurd (omega arith)
-met_last (x ∷ y ∷ []) two first = bool_ext _ _ (λ e. rw (first, eqb-true y 255 e) (same_self (0x00 ∷ 0xFF ∷ [])))
-    (λ same. eq-eqb y 255 (sym (ap (λ (l : List ℕ). get_or l 1 0) (same_equal (0x00 ∷ 0xFF ∷ []) (x ∷ y ∷ []) same))))
-met_last (x ∷ y ∷ z ∷ left) two first = absurd (omega arith)
 
 -- HOSTS
 

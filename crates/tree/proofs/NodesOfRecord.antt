@@ -16,8 +16,8 @@ use Rattle.base.proofs.BitSet.{member_lt}
 use Rattle.base.proofs.Logic.{and_in}
 use Rattle.rule.specs.Limits.{max_states, max_sets}
 use Rattle.history.specs.Forest.{nil, node, size}
-use Rattle.history.specs.Tree.{Node, Tree, is_tree, met_tree}
-use Rattle.history.specs.Record.{host, members, tags, record_of, hosted_in, decoded, is_met_record, read_tree}
+use Rattle.history.specs.Tree.{Node, Tree, is_tree}
+use Rattle.history.specs.Record.{host, members, tags, record_of, hosted_in, decoded, read_tree}
 use Rattle.history.specs.Inner.RecordChecks.{record_checks}
 use Rattle.history.proofs.Records.HostLabels.{relabelled, ByNumber, labels_relabelled, labels_from_hosts}
 use Rattle.history.proofs.Records.RecordOfTree.{Shallower, length_tags, hosted_law, root_states}
@@ -28,10 +28,9 @@ use Rattle.history.proofs.Records.RecordChecks.{checks_exact, read_by_checks}
 use Rattle.history.proofs.Step.TreesKept.{few_nodes}
 use Rattle.tree.specs.Inner.Nodes.{nodes_from, nodes_of}
 use Rattle.tree.specs.Inner.PackedNodes.{nodes_in}
-use Rattle.tree.specs.Inner.RecordNodes.{blank_behind, HasNodes, deeper, nodes_of_tags}
+use Rattle.tree.specs.Inner.RecordNodes.{blank_behind, deeper, nodes_of_tags}
 use Rattle.tree.specs.Inner.RecordCode.{checked_tree, tree_beside, Checks}
 use Rattle.tree.specs.declared.record.Count.TheVariants.{Nodes}
-use Rattle.tree.specs.declared.nodes.Tree.{Tree as CodeTree}
 use Rattle.tree.proofs.TreeNodes.{nodes_size}
 
 module _ (k : ℕ) (small : k < 16) where
@@ -161,12 +160,6 @@ record_parts n k (node x below (node y other younger)) t h = absurd t.one_root
 
 -- THE CHECK'S ANSWER
 
--- for the met tree's record
-pub checked_met : (n k : ℕ) (bytes : List ℕ) → is_met_record bytes ≡ true → (x : CodeTree) → HasNodes (nodes_of met_tree) x
-    → Checks (read_tree n k bytes) (record { count = Nodes 1; tree = x })
-unfolding read_tree tree_beside size met_tree
-checked_met n k bytes is x has = rw is (record { count = refl; tree = has })
-
 module _ (n k : ℕ) (bytes : List ℕ) (h : k < 16) where
   abbrev states : ℕ
   states = get_or bytes 0 0
@@ -188,26 +181,26 @@ module _ (n k : ℕ) (bytes : List ℕ) (h : k < 16) where
     passed_parts hosts left is is' = let P = parts.1 in
         rw (is, is') (P.small, (omega (arith, P.many), omega (arith, P.counts, few_nodes n k (decoded n bytes) is_record_lem.0)))
 
-  -- what is answered for them, unless they are the met tree's record, and for bytes that do not pass
-  pub checked_yes : is_met_record bytes ≡ false → record_checks n k bytes ≡ true → (hosts left words : List ℕ)
+  -- what is answered for them, and for bytes that do not pass
+  pub checked_yes : record_checks n k bytes ≡ true → (hosts left words : List ℕ)
       → hosts ≡ take (ones states) (drop 1 bytes) → left ≡ drop (1 + ones states) bytes
       → nodes_in words ≡ blank_behind (nodes_of_tags (hosted_in n states hosts) 0 left)
       → let number = length bytes - (1 + ones states) in
       Checks (read_tree n k bytes) (record { count = Nodes number; tree = record { nodes = words; count = number } })
   unfolding tree_beside
-  checked_yes other passed hosts left words is is' made =
+  checked_yes passed hosts left words is is' made =
       let P = (parts passed).1 in
       let T : Tree = decoded n bytes in
       let number : length bytes - (1 + ones states) ≡ size T = sym (length-drop (1 + ones states) bytes) ∙ P.counts in
       let built : nodes_of_tags (hosted_in n states hosts) 0 left ≡ nodes_of T =
       ap₂ (λ (u v : List ℕ). nodes_of_tags (hosted_in n states u) 0 v) is is' ∙ P.nodes in
-      rw (read_by_checks n k bytes h, other, passed) (record {
+      rw (read_by_checks n k bytes h, passed) (record {
         count = ap (λ (c : ℕ). accepted c) number;
         tree = record { nodes = made ∙ ap blank_behind built; count = number ∙ sym (nodes_size T) };
       })
 
-  pub checked_no : is_met_record bytes ≡ false → record_checks n k bytes ≡ false → read_tree n k bytes ≡ refused 9
-  checked_no other failed = rw (read_by_checks n k bytes h, other, failed)
+  pub checked_no : record_checks n k bytes ≡ false → read_tree n k bytes ≡ refused 9
+  checked_no failed = rw (read_by_checks n k bytes h, failed)
 
 -- past the limits no bytes pass, and within them those of question 9
 module _ (n k : ℕ) (bytes : List ℕ) where

@@ -3,32 +3,31 @@ use mathlib.Core.Path.{◌≡◌, refl, sym, ◌∙◌, ap, ap₂}
 use mathlib.Core.Logic.{⊎_elim}
 use mathlib.Core.Bool.{Bool, true, false, not, ◌&&◌, cond}
 use mathlib.Core.List.{List, [], ◌∷◌, ◌++◌, map, map-map, map-append, append_assoc, append-nil}
-use Prim.Native.Nat.{ℕ, zero, suc, ◌+◌, ◌≤◌, ◌<◌}
+use Prim.Native.Nat.{ℕ, zero, suc, ◌+◌, ◌^◌, ◌≤◌, ◌<◌}
 use native.Mathlib.Omega.{arith}
 use lib.ListN.{get_or, get_or-map}
 use lib.Pow.{pow_pos, pow_mono}
+use lib.Seq.{get_or-take}
 use Rattle.base.specs.BitSet.{member}
-use Rattle.base.specs.Lists.{Every, pad}
+use Rattle.base.specs.Lists.{Every}
 use Rattle.base.proofs.BitSet.{member_none}
 use Rattle.base.proofs.Logic.{look, clash, never}
-use Rattle.rule.specs.Limits.{max_states}
 use Rattle.rule.specs.Rule.{Rule}
 use Rattle.table.specs.Inner.ReadRule.{WithinLimits}
 use Rattle.history.specs.Forest.{nil, node, size}
-use Rattle.history.specs.Tree.{Node, Tree, labels, is_tree_of, met_tree, is_met}
+use Rattle.history.specs.Tree.{Node, Tree, labels}
 use Rattle.history.specs.Record.{host_from, host, tags, record_of}
 use Rattle.history.proofs.Tree.Conditions.{Nested, Active, NestedTree}
 use Rattle.history.proofs.Tree.Hosts.{held_here, held_younger, held_in, host_below, host_here, host_younger}
 use Rattle.history.proofs.Records.Members.{map_members}
 use Rattle.history.proofs.Records.RecordOfTree.{root_states}
-use Rattle.history.proofs.Step.MetTree.{met_is}
 use Rattle.history.proofs.Step.TreesOf.{of_few, of_nested}
 use Rattle.tree.specs.Inner.PackedNodes.{nodes_in, counted_nodes}
 use Rattle.tree.specs.Inner.Nodes.{nodes_from, nodes_of, without_old, AreNodes, HoldsTree, blank_node}
-use Rattle.tree.specs.Inner.RecordNodes.{blank_behind, HasNodes, host_node, tag_of, host_bytes, tag_bytes, nodes_record, Recordable}
+use Rattle.tree.specs.Inner.RecordNodes.{host_node, tag_of, host_bytes, tag_bytes, nodes_record, Recordable}
 use Rattle.tree.specs.declared.nodes.Node.{Node as CodeNode}
 use Rattle.tree.specs.declared.nodes.Tree.{Tree as CodeTree}
-use Rattle.tree.proofs.TreeNodes.{root_label, has_front, held_node, tree_small}
+use Rattle.tree.proofs.TreeNodes.{tree_small}
 
 -- HOSTS
 
@@ -147,75 +146,46 @@ tree_record n k (node x below nil) w = ap₂ (λ (u v : List ℕ). x.label ∷ (
         ∙ host_among q 0 0 T [] w.nested (rw (root_states x below) m)
 tree_record n k (node x below (node y other younger)) w = absurd w.one_root
 
--- THE MET TREE
+-- the root's label is a byte
+root_small : (n k : ℕ) (T : Tree) → NestedTree n k T → (get_or (nodes_of T) 0 blank_node).label < 2 ^ n
+unfolding nodes_of nodes_from
+root_small n k nil w = pow_pos n
+root_small n k (node x below nil) w = rw (root_states x below) at w.states
+root_small n k (node x below (node y other younger)) w = absurd w.one_root
 
--- it is nested, if its active set counts as one
-met_nested : (n : ℕ) → NestedTree n 255 met_tree
-unfolding met_tree labels
-met_nested n = record {
-  one_root = tt;
-  states = pow_pos n;
-  active = (omega arith, omega arith, tt, tt);
-  nested = (record { apart = λ q m. member_none q; within = λ q m. m }, tt, tt);
-}
-
--- so what is written for its node is its record, and it can be written
-module _ (n : ℕ) {x : CodeTree} (met : HasNodes (nodes_of met_tree) x) where
-  pub met_written : nodes_record n (counted_nodes x) ≡ record_of n met_tree
-  met_written = ap (nodes_record n) (has_front (nodes_of met_tree) x met) ∙ tree_record n 255 met_tree (met_nested n)
-
-  pub met_recordable : n ≤ max_states → Recordable n x
-  unfolding blank_behind pad nodes_of nodes_from met_tree tag_of
-  met_recordable h = record {
-    states = h;
-    few = omega (arith, met.count);
-    root = λ l. rw met.nodes (omega arith);
-    tags = λ i l. let first : i ≡ 0 = omega (arith, met.count) in rw (met.nodes, first) (omega arith);
-  }
-
--- THE TREES OF A RULE
-
-module _ (R : Rule) (T : Tree) (tree : is_tree_of R T ≡ true) where
-  -- each of them is nested over its states, for some number of sets
-  rule_nested : (k : ℕ) × NestedTree R.states k T
-  rule_nested = ⊎_elim (λ met. rw (met_is T met) (255, met_nested R.states)) (λ unmet. (R.sets, of_nested R T tree unmet)) (look (is_met T))
-
-  -- within the limits its tags are bytes
-  rule_tags : WithinLimits R → Every (λ m. m < 256) (tags 0 T)
-  unfolding met_tree tags
-  rule_tags limits = ⊎_elim (λ met. rw (met_is T met) (omega arith, tt)) (λ unmet.
-      rw (append-nil (tags 0 T)) at (tags_small R.sets 0 T [] (of_nested R T tree unmet).active (omega (arith, limits.sets))
-      (omega (arith, of_few R T tree, limits.states)) tt)) (look (is_met T))
-
-  -- what is written for its nodes is its record
-  pub record_of_nodes : (l : List CodeNode) → AreNodes l T → nodes_record R.states l ≡ record_of R.states T
-  record_of_nodes l e = let (k, t) = rule_nested in
-      sym (record_without_old R.states l) ∙ ap (nodes_record R.states) e ∙ tree_record R.states k T t
+-- what is written for a tree's nodes is its record
+pub record_of_nodes : (n k : ℕ) (T : Tree) → NestedTree n k T → (l : List CodeNode) → AreNodes l T → nodes_record n l ≡ record_of n T
+record_of_nodes n k T t l e = sym (record_without_old n l) ∙ ap (nodes_record n) e ∙ tree_record n k T t
 
 module _ {R : Rule} {T : Tree} {x : CodeTree} (held : HoldsTree R T x) where
   pub held_record : nodes_record R.states (counted_nodes x) ≡ record_of R.states T
-  held_record = record_of_nodes R T held.fits (counted_nodes x) held.are
+  held_record = record_of_nodes R.states R.sets T (of_nested R T held.fits) (counted_nodes x) held.are
 
   abbrev nodes : List CodeNode
   nodes = nodes_in x.nodes
 
   tag_at : (i : ℕ) → i < x.count → tag_of (get_or nodes i blank_node) ≡ get_or (tags 0 T) i 0
   unfolding tag_of nodes_of
-  tag_at i h = ap tag_of (held_node held i h) ∙ sym (get_or-map tag_of (nodes_of T) i blank_node)
-      ∙ ap (λ (l : List ℕ). get_or l i 0) (tags_of_nodes 0 T)
+  tag_at i h = ap tag_of (sym (get_or-take x.count nodes i blank_node h)) ∙ sym (get_or-map tag_of (counted_nodes x) i blank_node)
+      ∙ ap (λ (l : List ℕ). get_or l i 0) (sym (map-map tag_of without_old (counted_nodes x)) ∙ ap (map tag_of) held.are ∙ tags_of_nodes 0 T)
+
+  root_at : 0 < x.count → (get_or nodes 0 blank_node).label ≡ (get_or (nodes_of T) 0 blank_node).label
+  root_at h = ap (λ (r : CodeNode). r.label) (sym (get_or-take x.count nodes 0 blank_node h))
+      ∙ ap (λ (r : CodeNode). r.label) (sym (get_or-map without_old (counted_nodes x) 0 blank_node))
+      ∙ ap (λ (l : List CodeNode). (get_or l 0 blank_node).label) held.are
 
   -- and it can be recorded
   pub held_recordable : WithinLimits R → Recordable R.states x
   held_recordable limits = record {
     states = limits.states;
     few = tree_small limits.states held;
-    root = λ l. let (k, t) = rule_nested R T held.fits in
-        omega (
-          arith,
-          ap (λ (r : CodeNode). r.label) (held_node held 0 l),
-          root_label T t.one_root,
-          t.states,
-          pow_mono {i = R.states} {j = 8} limits.states,
-        );
-    tags = λ i l. rw (tag_at i l) (byte_at_lem (tags 0 T) (rule_tags R T held.fits limits) i);
+    root = λ l. omega (arith, root_at l, root_small R.states R.sets T tree, pow_mono {i = R.states} {j = 8} limits.states);
+    tags = λ i l. rw (tag_at i l) (byte_at_lem (tags 0 T) bytes i);
   }
+    where
+      tree : NestedTree R.states R.sets T
+      tree = of_nested R T held.fits
+
+      bytes : Every (λ m. m < 256) (tags 0 T)
+      bytes = rw (append-nil (tags 0 T)) at (tags_small R.sets 0 T [] tree.active (omega (arith, limits.sets))
+          (omega (arith, of_few R T held.fits, limits.states)) tt)

@@ -15,7 +15,7 @@ use Rattle.history.specs.Tree.{labels, start_tree}
 use Rattle.history.proofs.Step.TreesOf.{start_is_tree}
 use Rattle.tree.specs.Inner.PackedNodes.{counted_nodes}
 use Rattle.tree.specs.Inner.Nodes.{nodes_from, nodes_of, HoldsTree}
-use Rattle.tree.specs.Inner.RecordNodes.{root_nodes, start_nodes, HasNodes, nodes_record, Recordable}
+use Rattle.tree.specs.Inner.RecordNodes.{start_nodes, HasNodes, nodes_record, Recordable}
 use Rattle.tree.specs.StartCall.{record_room, start_outcome, start_answer, start_after, StartCall}
 use Rattle.tree.specs.declared.start.StartAnswer.{StartAnswer}
 use Rattle.tree.specs.declared.nodes.Tree.{Tree as CodeTree}
@@ -24,7 +24,7 @@ use Rattle.tree.proofs.RecordOfNodes.{held_record, held_recordable}
 
 -- the node is that of the starting tree
 start_nodes_are : (R : Rule) → start_nodes R.start ≡ nodes_of (start_tree R)
-unfolding root_nodes start_nodes start_tree nodes_of nodes_from labels
+unfolding start_nodes start_tree nodes_of nodes_from labels
 start_nodes_are R = refl
 
 -- which is held

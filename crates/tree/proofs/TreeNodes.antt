@@ -6,15 +6,13 @@ use Prim.Native.Nat.{ℕ, zero, suc, ◌+◌, ◌-◌, ◌≤◌, ◌<◌}
 use native.Mathlib.Decide.{ℕ_discrete}
 use native.Mathlib.Numerals.{add-one}
 use native.Mathlib.Omega.{arith}
-use lib.ListN.{length, get_or, set, take, drop, replicate, length-append, length-map, length-set, get_or-map}
-use lib.Seq.{take_at, take-suc-set, drop-drop, drop-set-lt, get_or-take, get_or-set_same, get_or-set_other}
+use lib.ListN.{length, get_or, set, take, drop, replicate, length-append, length-map, length-set}
+use lib.Seq.{take_at, take-suc-set, drop-drop, drop-set-lt, get_or-set_same, get_or-set_other}
 use Rattle.base.specs.Lists.{pad}
 use Rattle.rule.specs.Limits.{max_states}
 use Rattle.rule.specs.Rule.{Rule}
 use Rattle.history.specs.Forest.{nil, node, size}
-use Rattle.history.specs.Tree.{Tree, labels, is_tree_of}
-use Rattle.history.proofs.Tree.Conditions.{OneRoot}
-use Rattle.history.proofs.Records.RecordOfTree.{root_states}
+use Rattle.history.specs.Tree.{Tree, is_tree_of}
 use Rattle.history.proofs.Step.TreesOf.{of_few}
 use Rattle.tree.specs.Inner.Nodes.{blank_node, nodes_from, nodes_of, without_old, AreNodes, HoldsTree}
 use Rattle.tree.specs.Inner.PackedNodes.{unpacked, nodes_in, counted_nodes}
@@ -40,13 +38,6 @@ nodes_size T = size_from 0 T
 pub are_nodes_size : (nodes : List CodeNode) (T : Tree) → AreNodes nodes T → length nodes ≡ size T
 are_nodes_size nodes T are = sym (length-map nodes without_old) ∙ ap length are ∙ nodes_size T
 
--- the first has all states of the tree
-pub root_label : (T : Tree) → OneRoot T → (get_or (nodes_of T) 0 blank_node).label ≡ labels T
-unfolding nodes_of nodes_from labels
-root_label nil one = refl
-root_label (node x below nil) one = sym (root_states x below)
-root_label (node x below (node y other younger)) one = absurd one
-
 -- they have no old numbers
 without_old_lem : (d : ℕ) (F : Tree) → map without_old (nodes_from d F) ≡ nodes_from d F
 unfolding nodes_from
@@ -57,7 +48,7 @@ without_old_lem d (node x below younger) =
 -- IN THE CODE
 
 -- the nodes that count
-pub has_front : (nodes : List CodeNode) (x : CodeTree) → HasNodes nodes x → counted_nodes x ≡ nodes
+has_front : (nodes : List CodeNode) (x : CodeTree) → HasNodes nodes x → counted_nodes x ≡ nodes
 unfolding blank_behind pad
 has_front nodes x has = rw (has.nodes, has.count) (take_at nodes (replicate (places - length nodes) blank_node) (length nodes) refl)
 
@@ -69,12 +60,6 @@ has_holds R T x fits has = record {
   counts = has.count ∙ nodes_size T;
   are = ap (map without_old) (has_front (nodes_of T) x has) ∙ without_old_lem 0 T;
 }
-
--- a node of a held tree, without its old number
-pub held_node : {R : Rule} {T : Tree} {x : CodeTree} → HoldsTree R T x → (i : ℕ) → i < x.count
-    → without_old (get_or (nodes_in x.nodes) i blank_node) ≡ get_or (nodes_of T) i blank_node
-held_node {x = x} held i h = ap without_old (sym (get_or-take x.count (nodes_in x.nodes) i blank_node h))
-    ∙ sym (get_or-map without_old (counted_nodes x) i blank_node) ∙ ap (λ (l : List CodeNode). get_or l i blank_node) held.are
 
 -- a tree over a rule within the limits has few nodes
 pub tree_small : {R : Rule} {T : Tree} {x : CodeTree} → R.states ≤ max_states → HoldsTree R T x → x.count ≤ max_states

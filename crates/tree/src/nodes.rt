@@ -41,9 +41,6 @@ impl Tree {
     // A name has a number for each node on the way from the root, but for the root.
     pub const NAME: usize = Tree::NODES - 1;
 
-    // In place of an active set: the root of the met tree (document 02, U3, "record 00 FF").
-    pub const MET: u8 = 255;
-
     // How many nodes it has.
     pub fn size(self) -> usize
         ensures { result ≡ self.count }

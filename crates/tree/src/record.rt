@@ -2,11 +2,8 @@
 ghost use Rattle.std.specs.Prelude.{◌≡◌, ◌&&◌, leb};
 ghost use Rattle.base.specs.Outcome.{refused};
 ghost use Rattle.rule.specs.Limits.{max_sets, max_states};
-ghost use Rattle.history.specs.Tree.{met_tree};
-ghost use Rattle.history.specs.Record.{is_met_record};
-ghost use Rattle.tree.specs.Inner.Nodes.{nodes_of};
 ghost use Rattle.tree.specs.Inner.RecordCode.{checked_tree, Checks};
-ghost use Rattle.tree.specs.Inner.RecordNodes.{root_nodes, start_nodes, HasNodes};
+ghost use Rattle.tree.specs.Inner.RecordNodes.{start_nodes, HasNodes};
 
 use crate::checks::record_fits;
 use crate::nodes::{Node, Tree};
@@ -51,29 +48,17 @@ fn no_record() -> Checked
     }
 }
 
-// Are these bytes the record of the met tree? Document 02, U3: "the met tree, record 00 FF".
-fn is_met(bytes: &[u8]) -> bool
-    ensures { result ≡ is_met_record bytes.now }
-{
-    if bytes.len() != 2 {
-        return false;
-    }
-    if bytes[0] != 0 {
-        return false;
-    }
-    bytes[1] == Tree::MET
-}
-
 impl Tree {
-    // A root alone. Its node stands in front of blank ones: the word 0 is the blank node.
-    fn alone(label: u16, active: u8) -> Tree
-        ensures { HasNodes (root_nodes label active) result }
+    // "The starting tree is the root alone, the starting states, active set 1." Its one node stands in front of
+    // blank ones: the word 0 is the blank node.
+    pub fn start(map: u16) -> Tree
+        ensures { HasNodes (start_nodes map) result }
     {
         let root = Node {
             depth: 0,
-            label: label,
+            label: map,
             kids: 0,
-            active: active,
+            active: 1,
             old: 0,
         };
         let mut nodes = [0u64; Tree::PLACES];
@@ -84,33 +69,12 @@ impl Tree {
         }
     }
 
-    // "The starting tree is the root alone, the starting states, active set 1."
-    pub fn start(map: u16) -> Tree
-        ensures { HasNodes (start_nodes map) result }
-    {
-        Tree::alone(map, 1)
-    }
-
-    // The met tree, to which a letter leads that meets the rule for good (document 02, U3).
-    pub fn met() -> Tree
-        ensures { HasNodes (nodes_of met_tree) result }
-    {
-        Tree::alone(0, Tree::MET)
-    }
-
-    // Question 9: "A step goes on only where its bytes are the record of some tree over n and k: are they?" The met tree's record it "accepts
-    // on every table" (document 02, U3).
+    // Question 9: "A step goes on only where its bytes are the record of some tree over n and k: are they?"
     pub fn checked(bytes: &[u8], n: usize, k: usize) -> Checked
         ensures { Checks (checked_tree n k bytes.now) result }
     {
         if !within_limits(n, k) {
             return no_record();
-        }
-        if is_met(bytes) {
-            return Checked {
-                count: Count::Nodes(1),
-                tree: Tree::met(),
-            };
         }
         if !record_fits(n, k, bytes) {
             return no_record();

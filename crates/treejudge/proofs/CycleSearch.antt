@@ -1,15 +1,14 @@
 -- The search for the period (Brent), as the loop of `find_cycle` makes it.
-use mathlib.Core.Path.{◌≡◌, refl}
+use mathlib.Core.Path.{◌≡◌, refl, ◌∙◌, ap}
 use mathlib.Core.Bool.{true, false}
 use mathlib.Core.List.{List, ◌++◌}
 use Prim.Native.Nat.{ℕ, ◌+◌, ◌-◌, ◌^◌, ◌≤◌, ◌<◌}
-use native.Mathlib.Numerals.{add-one}
 use native.Mathlib.Omega.{arith}
 use Rattle.rule.specs.Limits.{max_states}
 use Rattle.rule.specs.Rule.{Rule}
 use Rattle.word.specs.Walk.{rounds}
 use Rattle.word.specs.Inner.WalkLookups.{Lookups}
-use Rattle.word.proofs.Paths.{rounds_last}
+use Rattle.word.proofs.Paths.{rounds_add, rounds_one}
 use Rattle.history.specs.Rounds.{read_letters, round_tree, FirstRepeat}
 use Rattle.history.proofs.Walk.TreesOfWalk.{round_next}
 use Rattle.history.proofs.Repeat.RepeatExists.{repeat_exists}
@@ -25,7 +24,7 @@ use Rattle.treejudge.proofs.RoundsRead.{both_small, nodes_same, nodes_differ}
 
 -- one round more
 rounds_more : (r : ℕ) (v : List ℕ) → rounds (r + 1) v ≡ rounds r v ++ v
-rounds_more r v = rw (add-one r) (rounds_last r v)
+rounds_more r v = rounds_add r 1 v ∙ ap (rounds r v ++◌) (rounds_one v)
 
 -- at the head of the loop: x is t(power − 1), y is t(half − 1), and lam rounds were followed from x on
 pub record Searching (R : Rule) (u v : List ℕ) (lookups : Lookups) (k : ℕ) (x y : CodeTree) (half power lam : ℕ)
@@ -56,12 +55,7 @@ module _ {R : Rule} {u v : List ℕ} {lookups : Lookups} {k : ℕ} {x y : CodeTr
     (S : Searching R u v lookups k x y half power lam now m) where
   -- a round is followed from there
   pub search_follows : FollowsOn R (round_tree R u v (power - 1)) (rounds lam v) lookups k v now m
-  search_follows = record {
-    holds = S.saved.holds;
-    has_lookups = S.saved.has_lookups;
-    follows = S.follows;
-    unmet = rw (← rounds_more lam v, read_rounds R u v (lam + 1) (power - 1)) (S.saved.unmet (power - 1 + (lam + 1)));
-  }
+  search_follows = record { holds = S.saved.holds; has_lookups = S.saved.has_lookups; follows = S.follows }
 
   -- there are fewer than 2 ^ 63 trees
   repeat : (entry : ℕ) × (period : ℕ) × FirstRepeat (round_tree R u v) entry period × (entry + period < 2 ^ 63)
@@ -87,7 +81,6 @@ module _ {R : Rule} {u v : List ℕ} {lookups : Lookups} {k : ℕ} {x y : CodeTr
       holds = S.saved.holds;
       has_lookups = S.saved.has_lookups;
       tree = rw (← read_rounds R u v (lam + 1) (power - 1)) followed.tree;
-      unmet = S.saved.unmet;
     }
 
     -- the saved tree and the one reached can be compared

@@ -55,12 +55,10 @@ module _ {R : Rule} {u v : List ℕ} {lookups : Lookups} {k entry period : ℕ} 
     (S : Searched R u v lookups k entry period first c) where
   -- the tree that is saved, and the one that was saved before
   pub saved_place : AtRound R u v lookups k (c.power - 1) c.saved
-  saved_place =
-      record { holds = S.place.holds; has_lookups = S.place.has_lookups; tree = S.cycle.saved; unmet = S.place.unmet }
+  saved_place = record { holds = S.place.holds; has_lookups = S.place.has_lookups; tree = S.cycle.saved }
 
   pub before_place : AtRound R u v lookups k (c.half - 1) c.before
-  before_place =
-      record { holds = S.place.holds; has_lookups = S.place.has_lookups; tree = S.cycle.before; unmet = S.place.unmet }
+  before_place = record { holds = S.place.holds; has_lookups = S.place.has_lookups; tree = S.cycle.before }
 
   -- a place no later than the entry, and the one a period further
   bracket_from : {low : ℕ} → low ≤ entry → {x y : CodeTree}

@@ -1,4 +1,4 @@
--- The examples of document 01 that are marked P, and those of marks: one theorem for the list. Each row is computed: a record or a step by itself, a verdict by
+-- The examples of document 01 that are marked P: one theorem for the list. Each row is computed: a record or a step by itself, a verdict by
 -- a test that decides it.
 use mathlib.Core.Path.{◌≡◌, refl, sym, ◌∙◌, subst}
 use mathlib.Core.Bool.{Bool, true, ◌&&◌}
@@ -19,15 +19,15 @@ use Rattle.word.specs.Walk.{lengths_fit, ask_walk}
 use Rattle.word.proofs.JudgeQuestions.{with_room}
 use Rattle.word.proofs.WalkQuestions.{lengths_in}
 use Rattle.history.specs.Forest.{size}
-use Rattle.history.specs.Tree.{labels, disjoint, strictly_inside, nodes_fit, is_tree, met_tree}
+use Rattle.history.specs.Tree.{labels, disjoint, strictly_inside, nodes_fit, is_tree}
 use Rattle.history.specs.Letter.{by_number, accepting_map, stable_map}
-use Rattle.history.specs.Record.{host_from, host, members_from, members, tags, record_of, rank, hosted_in, planted, decoded, is_record, is_met_record, read_tree}
+use Rattle.history.specs.Record.{host_from, host, members_from, members, tags, record_of, rank, hosted_in, planted, decoded, is_record, read_tree}
 use Rattle.history.specs.Finding.{Finding}
 use Rattle.history.proofs.Verdict.VerdictTest.{verdict_test, verdict_by_test, rule_test, rule_by_test}
 use Rattle.tree.specs.StartCall.{record_room, start_outcome}
 use Rattle.step.specs.StepCall.{step_under, step_outcome}
 use Rattle.treejudge.specs.JudgeCall.{name_room, tree_outcome, tree_answer, names_after, TreeAnswers}
-use Rattle.treejudge.specs.Examples.{Example, starts, steps, judges, refuses, Holds, AlwaysAnswers, table_a, table_b, table_c, table_e, table_f, table_g, table_h, table_i, examples}
+use Rattle.treejudge.specs.Examples.{Example, starts, steps, judges, refuses, Holds, AlwaysAnswers, table_a, table_b, table_c, examples}
 use Rattle.treejudge.proofs.TreeVerdict.{tree_determined}
 
 -- is the walk accepted, and are these its entry, its period and the finding?
@@ -91,8 +91,7 @@ computed_holds (refuses table u v number) h = h
 -- every row holds
 pub examples_hold : Every Holds examples
 unfolding row_test ones ones_in size labels disjoint strictly_inside nodes_fit is_tree by_number accepting_map stable_map
-    host_from host members_from members tags record_of rank hosted_in planted decoded is_record is_met_record met_tree read_tree
-    letter_questions start_outcome step_under step_outcome ask_walk walk_questions judge_questions tree_outcome
-    table_a table_b table_c table_e table_f table_g table_h table_i examples
+    host_from host members_from members tags record_of rank hosted_in planted decoded is_record read_tree
+    letter_questions start_outcome step_under step_outcome ask_walk walk_questions judge_questions tree_outcome table_a table_b table_c examples
 examples_hold = every_weaker Computes Holds examples computed_holds
-    (refl, (refl, (refl, (refl, (refl, (refl, (refl, (refl, (refl, (refl, (refl, (refl, (refl, (refl, (refl, (refl, (refl, (refl, (refl, (refl, (refl, (refl, (refl, (refl, tt))))))))))))))))))))))))
+    (refl, (refl, (refl, (refl, (refl, (refl, (refl, (refl, (refl, (refl, (refl, (refl, (refl, tt)))))))))))))

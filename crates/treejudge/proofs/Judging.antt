@@ -13,28 +13,23 @@ use Rattle.base.proofs.Logic.{clash}
 use Rattle.rule.specs.Limits.{max_states}
 use Rattle.rule.specs.Rule.{Rule}
 use Rattle.table.specs.declared.header.Header.{Header}
-use Rattle.word.specs.Inner.Marks.{mark_by, FirstOf}
 use Rattle.word.specs.Inner.Prepared.{Prepared}
 use Rattle.word.specs.Walk.{rounds, letters_left}
 use Rattle.word.specs.Inner.WalkLookups.{Lookups}
-use Rattle.word.specs.declared.marks.MarkRound.TheVariants.{At, Nowhere}
 use Rattle.history.specs.Forest.{size, names}
-use Rattle.history.specs.Tree.{is_met, start_tree}
-use Rattle.history.specs.Rounds.{read_letters, round_tree}
+use Rattle.history.specs.Tree.{start_tree}
+use Rattle.history.specs.Rounds.{round_tree}
 use Rattle.history.specs.Verdict.{FirstWitness}
-use Rattle.history.specs.Finding.{yes_node, yes_met, no_node}
-use Rattle.history.proofs.Step.MetTree.{met_is, unmet_other}
+use Rattle.history.specs.Finding.{yes_node, no_node}
 use Rattle.history.proofs.Step.TreesOf.{of_few}
-use Rattle.history.proofs.Walk.MetTrees.{met_by, first_met}
 use Rattle.tree.specs.Inner.RecordNodes.{start_nodes, HasNodes}
 use Rattle.tree.specs.declared.nodes.Tree.{Tree as CodeTree}
 use Rattle.tree.proofs.StartCall.{start_holds}
-use Rattle.treejudge.specs.JudgeCall.{no_name, met_name, tree_answer, names_after, Judged}
+use Rattle.treejudge.specs.JudgeCall.{no_name, tree_answer, names_after, Judged}
 use Rattle.letters.specs.Inner.Reading.{HasSets, Reads, ReadsTo}
 use Rattle.treejudge.specs.Inner.Cycles.{AtRound}
 use Rattle.treejudge.specs.Inner.Repeats.{RepeatOf}
 use Rattle.treejudge.specs.Inner.NodeNames.{Lowest, SomeNode, IsName}
-use Rattle.treejudge.specs.Inner.Unmet.{Unmet, UnmetWalk}
 use Rattle.treejudge.specs.declared.repeat.Repeat.{Repeat}
 use Rattle.treejudge.specs.declared.name.Name.{Name}
 
@@ -43,42 +38,7 @@ lead_left : (u v w : List ℕ) → w ≡ letters_left false u v 0 → u ≡ w
 unfolding letters_left
 lead_left u v w e = sym e
 
--- A WALK WITH A MARK IN REACH, AND ONE WITHOUT
-
 module _ {R : Rule} {header : Header} {lookups : Lookups} {u v : List ℕ} (p : Prepared R header lookups u v) where
-  -- the first round end by which a mark is in reach is the first that is met
-  pub says_met : (r : ℕ) → FirstOf (mark_by R u v) (At r) → (before : List ℕ)
-      → Judged R u v before (record { number = 0; verdict = 1; entry = r; period = 1; length = met_name }) before
-  unfolding tree_answer names_after
-  says_met r (here, earlier) before = record {
-    walk = record {
-      entry = r;
-      period = 1;
-      repeat = first_met R u v r met (λ i l. by i ∙ earlier i l);
-      finding = yes_met;
-      found = met_is (round_tree R u v r) met;
-    };
-    answers = refl;
-    leaves = refl;
-  }
-    where
-      by : (i : ℕ) → is_met (round_tree R u v i) ≡ mark_by R u v i
-      by = met_by R p.limits.well p.limits.some_set u v
-
-      met : is_met (round_tree R u v r) ≡ true
-      met = by r ∙ here
-
-  -- where none is in reach, no tree is met
-  pub unmet_walk : FirstOf (mark_by R u v) Nowhere → UnmetWalk R header lookups u v
-  unmet_walk none =
-      record { prepared = p; unmet = λ r. met_by R p.limits.well p.limits.some_set u v r ∙ none r }
-
--- A WALK OF WHICH NO TREE IS MET
-
-module _ {R : Rule} {header : Header} {lookups : Lookups} {u v : List ℕ} (walk : UnmetWalk R header lookups u v) where
-  abbrev p : Prepared R header lookups u v
-  p = walk.prepared
-
   -- the rule is within the limits
   has_sets : HasSets R header.sets
   has_sets = record {
@@ -90,11 +50,6 @@ module _ {R : Rule} {header : Header} {lookups : Lookups} {u v : List ℕ} (walk
   pub sets_small : header.sets < 256
   sets_small = rw p.numbers (omega (arith, p.limits.sets))
 
-  -- t(0) is the tree after u
-  first_tree : round_tree R u v 0 ≡ read_letters R u (start_tree R)
-  unfolding round_tree rounds
-  first_tree = ap (λ (w : List ℕ). read_letters R w (start_tree R)) (append-nil u)
-
   module _ (start : CodeTree) (made : HasNodes (start_nodes header.start) start) (w : List ℕ) (left : w ≡ letters_left false u v 0) where
     -- u is read from the starting tree
     pub lead_reads : (x : CodeTree) → x ≡ start → Reads R (start_tree R) lookups header.sets w x
@@ -102,32 +57,24 @@ module _ {R : Rule} {header : Header} {lookups : Lookups} {u v : List ℕ} (walk
       holds = has_sets;
       has_lookups = rw (lead_left u v w left) at p.lead;
       tree = start_holds p.limits start (rw p.numbers at made);
-      unmet = rw (← lead_left u v w left) (ap is_met (sym first_tree) ∙ walk.unmet 0);
     })
 
     -- and leads to t(0)
     pub first_round : (first : CodeTree) → ReadsTo lookups header.sets w start first → AtRound R u v lookups header.sets 0 first
-    unfolding ReadsTo
+    unfolding ReadsTo round_tree rounds
     first_round first to = record {
       holds = has_sets;
       has_lookups = p.tail;
-      tree = rw (first_tree, lead_left u v w left) (to R (start_tree R) (lead_reads start refl));
-      unmet = walk.unmet;
+      tree = rw (append-nil u, lead_left u v w left) (to R (start_tree R) (lead_reads start refl));
     }
 
-module _ (R : Rule) (u v : List ℕ) (unmet : Unmet R u v) (r : Repeat) (S : RepeatOf R u v r) (before : List ℕ) where
+module _ (R : Rule) (u v : List ℕ) (r : Repeat) (S : RepeatOf R u v r) (before : List ℕ) where
   -- no followed node was accepting
   pub says_no : r.witnesses ≡ 0
       → Judged R u v before (record { number = 0; verdict = 0; entry = r.entry; period = r.period; length = no_name }) before
   unfolding tree_answer names_after
   says_no none = record {
-    walk = record {
-      entry = r.entry;
-      period = r.period;
-      repeat = S.repeat;
-      finding = no_node;
-      found = (unmet_other (round_tree R u v r.entry) (unmet r.entry), S.none none);
-    };
+    walk = record { entry = r.entry; period = r.period; repeat = S.repeat; finding = no_node; found = S.none none };
     answers = refl;
     leaves = refl;
   }

@@ -121,7 +121,7 @@ module _ (R : Rule) (T : Tree) (x : CodeTree) (held : HoldsTree R T x) (i : ℕ)
   next_depth =
       let (low, step) = depth_next T one i later in
       let own = name_depth T one (suc i) in
-      let (small, _) = name_small T one R.states (omega (arith, of_few R T held.fits, later)) (suc i) later in (
+      let (small, _) = name_small T one R.states (of_few R T held.fits) (suc i) later in (
         omega (arith, same),
         (omega (arith, same, name_depth T one i), omega (arith, same)),
       )
@@ -158,10 +158,9 @@ module _ {x : CodeTree} {number : ℕ} (some : SomeNode x number) {numbers : Lis
   pub number_small : depth - 1 < long → get_or numbers (depth - 1) 0 < max_states
   number_small l =
       let long-is = length-take-le long numbers (omega (arith, v.room, v.short)) in
-      let few = of_few some.rule some.tree some.holds.fits in
-      let (_, small) = name_small some.tree (of_root some.rule some.tree some.holds.fits) max_states
-      (omega (arith, few, some.states)) i (omega (arith, some.holds.counts)) in
-      rw (← get_or-take long numbers (depth - 1) 0 l, now) (small (depth - 1) (omega (arith, ap length now)))
+      let (_, small) = name_small some.tree (of_root some.rule some.tree some.holds.fits) some.rule.states
+      (of_few some.rule some.tree some.holds.fits) i (omega (arith, some.holds.counts)) in
+      rw (← get_or-take long numbers (depth - 1) 0 l, now) (omega (arith, small (depth - 1) (omega (arith, ap length now)), some.states))
 
   -- the next name
   named : (c : ℕ) → take depth (set numbers (depth - 1) c) ≡ name_after (take long numbers) depth

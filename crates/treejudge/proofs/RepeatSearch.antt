@@ -3,7 +3,7 @@
 use mathlib.Core.Path.{◌≡◌, refl, sym, ◌∙◌, ap}
 use mathlib.Core.Bool.{true, false}
 use mathlib.Core.List.{List, [], ◌++◌}
-use Prim.Native.Nat.{ℕ, suc, ◌-◌, ◌≤◌, ◌<◌}
+use Prim.Native.Nat.{ℕ, ◌-◌, ◌≤◌, ◌<◌}
 use native.Mathlib.Omega.{arith}
 use lib.ListN.{take, take-append-drop}
 use Rattle.base.specs.BitSet.{member}
@@ -15,11 +15,10 @@ use Rattle.word.specs.Walk.{rounds, letters_left}
 use Rattle.word.specs.Inner.WalkLookups.{Lookups, HasLookup}
 use Rattle.word.proofs.Paths.{rounds_one}
 use Rattle.history.specs.Forest.{size}
-use Rattle.history.specs.Tree.{Tree, is_met}
-use Rattle.history.specs.Rounds.{read_letters, round_tree, FirstRepeat}
+use Rattle.history.specs.Tree.{Tree}
+use Rattle.history.specs.Rounds.{round_tree, FirstRepeat}
 use Rattle.history.specs.Inner.Following.{witness_map}
-use Rattle.history.proofs.Walk.MetTrees.{unmet_before}
-use Rattle.history.proofs.Walk.TreesOfWalk.{read_append, round_next}
+use Rattle.history.proofs.Walk.TreesOfWalk.{round_next}
 use Rattle.history.proofs.Repeat.RepeatExists.{repeat_exists}
 use Rattle.history.proofs.Verdict.CycleVerdict.{member_node, verdict_yes, verdict_no}
 use Rattle.history.proofs.Repeat.FirstRepeats.{repeat_at_once}
@@ -94,13 +93,9 @@ module _ (R : Rule) (u head rest : List ℕ) (lookups : Lookups) (k : ℕ) (firs
   parts : Every (HasLookup R lookups) head × Every (HasLookup R lookups) rest
   parts = append_every (HasLookup R lookups) head rest A.has_lookups
 
-  -- no tree at the cut is met
-  cut_unmet : (r : ℕ) → is_met (read_letters R head (t r)) ≡ false
-  cut_unmet r = unmet_before R head rest (t r) (ap is_met (sym (round_next R u (head ++ rest) r)) ∙ A.unmet (suc r))
-
   -- the letters up to the cut are read from t(0)
   pub head_reads : (x : CodeTree) → x ≡ first → Reads R (t 0) lookups k head x
-  head_reads x is = record { holds = A.holds; has_lookups = parts.0; tree = rw is A.tree; unmet = cut_unmet 0 }
+  head_reads x is = record { holds = A.holds; has_lookups = parts.0; tree = rw is A.tree }
 
   module _ (cut : CodeTree) (to : ReadsTo lookups k head first cut) where
     pub cut_holds : HoldsTree R (s 0) cut
@@ -109,12 +104,7 @@ module _ (R : Rule) (u head rest : List ℕ) (lookups : Lookups) (k : ℕ) (firs
 
     -- the others are followed from there
     pub rest_follows : FollowsOn R (s 0) [] lookups k rest cut (all_kept cut.count)
-    rest_follows = record {
-      holds = A.holds;
-      has_lookups = parts.1;
-      follows = begun_follows cut_holds;
-      unmet = ap is_met (cut_rest R u head rest 0) ∙ A.unmet 1;
-    }
+    rest_follows = record { holds = A.holds; has_lookups = parts.1; follows = begun_follows cut_holds }
 
     module _ (second : CodeTree) (m : Maps) (on : FollowsTo lookups k rest cut (all_kept cut.count) second m) where
       -- to t(1)
@@ -127,12 +117,7 @@ module _ (R : Rule) (u head rest : List ℕ) (lookups : Lookups) (k : ℕ) (firs
 
       -- and on to the cut
       pub head_follows : FollowsOn R (s 0) rest lookups k head second m
-      head_follows = record {
-        holds = A.holds;
-        has_lookups = parts.0;
-        follows = at_second;
-        unmet = ap is_met (read_append R rest head (s 0) ∙ ap (read_letters R head) (cut_rest R u head rest 0)) ∙ cut_unmet 1;
-      }
+      head_follows = record { holds = A.holds; has_lookups = parts.0; follows = at_second }
 
       module _ (again : CodeTree) (n : Maps) (back : FollowsTo lookups k head second m again n) where
         at_again : Follows R (s 0) (rest ++ head) again n

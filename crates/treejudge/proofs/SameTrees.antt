@@ -123,8 +123,9 @@ same_nodes_in (x ∷ nodes) (y ∷ others) e = and_both (same_node x y) _ (same_
 pub same_nodes_same : (R : Rule) (T U : Tree) (x y : CodeTree) → R.sets ≤ max_sets → HoldsTree R T x → HoldsTree R U y
     → same_trees x y ≡ true → T ≡ U
 same_nodes_same R T U x y sets held other e =
-    record_injective R.states R.sets T U (of_nested R T held.fits) (of_nested R U other.fits) (omega arith) (sym (held_record held)
-    ∙ record_of_nodes R U other.fits (counted_nodes x) (same_nodes_out (counted_nodes x) (counted_nodes y) e ∙ other.are))
+    let u = of_nested R U other.fits in
+    record_injective R.states R.sets T U (of_nested R T held.fits) u (omega arith) (sym (held_record held)
+    ∙ record_of_nodes R.states R.sets U u (counted_nodes x) (same_nodes_out (counted_nodes x) (counted_nodes y) e ∙ other.are))
 
 -- one tree has the same nodes wherever it is held
 pub same_trees_same : (R : Rule) (T : Tree) (x y : CodeTree) → HoldsTree R T x → HoldsTree R T y

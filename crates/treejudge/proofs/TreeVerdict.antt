@@ -1,51 +1,41 @@
 -- What the tree judge's contract says: its verdict decides whether the walk keeps the rule, its number tells whether the call is accepted,
 -- and the contract leaves no choice of the answer or of the buffer. Two rules with the same cells along a walk are judged alike.
 use mathlib.Core.Path.{◌≡◌, refl, sym, ◌∙◌, ap}
-use mathlib.Core.Logic.{◌⊎◌, inl, inr, ⊎_elim}
+use mathlib.Core.Logic.{inl, inr}
 use mathlib.Core.List.{List, []}
-use Prim.Native.Nat.{ℕ, ◌≤◌, max}
-use native.Mathlib.Omega.{arith}
+use Prim.Native.Nat.{ℕ, ◌≤◌}
 use lib.ListN.{length}
 use Rattle.base.specs.Outcome.{Outcome, refused, accepted, number_of}
-use Rattle.rule.specs.Limits.{max_states}
 use Rattle.rule.specs.Rule.{Rule}
 use Rattle.rule.specs.WellFormed.{WellFormed}
 use Rattle.word.specs.Keeps.{Keeps}
 use Rattle.word.specs.Verdict.{Decides}
 use Rattle.word.proofs.RefusalNumbers.{judge_tells}
 use Rattle.word.proofs.SameAlong.{SameAlong}
-use Rattle.history.specs.Tree.{met_tree}
 use Rattle.history.specs.Rounds.{round_tree}
-use Rattle.history.specs.Verdict.{Witness}
-use Rattle.history.specs.Finding.{Finding, yes_node, yes_met, no_node, Found, WalkJudged}
+use Rattle.history.specs.Finding.{Finding, yes_node, no_node, Found, WalkJudged}
 use Rattle.history.proofs.Repeat.FirstRepeats.{repeat_unique}
-use Rattle.history.proofs.Names.NamesByDepth.{name_small}
-use Rattle.history.proofs.Names.NamesDistinct.{length_names}
-use Rattle.history.proofs.Step.MetTree.{unmet_other}
-use Rattle.history.proofs.Step.TreesOf.{of_root, of_few}
-use Rattle.history.proofs.Verdict.FirstWitness.{first_unique, witness_node, witness_unmet}
+use Rattle.history.proofs.Verdict.FirstWitness.{first_unique}
 use Rattle.history.proofs.Walk.SameAlong.{found_along, repeat_along}
-use Rattle.history.proofs.Repeat.RepeatExists.{round_is_tree}
 use Rattle.history.proofs.Theorem.TreeTheorem.{tree_theorem}
 use Rattle.treejudge.specs.JudgeCall.{name_room, tree_outcome, tree_answer, names_after, Judged, TreeAnswers, TreeNumber}
 use Rattle.treejudge.specs.declared.judge.TreeAnswer.{TreeAnswer}
 
 -- DEMAND 3, THE TREE JUDGE'S PART
 
--- what is judged of a walk decides whether it keeps the rule: whatever says 1 for a finding with a node and where the rule is met, and 0 else
+-- what is judged of a walk decides whether it keeps the rule: whatever says 1 for a finding with a node, and 0 for one without
 pub walk_decides : (R : Rule) (u v : List ℕ) (J : WalkJudged R u v) → WellFormed R → 1 ≤ R.sets → (v ≡ [] → ⊥)
-    → (verdict : Finding → ℕ) → ((w : List ℕ) → verdict (yes_node w) ≡ 1) → verdict yes_met ≡ 1 → verdict no_node ≡ 0
+    → (verdict : Finding → ℕ) → ((w : List ℕ) → verdict (yes_node w) ≡ 1) → verdict no_node ≡ 0
     → Decides (verdict J.finding) (Keeps R u v)
-walk_decides R u v J well sets nonempty verdict one met none =
-    let (keeps, kept) = tree_theorem R well sets u v nonempty J.entry J.period J.repeat in go keeps kept J.finding J.found
+walk_decides R u v J well sets nonempty verdict one none = go J.finding J.found
   where
-    Shown : Type 0
-    Shown = (round_tree R u v J.entry ≡ met_tree) ⊎ ((w : List ℕ) × Witness R u v J.entry J.period w)
-
-    go : (Shown → Keeps R u v) → (Keeps R u v → Shown) → (f : Finding) → Found R u v J.entry J.period f → Decides (verdict f) (Keeps R u v)
-    go keeps kept (yes_node w) found = inl (one w, keeps (inr (w, found.witness)))
-    go keeps kept yes_met found = inl (met, keeps (inl found))
-    go keeps kept no_node (unmet, no-witness) = inr (none, λ k. ⊎_elim unmet (λ (w, W). no-witness w W) (kept k))
+    go : (f : Finding) → Found R u v J.entry J.period f → Decides (verdict f) (Keeps R u v)
+    go (yes_node w) found =
+        inl (one w, (tree_theorem R well sets u v nonempty J.entry J.period J.repeat).0 (w, found.witness))
+    go no_node no-witness = inr (
+      none,
+      λ keeps. let (w, W) = (tree_theorem R well sets u v nonempty J.entry J.period J.repeat).1 keeps in no-witness w W,
+    )
 
 -- so an accepted call says yes just if the walk keeps the rule, and no otherwise
 pub tree_decides : (R : Rule) (u v names : List ℕ) (answer : TreeAnswer) (after : List ℕ) → Judged R u v names answer after
@@ -53,14 +43,13 @@ pub tree_decides : (R : Rule) (u v names : List ℕ) (answer : TreeAnswer) (afte
 unfolding tree_answer
 tree_decides R u v names answer after J well sets nonempty =
     rw J.answers (walk_decides R u v J.walk well sets nonempty
-    (λ f. (tree_answer J.walk.entry J.walk.period f).verdict) (λ w. refl) refl refl)
+    (λ f. (tree_answer J.walk.entry J.walk.period f).verdict) (λ w. refl) refl)
 
 -- THE NUMBER
 
 found_number : (entry period : ℕ) (f : Finding) → (tree_answer entry period f).number ≡ 0
 unfolding tree_answer
 found_number entry period (yes_node w) = refl
-found_number entry period yes_met = refl
 found_number entry period no_node = refl
 
 tree_answers : (o : Outcome Rule) (u v names : List ℕ) (answer : TreeAnswer) (after : List ℕ) → TreeAnswers o u v names answer after
@@ -76,37 +65,11 @@ tree_number table u v names answer after T =
 
 -- THE CONTRACT DETERMINES ANSWER AND BUFFER
 
-module _ (R : Rule) (u v : List ℕ) (entry period : ℕ) (w : List ℕ) (W : Witness R u v entry period w) where
-  -- a witness was accepting at a letter, so some letters are read from t(e)
-  some_letter_lem : 1 ≤ length v
-  some_letter_lem = omega (arith, W.there.within)
-
-  some_round : 1 ≤ period
-  some_round = omega (arith, W.there.from, W.there.upto)
-
-  -- and the repeated tree is not met
-  witness_other : round_tree R u v entry ≡ met_tree → ⊥
-  witness_other = unmet_other (round_tree R u v entry) (witness_unmet R u v entry period some_letter_lem some_round w W)
-
-  -- the name of a witness fits in the buffer
-  pub name_short : WellFormed R → 1 ≤ R.sets → R.states ≤ max_states → length w ≤ name_room
-  name_short well sets states =
-      let T = round_tree R u v entry in
-      let tree = round_is_tree R well sets u v entry in
-      let (i, l, e) = witness_node R u v entry period some_letter_lem some_round w W in
-      let short = (name_small T (of_root R T tree) (max 1 R.states) (of_few R T tree) i (omega (arith, length_names T (of_root R T tree)))).0 in
-      rw (← e) (omega (arith, states))
-
 -- two right findings are the same
 pub found_one : (R : Rule) (u v : List ℕ) (entry period : ℕ) (f g : Finding) → Found R u v entry period f → Found R u v entry period g → f ≡ g
 found_one R u v entry period (yes_node w) (yes_node p) F G = ap (λ (x : List ℕ). yes_node x) (first_unique R u v entry period w p F G)
-found_one R u v entry period (yes_node w) yes_met F G = absurd (witness_other R u v entry period w F.witness G)
-found_one R u v entry period (yes_node w) no_node F (_, none) = absurd (none w F.witness)
-found_one R u v entry period yes_met (yes_node p) F G = absurd (witness_other R u v entry period p G.witness F)
-found_one R u v entry period yes_met yes_met F G = refl
-found_one R u v entry period yes_met no_node F (unmet, _) = absurd (unmet F)
-found_one R u v entry period no_node (yes_node p) (_, none) G = absurd (none p G.witness)
-found_one R u v entry period no_node yes_met (unmet, _) G = absurd (unmet G)
+found_one R u v entry period (yes_node w) no_node F none = absurd (none w F.witness)
+found_one R u v entry period no_node (yes_node p) none G = absurd (none p G.witness)
 found_one R u v entry period no_node no_node F G = refl
 
 -- what is judged of a walk is determined

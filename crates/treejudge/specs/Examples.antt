@@ -1,9 +1,9 @@
--- The examples of document 01 that are marked P ("Jobs and checked examples"), and examples of marks (document 02, U3), as rows of one list.
+-- The examples of document 01 that are marked P ("Jobs and checked examples"), as rows of one list.
 use Rattle.std.specs.Prelude.{◌≡◌, List, [], ◌∷◌, ℕ, ◌≤◌, length, replicate}
 use Rattle.base.specs.Outcome.{Outcome, refused, accepted}
 use Rattle.rule.specs.Rule.{Rule}
 use Rattle.history.specs.Rounds.{round_tree, FirstRepeat}
-use Rattle.history.specs.Finding.{Finding, yes_node, yes_met, no_node, Found}
+use Rattle.history.specs.Finding.{Finding, yes_node, no_node, Found}
 use Rattle.tree.specs.StartCall.{start_outcome, record_room}
 use Rattle.step.specs.StepCall.{Moved, step_outcome}
 use Rattle.treejudge.specs.JudgeCall.{tree_outcome, TreeAnswers, name_room}
@@ -46,34 +46,11 @@ table_b = 0x01 ∷ 0x02 ∷ 0x02 ∷ 0x01 ∷ 0x01 ∷ 0x01 ∷ 0x01 ∷ 0x02 �
 unfoldable pub table_c : List ℕ
 table_c = 0x01 ∷ 0x01 ∷ 0x01 ∷ 0x01 ∷ 0x00 ∷ []
 
--- Tables with marks. E: one state, which letter 0 leads to itself by no set, and letter 1 by a marked transition
-unfoldable pub table_e : List ℕ
-table_e = 0x01 ∷ 0x02 ∷ 0x01 ∷ 0x01 ∷ 0x01 ∷ 0x00 ∷ 0x01 ∷ 0x80 ∷ []
-
--- F: from state 0 to 1, from 1 to 2, and from 2 to itself by a marked transition
-unfoldable pub table_f : List ℕ
-table_f = 0x03 ∷ 0x01 ∷ 0x01 ∷ 0x01 ∷ 0x02 ∷ 0x00 ∷ 0x04 ∷ 0x00 ∷ 0x04 ∷ 0x80 ∷ []
-
--- G: state 0 goes to itself, and so does state 1, by a marked transition; no run from state 0 comes to state 1
-unfoldable pub table_g : List ℕ
-table_g = 0x02 ∷ 0x01 ∷ 0x01 ∷ 0x01 ∷ 0x01 ∷ 0x00 ∷ 0x02 ∷ 0x80 ∷ []
-
--- H: one state with a transition to itself that is marked and belongs to set 1
-unfoldable pub table_h : List ℕ
-table_h = 0x01 ∷ 0x01 ∷ 0x01 ∷ 0x01 ∷ 0x01 ∷ 0x81 ∷ []
-
--- I: from state 0 to 1 by a marked transition, and from there nowhere
-unfoldable pub table_i : List ℕ
-table_i = 0x02 ∷ 0x01 ∷ 0x01 ∷ 0x01 ∷ 0x02 ∷ 0x80 ∷ 0x00 ∷ []
-
 -- "A starts 01 00 01; after letter 1: 03 00 00 01; again: 03 00 01 01 11; again the same, accepting map 02, stable 03."
 -- "A, u empty, v = 1" is yes, entry 2, period 1, node 0. "A, v = 0: no, entry 0, period 1." "A, v = 0 1: no, entry 1, period 1."
 -- "B, v = 0: no, entry 1, period 1." "B, v = 0 1: yes, entry 0, root." "B, v = 1: no, entry 0."
 -- "C, v = 0: no, entry 1; the dead root does not accept." The document names no period for these three: it is 1.
 -- "Letter 2 under A: 8", in a step and in a walk.
--- Marks: the step into the met tree, and from it, under a table with marks and under one without; a mark in u, in the first tail (at its end, and
--- before it), in a later tail, under a letter that the walk does not have, out of reach, on a transition that is also in a set, and into a
--- state from which nothing goes on.
 unfoldable pub examples : List Example
 examples =
     starts table_a (0x01 ∷ 0x00 ∷ 0x01 ∷ [])
@@ -89,15 +66,4 @@ examples =
     ∷ judges table_c [] (0 ∷ []) 1 1 no_node
     ∷ steps table_a 2 (0x01 ∷ 0x00 ∷ 0x01 ∷ []) (refused 8)
     ∷ refuses table_a [] (2 ∷ []) 8
-    ∷ steps table_e 1 (0x01 ∷ 0x00 ∷ 0x01 ∷ []) (accepted (record { bytes = 0x00 ∷ 0xFF ∷ []; accepting = 0x00; stable = 0x00 }))
-    ∷ steps table_e 0 (0x00 ∷ 0xFF ∷ []) (accepted (record { bytes = 0x00 ∷ 0xFF ∷ []; accepting = 0x00; stable = 0x00 }))
-    ∷ steps table_a 1 (0x00 ∷ 0xFF ∷ []) (accepted (record { bytes = 0x00 ∷ 0xFF ∷ []; accepting = 0x00; stable = 0x00 }))
-    ∷ judges table_e (1 ∷ []) (0 ∷ []) 0 1 yes_met
-    ∷ judges table_e [] (0 ∷ 1 ∷ []) 1 1 yes_met
-    ∷ judges table_e [] (1 ∷ 0 ∷ []) 1 1 yes_met
-    ∷ judges table_f [] (0 ∷ []) 3 1 yes_met
-    ∷ judges table_e [] (0 ∷ []) 0 1 no_node
-    ∷ judges table_g [] (0 ∷ []) 0 1 no_node
-    ∷ judges table_h [] (0 ∷ []) 1 1 yes_met
-    ∷ judges table_i [] (0 ∷ []) 1 1 yes_met
     ∷ []

@@ -3,4 +3,3 @@ pub mod Cycles
 pub mod NodeNames
 pub mod Repeats
 pub mod SameNodes
-pub mod Unmet

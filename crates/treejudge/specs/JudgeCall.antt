@@ -1,11 +1,11 @@
--- The tree judge's call (document 01, "Walks and verdicts"; document 02, U3): what it answers, and what it leaves in the lent name buffer, for
--- all inputs.
+-- The tree judge's call (document 01, "Walks and verdicts"): what it answers, and what it leaves in the lent name buffer, for all
+-- inputs.
 use Rattle.std.specs.Prelude.{◌≡◌, List, ℕ, length}
 use Rattle.base.specs.Outcome.{Outcome, refused, accepted, Tells}
 use Rattle.base.specs.LentBuffer.{stored}
 use Rattle.rule.specs.Rule.{Rule}
 use Rattle.word.specs.Judging.{judge_questions}
-use Rattle.history.specs.Finding.{Finding, yes_node, yes_met, no_node, WalkJudged}
+use Rattle.history.specs.Finding.{Finding, yes_node, no_node, WalkJudged}
 use Rattle.treejudge.specs.declared.judge.TreeAnswer.{TreeAnswer}
 
 -- "7 for a name"
@@ -16,25 +16,18 @@ name_room = 7
 abbrev pub no_name : ℕ
 no_name = 255
 
--- document 02, U3: "The tree judge says yes when the repeated tree is met; name length is then 254"
-abbrev pub met_name : ℕ
-met_name = 254
-
 -- questions 1 to 6, 7, 8 and 10
 unfoldable pub tree_outcome : List ℕ → List ℕ → List ℕ → List ℕ → Outcome Rule
 tree_outcome table u v names = judge_questions name_room table u v names
 
--- the answer to a walk: yes is 1, with the length of the node's name, or 254 where the rule is met; no is 0, with the length 255
+-- the answer to a walk: yes is 1, with the length of the node's name; no is 0, with the length 255
 unfoldable pub tree_answer : ℕ → ℕ → Finding → TreeAnswer
 tree_answer entry period (yes_node w) = record { number = 0; verdict = 1; entry = entry; period = period; length = length w }
-tree_answer entry period yes_met = record { number = 0; verdict = 1; entry = entry; period = period; length = met_name }
 tree_answer entry period no_node = record { number = 0; verdict = 0; entry = entry; period = period; length = no_name }
 
--- the name buffer afterwards: "numbers in a lent 7-byte buffer, the rest of it unchanged. On no, .. the buffer unchanged"; where the rule is met
--- "its buffer unchanged"
+-- the name buffer afterwards: "numbers in a lent 7-byte buffer, the rest of it unchanged. On no, .. the buffer unchanged"
 unfoldable pub names_after : Finding → List ℕ → List ℕ
 names_after (yes_node w) names = stored 0 w names
-names_after yes_met names = names
 names_after no_node names = names
 
 -- an accepted call: the walk is judged, and the answer and the buffer are as that says

@@ -4,7 +4,6 @@ ghost use Rattle.rule.specs.Rule.{Rule};
 ghost use Rattle.word.specs.Judging.{ask_room};
 ghost use Rattle.word.specs.Inner.Prepared.{Prepared};
 ghost use Rattle.treejudge.specs.JudgeCall.{Judged, TreeAnswers, TreeCall, name_room};
-ghost use Rattle.treejudge.specs.Inner.Unmet.{UnmetWalk};
 
 use crate::name::{first_node, node_name, store_name};
 use crate::repeat::find_repeat;
@@ -15,12 +14,11 @@ use table::header::Header;
 use table::reader::Reading;
 use tree::nodes::Tree;
 use word::lookups::Lookups;
-use word::marks::{MarkRound, mark_round};
 use word::questions::walk_questions;
 use word::walk::letters_left;
 
-// The tree judge's answer: 0, the verdict (1 yes, 0 no), entry and period, and the length of the node's name (254 where the rule is met, 255 on
-// no); or the number of the question that failed and zeros.
+// The tree judge's answer: 0, the verdict (1 yes, 0 no), entry and period, and the length of the node's name (255 on no); or the
+// number of the question that failed and zeros.
 #[repr(C)]
 #[derive(Drop)]
 pub struct TreeAnswer {
@@ -31,22 +29,19 @@ pub struct TreeAnswer {
     pub length: u8,
 }
 
-// Name lengths that are none. "On no, the length is 255".
+// A name length that is none: "On no, the length is 255".
 const NO_NAME: u8 = 255;
 
-// "The tree judge says yes when the repeated tree is met; name length is then 254".
-pub const MET_NAME: u8 = 254;
-
-// The answer to a walk of which no tree is met, with room for a name. It is right for every rule that the look-ups are of.
-fn judge_unmet<'a>(
+// The answer to a walk whose look-ups are ready, with room for a name. It is right for every rule that the look-ups are of.
+fn judge_walk<'a>(
     lookups: &Lookups,
     header: Header,
     u: &'a [u8],
     v: &'a [u8],
     names: &mut [u8],
 ) -> TreeAnswer
-    requires { ((R : Rule) × UnmetWalk R header lookups.now u.now v.now) × (name_room ≤ length names.old) }
-    ensures { (R : Rule) → UnmetWalk R header lookups.now u.now v.now
+    requires { ((R : Rule) × Prepared R header lookups.now u.now v.now) × (name_room ≤ length names.old) }
+    ensures { (R : Rule) → Prepared R header lookups.now u.now v.now
         → Judged R u.now v.now names.old result names.new }
 {
     let k = header.sets as u8;
@@ -79,31 +74,6 @@ fn judge_unmet<'a>(
         entry: found.entry,
         period: found.period,
         length: name.length as u8,
-    }
-}
-
-// The answer to a walk whose look-ups are ready, with room for a name. The root's label alone says whether a tree is met: it has the states that
-// are reached. The met tree stays, so the first round end that is met is the entry. It is right for every rule that the look-ups are of.
-fn judge_walk<'a>(
-    lookups: &Lookups,
-    header: Header,
-    u: &'a [u8],
-    v: &'a [u8],
-    names: &mut [u8],
-) -> TreeAnswer
-    requires { ((R : Rule) × Prepared R header lookups.now u.now v.now) × (name_room ≤ length names.old) }
-    ensures { (R : Rule) → Prepared R header lookups.now u.now v.now
-        → Judged R u.now v.now names.old result names.new }
-{
-    match mark_round(lookups, header, u, v) {
-        MarkRound::At(entry) => TreeAnswer {
-            number: 0,
-            verdict: 1,
-            entry: entry,
-            period: 1,
-            length: MET_NAME,
-        },
-        MarkRound::Nowhere => judge_unmet(lookups, header, u, v, names),
     }
 }
 

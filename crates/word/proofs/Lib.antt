@@ -5,10 +5,6 @@ pub mod Pigeonhole
 pub mod Traces
 pub mod LassoToRun
 pub mod RunToLasso
-pub mod MarkLaws
-pub mod MarkRounds
-pub mod MarkReading
-pub mod WalkMarks
 pub mod LassoTheorem
 pub mod Variants
 pub mod SameAlong

@@ -6,7 +6,6 @@ use mathlib.Core.List.{List, [], ◌∷◌, ◌++◌, append_assoc, append-nil}
 use Prim.Native.Nat.{ℕ, zero, suc, ◌+◌, ◌*◌, ◌≤◌, ◌<◌}
 use native.Mathlib.Omega.{arith}
 use native.Mathlib.Nat.{zero-add, zero-mul, suc-add}
-use native.Mathlib.Numerals.{add-one}
 use lib.Bits.{bit_or, or_zero_r, or_self}
 use Rattle.base.proofs.BitSet.{union_assoc}
 use Rattle.rule.specs.Rule.{Rule, edge, cell_at}
@@ -27,10 +26,6 @@ rounds_add (suc i) j v = rw (suc-add, append_assoc, rounds_add i j v)
 pub rounds_one : (v : List ℕ) → rounds 1 v ≡ v
 unfolding rounds
 rounds_one v = append-nil v
-
--- a round more is the tail behind them
-pub rounds_last : (r : ℕ) (v : List ℕ) → rounds (suc r) v ≡ rounds r v ++ v
-rounds_last r v = ap (λ (x : ℕ). rounds x v) (sym (add-one r)) ∙ rounds_add r 1 v ∙ ap (rounds r v ++◌) (rounds_one v)
 
 -- i times j rounds are i rounds of j rounds
 pub rounds_mul : (i j : ℕ) (v : List ℕ) → rounds (i * j) v ≡ rounds i (rounds j v)

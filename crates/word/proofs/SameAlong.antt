@@ -2,15 +2,14 @@
 -- keeps the one rule just if the other keeps the other. So it is with two spellings of a walk under one rule (document 02, U6), and with two
 -- rules that differ only in the cells of letters that the walk does not have (U10).
 use mathlib.Core.Path.{◌≡◌, refl, sym, ◌∙◌, ap}
-use mathlib.Core.Logic.{inl, inr, ⊎_elim}
 use mathlib.Core.List.{List}
 use Prim.Native.Nat.{ℕ, suc, ◌≤◌}
 use lib.ListN.{length}
 use Rattle.rule.specs.Rule.{Rule, square_of}
-use Rattle.rule.proofs.SameSquares.{same_edge, same_edge_in, same_marked}
+use Rattle.rule.proofs.SameSquares.{same_edge, same_edge_in}
 use Rattle.word.specs.EqualOn.{EqualOn}
 use Rattle.word.specs.Keeps.{Keeps}
-use Rattle.word.specs.Run.{AcceptingRun, MetRun}
+use Rattle.word.specs.Run.{AcceptingRun}
 use Rattle.word.specs.Verdict.{Decides}
 use Rattle.word.specs.Walk.{letter_at, SameLetters}
 use Rattle.word.proofs.Positions.{every_letter}
@@ -65,21 +64,10 @@ module _ {R S : Rule} {u v u' v' : List ℕ} (same : SameAlong R S u v u' v') wh
       state : ℕ → ℕ
       state = A.run.state
 
-  -- and so is one that ends with a marked transition
-  pub met_along : MetRun R u v → MetRun S u' v'
-  met_along M = record {
-    last = M.last;
-    state = M.state;
-    starts = rw (← same.start) M.starts;
-    moves = λ p l. sym (same_edge R S (letter_at u v p) (letter_at u' v' p) (same.cells p) (M.state p) (M.state (suc p))) ∙ M.moves p l;
-    meets = sym (same_marked R S (letter_at u v M.last) (letter_at u' v' M.last) (same.cells M.last) (M.state M.last)
-        (M.state (suc M.last))) ∙ M.meets;
-  }
-
   -- so where the one walk keeps the one rule, the other keeps the other
   pub keeps_along : Keeps R u v → Keeps S u' v'
   unfolding Keeps
-  keeps_along = ⊎_elim (λ A. inl (run_along A)) (λ M. inr (met_along M))
+  keeps_along = run_along
 
 -- and two right verdicts are the same
 pub verdicts_along : {R S : Rule} {u v u' v' : List ℕ} {a b : ℕ} → SameAlong R S u v u' v'

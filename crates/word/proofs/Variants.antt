@@ -8,14 +8,15 @@ use native.Mathlib.Omega.{arith}
 use native.Mathlib.Nat.{zero-add, mod-one}
 use lib.Dec.{lit<}
 use lib.ListN.{length, get_or}
-use Rattle.base.specs.BitSet.{member, minus}
+use Rattle.base.specs.BitSet.{member}
 use Rattle.base.proofs.Logic.{clash}
 use Rattle.base.proofs.BitSet.{member_lt}
 use Rattle.rule.specs.Rule.{Rule, edge, edge_in, cell_at}
-use Rattle.rule.specs.WellFormed.{WellFormed, start_fits, set_byte_fits, bytes_fit}
+use Rattle.rule.specs.WellFormed.{WellFormed, start_fits, bytes_fit}
 use Rattle.word.specs.Walk.{letter_at, rounds}
 use Rattle.word.specs.Run.{Run, Takes, AcceptingRun}
 use Rattle.word.specs.Lasso.{Leads, Lasso}
+use Rattle.word.specs.Keeps.{Keeps, KeepsByLasso}
 use Rattle.word.proofs.Paths.{rounds_one, one_leads}
 use Rattle.word.proofs.Positions.{letter_behind}
 use Rattle.word.proofs.LassoToRun.{lasso_run}
@@ -53,7 +54,7 @@ abbrev pub away : Rule
 away = small 2 ((255 ∷ 1 ∷ []) ∷ (255 ∷ 0 ∷ []) ∷ [])
 
 pub away_fits : WellFormed away
-unfolding start_fits bytes_fit set_byte_fits minus
+unfolding start_fits bytes_fit
 away_fits = record { starts = refl; squares = refl; fits = ((refl, ((refl, refl), ((refl, refl), tt))), tt) }
 
 away_to : (a q r : ℕ) → edge away.grid a q r ≡ true → r ≡ 1
@@ -96,7 +97,8 @@ once_run = record { run = run; once = once }
     once (suc (suc i)) h k = absurd (omega arith)
 
 -- but no run takes it infinitely often, and there is no loop
-once_no_run : AcceptingRun away [] zero_tail → ⊥
+once_no_run : Keeps away [] zero_tail → ⊥
+unfolding Keeps
 once_no_run A = go (A.often 1 (omega arith) (omega arith) 1)
   where
     go : (p : ℕ) × (1 ≤ p) × Takes A.run 1 p → ⊥
@@ -104,6 +106,7 @@ once_no_run A = go (A.often 1 (omega arith) (omega arith) 1)
     go (suc p, h, t) = away_set _ _ (rw (away_to _ _ _ (A.run.moves p)) at t)
 
 pub once_no_lasso : Lasso away [] zero_tail → ⊥
+unfolding Keeps
 once_no_lasso = no_lasso away once_no_run
 
 -- LOOPS WITH OTHER CLAUSES
@@ -159,7 +162,7 @@ abbrev apart : Rule
 apart = small 2 ((255 ∷ 255 ∷ []) ∷ (255 ∷ 1 ∷ []) ∷ [])
 
 pub apart_fits : WellFormed apart
-unfolding start_fits bytes_fit set_byte_fits minus
+unfolding start_fits bytes_fit
 apart_fits = record { starts = refl; squares = refl; fits = ((refl, ((refl, refl), ((refl, refl), tt))), tt) }
 
 apart_from : (a r : ℕ) → edge apart.grid a 0 r ≡ true → ⊥
@@ -186,12 +189,14 @@ any_start_lasso = record {
   every = first_set;
 }
 
-any_start_no_run : AcceptingRun apart [] zero_tail → ⊥
+any_start_no_run : Keeps apart [] zero_tail → ⊥
+unfolding Keeps
 any_start_no_run A =
     let e : A.run.state 0 ≡ 0 = omega (arith, member_lt 1 1 (A.run.state 0) (lit< tt) A.run.starts) in
     apart_from _ _ (rw e at (A.run.moves 0))
 
-any_start_no_lasso : Lasso apart [] zero_tail → ⊥
+any_start_no_lasso : KeepsByLasso apart [] zero_tail → ⊥
+unfolding Keeps KeepsByLasso
 any_start_no_lasso = no_lasso apart any_start_no_run
 
 -- EVERY SET ON THE LOOP, NOT ANY SETS
@@ -201,7 +206,7 @@ abbrev bare : Rule
 bare = small 1 ((0 ∷ []) ∷ [])
 
 pub bare_fits : WellFormed bare
-unfolding start_fits bytes_fit set_byte_fits minus
+unfolding start_fits bytes_fit
 bare_fits = record { starts = refl; squares = refl; fits = ((refl, ((refl, refl), tt)), tt) }
 
 bare_set : (a q r : ℕ) → edge_in bare.grid 1 a q r ≡ true → ⊥
@@ -228,10 +233,12 @@ any_sets_lasso = record {
   every = tt;
 }
 
-any_sets_no_run : AcceptingRun bare [] zero_tail → ⊥
+any_sets_no_run : Keeps bare [] zero_tail → ⊥
+unfolding Keeps
 any_sets_no_run A = let (p, h, t) = A.often 1 (omega arith) (omega arith) 0 in bare_set _ _ _ t
 
-any_sets_no_lasso : Lasso bare [] zero_tail → ⊥
+any_sets_no_lasso : KeepsByLasso bare [] zero_tail → ⊥
+unfolding Keeps KeepsByLasso
 any_sets_no_lasso = no_lasso bare any_sets_no_run
 
 -- ONE OR MORE TAILS, NOT ONE ONLY
@@ -248,8 +255,8 @@ swing_moves zero (suc zero) e = clash refl e
 swing_moves zero (suc (suc q)) e = clash refl e
 
 -- a loop of two tails, but none of one tail
-two_tails_lasso : Lasso swing [] zero_tail
-unfolding rounds edge cell_at member
+two_tails_lasso : KeepsByLasso swing [] zero_tail
+unfolding KeepsByLasso rounds edge cell_at member
 two_tails_lasso = record {
   origin = 0;
   state = 0;

@@ -31,7 +31,7 @@ use Rattle.base.proofs.Every.{every_weaker, every_both}
 use Rattle.base.proofs.Logic.{look, clash, never, and_both, and_in, or_l, or_r, or_in}
 use Rattle.base.proofs.LowestBit.{lowest_inside, lowest_stands, cleared_others, cleared_keeps}
 use Rattle.base.proofs.Tabulate.{length_tabulate, get_d_tabulate, tabulate_ext}
-use Rattle.rule.specs.Limits.{max_states, max_letters, max_sets}
+use Rattle.rule.specs.Limits.{max_letters}
 use Rattle.rule.specs.Rule.{Rule}
 use Rattle.rule.specs.Inner.Padded.{padded}
 use Rattle.rule.specs.Inner.Lookup.{joined_lookup}
@@ -238,26 +238,3 @@ module _ {R : Rule} {header : Header} {words : List (List ℕ)} (h : HoldsRule R
     lead = every_weaker _ _ u (λ a (less, m). has_lookup a less (or_l _ _ m)) (every_both _ _ u lead (occurs_all u));
     tail = every_weaker _ _ v (λ a (less, m). has_lookup a less (or_r (occurs u (a % max_letters)) _ m)) (every_both _ _ v tail (occurs_all v));
   }
-
--- WHAT A WALK THAT IS READY HAS
-
-module _ {R : Rule} {header : Header} {lookups : Lookups} {u v : List ℕ} (w : Prepared R header lookups u v) where
-  -- its numbers are within the limits
-  pub states_few : header.states ≤ max_states
-  states_few = rw w.numbers w.limits.states
-
-  pub letters_few : header.letters ≤ max_letters
-  letters_few = rw w.numbers w.limits.letters
-
-  pub sets_few : header.sets ≤ max_sets
-  sets_few = rw w.numbers w.limits.sets
-
-  -- and so are its letters
-  small : (l : List ℕ) → Every (HasLookup R lookups) l → Every (λ a. a < max_letters) l
-  small l all = every_weaker _ _ l (λ a t. omega (arith, t.below, w.limits.letters)) all
-
-  pub lead_small : Every (λ a. a < max_letters) u
-  lead_small = small u w.lead
-
-  pub tail_small : Every (λ a. a < max_letters) v
-  tail_small = small v w.tail

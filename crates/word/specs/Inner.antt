@@ -1,4 +1,3 @@
 -- What the contracts of inner functions cite.
-pub mod Marks
 pub mod Prepared
 pub mod WalkLookups

@@ -1,8 +1,8 @@
--- Paths, loops (document 01, "A walk keeps a rule if ..") and marks in reach (document 02, U3).
+-- Paths and loops (document 01, "A walk keeps a rule if ..").
 use Rattle.std.specs.Prelude.{◌≡◌, true, List, [], ◌∷◌, ◌++◌, ℕ, ◌≤◌, ◌<◌}
 use Rattle.std.specs.Int.Bits.{bit_or}
 use Rattle.base.specs.BitSet.{member}
-use Rattle.rule.specs.Rule.{Rule, edge, cell_at, marked}
+use Rattle.rule.specs.Rule.{Rule, edge, cell_at}
 use Rattle.word.specs.Walk.{rounds}
 
 -- the letters w lead from state s to state t by transitions whose sets together are the map c
@@ -26,22 +26,3 @@ pub record Lasso (R : Rule) (u v : List ℕ) : Type 0 where
   pub leads : Leads R (u ++ rounds lead v) origin lead_sets state
   pub loops : Leads R (rounds turns v) state loop_sets state
   pub every : (i : ℕ) → i < R.sets → member loop_sets i ≡ true
-
--- a mark in reach of the states s by the letters w (document 02, U3): some letters at the front of w lead from one of the states to a state, which
--- has a marked transition under the letter behind them
-pub record MarkOn (R : Rule) (w : List ℕ) (s : ℕ) : Type 0 where
-  pub origin : ℕ
-  pub state : ℕ
-  pub next : ℕ
-  pub front : List ℕ
-  pub letter : ℕ
-  pub behind : List ℕ
-  pub sets : ℕ
-  pub parts : w ≡ front ++ (letter ∷ behind)
-  pub starts : member s origin ≡ true
-  pub leads : Leads R front origin sets state
-  pub marks : marked R.grid letter state next ≡ true
-
--- a mark in reach of the starting states by u and i tails
-abbrev pub MarkInReach : Rule → List ℕ → List ℕ → Type 0
-MarkInReach R u v = (i : ℕ) × MarkOn R (u ++ rounds i v) R.start

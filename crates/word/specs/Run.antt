@@ -1,8 +1,7 @@
--- Endless runs and acceptance (document 01, "Walks and verdicts"), and finite runs that meet a rule for good (document 02, U3). This is the
--- meaning that demand 3 speaks of.
-use Rattle.std.specs.Prelude.{◌≡◌, true, List, ℕ, suc, ◌≤◌, ◌<◌}
+-- Endless runs and acceptance (document 01, "Walks and verdicts"). This is the meaning that demand 3 speaks of.
+use Rattle.std.specs.Prelude.{◌≡◌, true, List, ℕ, suc, ◌≤◌}
 use Rattle.base.specs.BitSet.{member}
-use Rattle.rule.specs.Rule.{Rule, edge, edge_in, marked}
+use Rattle.rule.specs.Rule.{Rule, edge, edge_in}
 use Rattle.word.specs.Walk.{letter_at}
 
 -- "An endless run over a walk has a state for every position, a starting state for position 0, and takes at each
@@ -25,13 +24,3 @@ InfinitelyOften run i = (p : ℕ) → (p' : ℕ) × (p ≤ p') × Takes run i p'
 pub record AcceptingRun (R : Rule) (u v : List ℕ) : Type 0 where
   pub run : Run R u v
   pub often : (i : ℕ) → 1 ≤ i → i ≤ R.sets → InfinitelyOften run i
-
--- document 02, U3: "some finite run from a starting state, over a beginning of u followed by v for ever, ends with such a transition", one that
--- is marked, at the position `last`. "Whether it could go on after the mark does not matter": no state is asked for behind it but the one that
--- the marked transition leads to.
-pub record MetRun (R : Rule) (u v : List ℕ) : Type 0 where
-  pub last : ℕ
-  pub state : ℕ → ℕ
-  pub starts : member R.start (state 0) ≡ true
-  pub moves : (p : ℕ) → p < last → edge R.grid (letter_at u v p) (state p) (state (suc p)) ≡ true
-  pub meets : marked R.grid (letter_at u v last) (state last) (state (suc last)) ≡ true

@@ -1,5 +1,4 @@
 // Walks over a rule: the questions put to a walk, its letters, and their look-ups.
 pub mod lookups;
-pub mod marks;
 pub mod questions;
 pub mod walk;

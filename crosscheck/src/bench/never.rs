@@ -3,7 +3,7 @@
 
 use super::{Inputs, UNCUT_TAIL};
 use crate::cases::Walk;
-use crate::reference::tree::{starting_tree, step, Tree};
+use crate::reference::tree::{starting_tree, step};
 use crate::reference::{Rule, LONGEST};
 
 /// The letters of a word over and over.
@@ -17,7 +17,7 @@ fn never_alone(walk: &Walk) -> bool {
     let mut tree = starting_tree(&rule);
     walk.u.iter().chain(&walk.v).all(|letter| {
         tree = step(&tree, &rule, *letter).tree;
-        matches!(&tree, Tree::Root(root) if !root.children.is_empty())
+        tree.as_ref().is_some_and(|root| !root.children.is_empty())
     })
 }
 

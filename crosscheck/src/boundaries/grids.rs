@@ -3,7 +3,6 @@
 use super::Boundary;
 use crate::answers::Numbers;
 use crate::cases::Case;
-use crate::reference::MARK;
 
 /// What, the number, n, m, k and the starting map, the grid, and the test of a
 /// call of the writer with that number.
@@ -50,11 +49,10 @@ fn size(numbers: &Numbers) -> usize {
     numbers.letters * numbers.states * numbers.states
 }
 
-/// The first byte that is neither 255 nor below 2^k but for the mark, counted
-/// from 2^k.
+/// The first byte that is neither 255 nor below 2^k, counted from 2^k.
 fn above(numbers: &Numbers, grid: &[u8]) -> Option<u8> {
     let limit = 1 << numbers.sets;
-    grid.iter().find(|byte| **byte != 255 && **byte & !MARK >= limit).map(|byte| *byte - limit)
+    grid.iter().find(|byte| **byte != 255 && **byte >= limit).map(|byte| *byte - limit)
 }
 
 /// Question 11.
@@ -79,33 +77,9 @@ fn grids() -> Vec<Written> {
     ]
 }
 
-/// Question 11 for bit 7, the mark.
-fn marks() -> Vec<Written> {
-    vec![
-        ("grid byte 80, k = 1", 0, [1, 1, 1, 1], vec![0x80], |w, g| {
-            w.sets == 1 && g.contains(&0x80)
-        }),
-        ("grid byte 81, k = 1", 0, [1, 1, 1, 1], vec![0x81], |w, g| {
-            w.sets == 1 && g.contains(&0x81)
-        }),
-        ("grid byte 82, k = 1", 11, [1, 1, 1, 1], vec![0x82], |w, g| {
-            w.sets == 1 && above(w, g) == Some(0x80)
-        }),
-        ("grid byte 8f, k = 4", 0, [1, 1, 4, 1], vec![0x8f], |w, g| {
-            w.sets == 4 && g.contains(&0x8f)
-        }),
-        ("grid byte 90, k = 4", 11, [1, 1, 4, 1], vec![0x90], |w, g| {
-            w.sets == 4 && above(w, g) == Some(0x80)
-        }),
-        ("grid bytes ff among marks", 0, [2, 1, 4, 1], vec![255, 0x80, 0x8f, 255], |_, g| {
-            g.contains(&255) && g.iter().any(|byte| *byte != 255 && byte & MARK != 0)
-        }),
-    ]
-}
-
 pub fn boundaries() -> Vec<Boundary> {
     let mut list = Vec::new();
-    for (what, number, given, grid, test) in headers().into_iter().chain(grids()).chain(marks()) {
+    for (what, number, given, grid, test) in headers().into_iter().chain(grids()) {
         let [states, letters, sets, start] = given;
         let numbers = Numbers { states, letters, sets, start: start as u16 };
         let test = move |case: &Case| match case {

@@ -33,22 +33,6 @@ fn roots() -> Vec<Stepped> {
     ]
 }
 
-/// The met tree's record, which is one over every n and k, and bytes close to
-/// it.
-fn met() -> Vec<Stepped> {
-    vec![
-        ("the met tree's record, n = 1, k = 1", 0, 1, 1, 0, vec![0, 255]),
-        ("the met tree's record, n = 2, k = 1", 0, 2, 1, 0, vec![0, 255]),
-        ("the met tree's record, n = 8, k = 4", 0, 8, 4, 1, vec![0, 255]),
-        ("the met tree's record, and letter m", 8, 2, 1, 2, vec![0, 255]),
-        ("the met tree's record with another byte", 9, 2, 1, 0, vec![0, 254]),
-        ("the met tree's record and a byte more", 9, 2, 1, 0, vec![0, 255, 0]),
-        ("the met tree's record and a node", 9, 8, 4, 0, vec![0, 255, 1]),
-        ("the met tree's record turned", 9, 8, 4, 0, vec![255, 0]),
-        ("the met tree's record without its map", 9, 8, 4, 0, vec![255]),
-    ]
-}
-
 fn hosts() -> Vec<Stepped> {
     vec![
         ("a host missing", 9, 2, 1, 0, vec![3, 0, 1]),
@@ -101,7 +85,7 @@ fn longest() -> Vec<Stepped> {
 /// with a letter that lies as the boundary's does: below m, at m or above.
 pub fn boundaries() -> Vec<Boundary> {
     let mut list = Vec::new();
-    let all = [letters(), roots(), met(), hosts(), active_sets(), depths(), longest()];
+    let all = [letters(), roots(), hosts(), active_sets(), depths(), longest()];
     for (what, number, n, k, letter, record) in all.into_iter().flatten() {
         let told = record.clone();
         let case = Case::Step(table(n, M, k, 1, &[1, 1]), letter, record);

@@ -1,7 +1,7 @@
-//! Question 8 for the look-up of successors; sets of states, up to all and
-//! beyond; and marks, which are no sets.
+//! Question 8 for the look-up of successors; and sets of states, up to all and
+//! beyond.
 
-use super::{table, with, Boundary, A};
+use super::{with, Boundary, A};
 use crate::answers::{Calls, SuccessorsAnswer};
 use crate::cases::Case;
 use crate::reference::Reference;
@@ -43,19 +43,10 @@ fn states() -> Vec<LookUp> {
     ]
 }
 
-fn marks() -> Vec<LookUp> {
-    let of = |what, k, byte, answer| (what, table(1, 1, k, 1, &[1, byte]), 0, 1, answer);
-    vec![
-        of("a mark in no set", 1, 0x80, found(1, [0; 4])),
-        of("a mark in all four sets", 4, 0x8f, found(1, [1; 4])),
-    ]
-}
-
 /// Only the very same call stands at the boundary.
 pub fn boundaries() -> Vec<Boundary> {
     let mut list = Vec::new();
-    let all = [letters(), states(), marks()];
-    for (what, table, letter, from, answer) in all.into_iter().flatten() {
+    for (what, table, letter, from, answer) in letters().into_iter().chain(states()) {
         assert_eq!(Reference.successors(&table, letter, from), answer, "{what}");
         let case = Case::Successors(table, letter, from);
         let told = case.shown();

@@ -2,7 +2,6 @@
 
 use super::{good, table, with, Boundary, A, C};
 use crate::cases::{Case, Walk};
-use crate::reference::{Rule, MARK};
 
 /// What, the number, a table, and the test of a table with that number.
 type Tabled = (&'static str, u8, Vec<u8>, fn(&[u8]) -> bool);
@@ -50,12 +49,9 @@ fn misfit(table: &[u8]) -> Option<(CellByte, u8, u8)> {
     let (n, k) = (table[0], table[2]);
     let mut set_bytes_left = 0;
     for byte in &table[4..] {
-        let (what, limit, bits) = if set_bytes_left == 0 {
-            (CellByte::Map, n, *byte)
-        } else {
-            (CellByte::Set, k, *byte & !MARK)
-        };
-        if u16::from(bits) >> limit != 0 {
+        let (what, limit) =
+            if set_bytes_left == 0 { (CellByte::Map, n) } else { (CellByte::Set, k) };
+        if u16::from(*byte) >> limit != 0 {
             return Some((what, limit, *byte));
         }
         set_bytes_left = if set_bytes_left == 0 { byte.count_ones() } else { set_bytes_left - 1 };
@@ -68,44 +64,9 @@ fn map_bit_n(table: &[u8]) -> bool {
     matches!(misfit(table), Some((CellByte::Map, n, byte)) if byte >> n == 1)
 }
 
-/// Is the first byte refused a set byte without a mark, for bit k alone of those
-/// from k up?
+/// Is the first byte refused a set byte, for bit k alone of those from k up?
 fn set_bit_k(table: &[u8]) -> bool {
     matches!(misfit(table), Some((CellByte::Set, k, byte)) if byte >> k == 1)
-}
-
-/// Has a good table this set byte?
-fn has_set_byte(table: &[u8], byte: u8) -> bool {
-    let cells = |rule: Rule| rule.moves.into_iter().flatten().flatten();
-    Rule::read(table).is_ok_and(|rule| cells(rule).any(|place| place == Some(byte)))
-}
-
-/// Has a good table a state that leads to state 7 alone?
-fn has_map_of_state_7(table: &[u8]) -> bool {
-    let to_7_alone = |row: &Vec<Option<u8>>| (0..8).all(|at| row[at].is_some() == (at == 7));
-    table[0] == 8 && Rule::read(table).is_ok_and(|rule| rule.moves.iter().flatten().any(to_7_alone))
-}
-
-/// Is this the first byte refused, a set byte?
-fn refused_set_byte(table: &[u8], byte: u8) -> bool {
-    matches!(misfit(table), Some((CellByte::Set, _, refused)) if refused == byte)
-}
-
-/// Question 5 for bit 7: of a set byte it is the mark, of a map it is a state.
-fn marks() -> Vec<Tabled> {
-    let set_byte = |k: u8, byte: u8| table(1, 1, k, 1, &[1, byte]);
-    vec![
-        ("set byte 80, k = 1", 0, set_byte(1, 0x80), |t| t[2] == 1 && has_set_byte(t, 0x80)),
-        ("set byte 81, k = 1", 0, set_byte(1, 0x81), |t| t[2] == 1 && has_set_byte(t, 0x81)),
-        ("set byte 82, k = 1", 5, set_byte(1, 0x82), |t| t[2] == 1 && refused_set_byte(t, 0x82)),
-        ("set byte 8f, k = 4", 0, set_byte(4, 0x8f), |t| t[2] == 4 && has_set_byte(t, 0x8f)),
-        ("set byte 90, k = 4", 5, set_byte(4, 0x90), |t| t[2] == 4 && refused_set_byte(t, 0x90)),
-        ("set byte ff, k = 4", 5, set_byte(4, 0xff), |t| t[2] == 4 && refused_set_byte(t, 0xff)),
-        ("map 80, n = 8", 0, table(8, 1, 1, 1, &[0x80, 0]), has_map_of_state_7),
-        ("map 80, n = 7", 5, table(7, 1, 1, 1, &[0x80, 0]), |t| {
-            matches!(misfit(t), Some((CellByte::Map, 7, 0x80)))
-        }),
-    ]
 }
 
 /// Would the table end too early, were its last byte an empty map or set?
@@ -171,7 +132,7 @@ fn table_of(case: &Case) -> Option<&[u8]> {
 
 pub fn boundaries() -> Vec<Boundary> {
     let mut list = Vec::new();
-    for (what, number, table, test) in headers().into_iter().chain(cells()).chain(marks()) {
+    for (what, number, table, test) in headers().into_iter().chain(cells()) {
         for case in calls(&table) {
             let test = move |case: &Case| table_of(case).is_some_and(test);
             list.push(Boundary::of(what, number, case, test));

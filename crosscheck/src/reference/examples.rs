@@ -143,8 +143,7 @@ fn grids_refused() {
     assert_eq!(write([2, 2, 1, 1], &[], 12), unwritten(11, 12));
     for (sets, limit) in [(1, 2), (2, 4), (3, 8), (4, 16)] {
         for byte in 0..=255 {
-            // Bit 7 is the mark.
-            let fits = byte % 128 < limit || byte == 255;
+            let fits = byte < limit || byte == 255;
             let number = if fits { 0 } else { 11 };
             assert_eq!(write([1, 1, sets, 1], &[byte], 6).0, number);
         }

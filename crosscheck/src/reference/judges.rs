@@ -1,22 +1,14 @@
 //! The two judges' verdicts, each straight from its definition.
 
-use super::table::{Rule, MARK};
+use super::table::Rule;
 use super::tree::{names, starting_tree, step, Name, Tree};
 use std::collections::{BTreeSet, HashMap};
 
-/// What the tree judge says: no, yes by a node, or yes since the repeated tree
-/// is met.
-pub enum Verdict {
-    No,
-    Node(Name),
-    Met,
-}
-
-/// What the tree judge finds.
+/// What the tree judge finds: entry, period and, on yes, the node.
 pub struct Found {
     pub entry: usize,
     pub period: usize,
-    pub verdict: Verdict,
+    pub node: Option<Name>,
 }
 
 /// The tree after some letters.
@@ -36,15 +28,7 @@ pub fn judge_by_trees(rule: &Rule, u: &[u8], v: &[u8]) -> Found {
     }
     let entry = round_of[&tree];
     let period = round - entry;
-    Found { entry, period, verdict: verdict(rule, tree, v, period) }
-}
-
-/// The verdict on a tree that comes again after so many tails.
-fn verdict(rule: &Rule, repeated: Tree, v: &[u8], period: usize) -> Verdict {
-    if repeated == Tree::Met {
-        return Verdict::Met;
-    }
-    kept_node(rule, repeated, v, period).map_or(Verdict::No, Verdict::Node)
+    Found { entry, period, node: kept_node(rule, tree, v, period) }
 }
 
 /// The first name stable at every letter of the rounds from `tree` back to
@@ -64,7 +48,7 @@ fn kept_node(rule: &Rule, mut tree: Tree, v: &[u8], period: usize) -> Option<Nam
     stable.intersection(&accepting).next().cloned()
 }
 
-/// Which pairs of a state and the sets collected on the way to it there are.
+/// Marks pairs of a state and the sets collected on the way to it.
 type Pairs = [[bool; 16]; 8];
 
 /// The pairs after one more letter.
@@ -72,11 +56,10 @@ fn next_pairs(rule: &Rule, pairs: &Pairs, letter: u8) -> Pairs {
     let mut after = [[false; 16]; 8];
     for (state, row) in rule.moves[letter as usize].iter().enumerate() {
         for (next, place) in row.iter().enumerate() {
-            let Some(byte) = place else { continue };
-            let sets = usize::from(byte & !MARK);
+            let Some(sets) = place else { continue };
             for collected in 0..16 {
                 if pairs[state][collected] {
-                    after[next][collected | sets] = true;
+                    after[next][collected | *sets as usize] = true;
                 }
             }
         }
@@ -125,39 +108,9 @@ fn has_loop(tails: &[Pairs], state: usize, all: usize) -> bool {
 
 /// The loop's definition: a state at a round end, and a loop of tails from it
 /// back to it with a transition of each set.
-fn has_accepting_loop(rule: &Rule, u: &[u8], v: &[u8]) -> bool {
+pub fn judge_plainly(rule: &Rule, u: &[u8], v: &[u8]) -> bool {
     let reached = states_at_round_ends(rule, u, v);
     let tails: Vec<Pairs> = (0..rule.states).map(|state| tail_pairs(rule, v, state)).collect();
     let all = (1 << rule.sets) - 1;
     (0..rule.states).any(|state| reached >> state & 1 == 1 && has_loop(&tails, state, all))
-}
-
-/// Does some finite run from a starting state, over a beginning of u followed
-/// by v for ever, end with a marked transition? Looks once at each state that
-/// runs have in front of each letter of u and v.
-fn has_marked_run(rule: &Rule, u: &[u8], v: &[u8]) -> bool {
-    let letters = [u, v].concat();
-    let mut seen = vec![[false; 8]; letters.len()];
-    let starting = (0..rule.states).filter(|state| rule.start >> state & 1 == 1);
-    let mut open: Vec<(usize, usize)> = starting.map(|state| (0, state)).collect();
-    while let Some((at, state)) = open.pop() {
-        if std::mem::replace(&mut seen[at][state], true) {
-            continue;
-        }
-        // Behind the last letter of v comes its first.
-        let behind = if at + 1 == letters.len() { u.len() } else { at + 1 };
-        for (next, place) in rule.moves[letters[at] as usize][state].iter().enumerate() {
-            let Some(byte) = place else { continue };
-            if byte & MARK != 0 {
-                return true;
-            }
-            open.push((behind, next));
-        }
-    }
-    false
-}
-
-/// A loop through all sets, or a finite run that ends with a mark.
-pub fn judge_plainly(rule: &Rule, u: &[u8], v: &[u8]) -> bool {
-    has_accepting_loop(rule, u, v) || has_marked_run(rule, u, v)
 }

@@ -4,7 +4,7 @@ use super::table::Rule;
 
 /// The map of the next states, and for each accepting set the map of those
 /// reached by a transition of that set. States from n up have no transition,
-/// and no transition is of a set from k + 1 up. A mark is no set.
+/// and no transition is of a set from k + 1 up.
 pub fn look_up(rule: &Rule, letter: u8, from: u16) -> (u16, [u16; 4]) {
     let (mut next, mut reached) = (0, [0; 4]);
     for (state, row) in rule.moves[usize::from(letter)].iter().enumerate() {
@@ -12,10 +12,10 @@ pub fn look_up(rule: &Rule, letter: u8, from: u16) -> (u16, [u16; 4]) {
             continue;
         }
         for (to, place) in row.iter().enumerate() {
-            let Some(byte) = place else { continue };
+            let Some(sets) = place else { continue };
             next |= 1 << to;
             for (bit, map) in reached.iter_mut().enumerate() {
-                if byte >> bit & 1 == 1 {
+                if sets >> bit & 1 == 1 {
                     *map |= 1 << to;
                 }
             }

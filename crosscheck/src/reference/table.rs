@@ -5,10 +5,6 @@ use crate::answers::Numbers;
 /// The grid's byte for "no transition".
 pub const NO_TRANSITION: u8 = 255;
 
-/// The bit of a set byte that marks its transition: taking it meets the rule
-/// for good. It stands for no set.
-pub const MARK: u8 = 1 << 7;
-
 /// A rule, as its table or its grid gives it.
 #[derive(Clone, Debug, PartialEq, Eq)]
 pub struct Rule {
@@ -17,8 +13,7 @@ pub struct Rule {
     pub sets: usize,
     /// The map of starting states.
     pub start: u8,
-    /// By letter, state and next state: no transition, or its set byte, which
-    /// has the mark too.
+    /// By letter, state and next state: no transition, or its set byte.
     pub moves: Vec<Vec<Vec<Option<u8>>>>,
 }
 
@@ -34,24 +29,10 @@ fn check_numbers(numbers: Numbers) -> Result<(), u8> {
     Ok(())
 }
 
-/// Has a map no bit from n up?
-fn map_fits(map: u8, states: usize) -> bool {
-    u16::from(map) >> states == 0
-}
-
-/// Has a set byte no bit from k up, the mark left aside?
-fn set_byte_fits(byte: u8, sets: usize) -> bool {
-    (byte & !MARK) >> sets == 0
-}
-
-/// The next cell byte: is it there (4), does it fit under its limit (5)?
-fn cell_byte(
-    bytes: &mut std::slice::Iter<u8>,
-    fits: fn(u8, usize) -> bool,
-    limit: usize,
-) -> Result<u8, u8> {
+/// The next cell byte: is it there (4), has it no bit from `limit` up (5)?
+fn cell_byte(bytes: &mut std::slice::Iter<u8>, limit: usize) -> Result<u8, u8> {
     let byte = *bytes.next().ok_or(4)?;
-    if !fits(byte, limit) {
+    if u16::from(byte) >> limit != 0 {
         return Err(5);
     }
     Ok(byte)
@@ -63,11 +44,11 @@ fn cell(
     states: usize,
     sets: usize,
 ) -> Result<Vec<Option<u8>>, u8> {
-    let map = cell_byte(bytes, map_fits, states)?;
+    let map = cell_byte(bytes, states)?;
     let mut row = vec![None; states];
     for (next, place) in row.iter_mut().enumerate() {
         if map >> next & 1 == 1 {
-            *place = Some(cell_byte(bytes, set_byte_fits, sets)?);
+            *place = Some(cell_byte(bytes, sets)?);
         }
     }
     Ok(row)
@@ -100,7 +81,7 @@ impl Rule {
     pub fn from_grid(numbers: Numbers, grid: &[u8]) -> Result<Rule, u8> {
         check_numbers(numbers)?;
         let Numbers { states, letters, sets, start } = numbers;
-        let fits = |byte: &u8| *byte == NO_TRANSITION || set_byte_fits(*byte, sets);
+        let fits = |byte: &u8| *byte == NO_TRANSITION || *byte < 1 << sets;
         if grid.len() != letters * states * states || !grid.iter().all(fits) {
             return Err(11);
         }
@@ -157,10 +138,5 @@ impl Rule {
     /// The states reached by transitions of one set (1 to k).
     pub fn successors_by(&self, letter: u8, from: u8, set: u8) -> u8 {
         self.reached(letter, from, |sets| sets >> (set - 1) & 1 == 1)
-    }
-
-    /// Has one of these states a marked transition on a letter?
-    pub fn has_mark(&self, letter: u8, from: u8) -> bool {
-        self.reached(letter, from, |sets| sets & MARK != 0) != 0
     }
 }

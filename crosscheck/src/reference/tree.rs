@@ -15,17 +15,12 @@ pub struct Node {
     pub children: Vec<Node>,
 }
 
-/// A tree is its root. The dead tree and the met tree have no node.
-#[derive(Clone, Debug, PartialEq, Eq, Hash)]
-pub enum Tree {
-    Root(Node),
-    Dead,
-    Met,
-}
+/// A tree is its root; the dead tree has no node.
+pub type Tree = Option<Node>;
 
 /// The starting tree: the root alone, the starting states, active set 1.
 pub fn starting_tree(rule: &Rule) -> Tree {
-    Tree::Root(Node { label: rule.start, active: 1, children: Vec::new() })
+    Some(Node { label: rule.start, active: 1, children: Vec::new() })
 }
 
 /// The nodes in number order, each with its name.
@@ -39,7 +34,7 @@ fn listed(tree: &Tree) -> Vec<(Name, &Node)> {
         }
     }
     let mut list = Vec::new();
-    if let Tree::Root(root) = tree {
+    if let Some(root) = tree {
         visit(root, Name::new(), &mut list);
     }
     list
@@ -52,11 +47,7 @@ pub fn names(tree: &Tree) -> Vec<Name> {
 
 /// The record of a tree.
 pub fn record(tree: &Tree) -> Vec<u8> {
-    let root = match tree {
-        Tree::Root(root) => root,
-        Tree::Dead => return vec![0],
-        Tree::Met => return vec![0, 0xff],
-    };
+    let Some(root) = tree else { return vec![0] };
     let list = listed(tree);
     let mut bytes = vec![root.label];
     for state in (0..8).filter(|state| root.label >> state & 1 == 1) {
@@ -93,22 +84,15 @@ fn built(entries: &[Entry], place: &mut usize) -> Node {
 
 /// The tree that has this record, if there is one over the rule's n and k.
 pub fn from_record(bytes: &[u8], rule: &Rule) -> Option<Tree> {
-    match bytes {
-        [0] => Some(Tree::Dead),
-        [0, 0xff] => Some(Tree::Met),
-        [] | [0, ..] => None,
-        [map, rest @ ..] => root_from(*map, rest, rule).map(Tree::Root),
+    let map = *bytes.first()?;
+    if map == 0 {
+        return (bytes.len() == 1).then_some(None);
     }
-}
-
-/// The root that has a record with this map, which is not empty, and these
-/// bytes behind it.
-fn root_from(map: u8, rest: &[u8], rule: &Rule) -> Option<Node> {
     let count = map.count_ones() as usize;
-    if u16::from(map) >> rule.states != 0 {
+    if u16::from(map) >> rule.states != 0 || bytes.len() < 1 + count {
         return None;
     }
-    let (hosts, nodes) = rest.split_at_checked(count)?;
+    let (hosts, nodes) = bytes[1..].split_at(count);
     let mut entries = Vec::new();
     for byte in nodes {
         entries.push(Entry { depth: byte / 16, active: byte % 16, hosted: 0 });
@@ -117,7 +101,7 @@ fn root_from(map: u8, rest: &[u8], rule: &Rule) -> Option<Node> {
     for (state, host) in states.zip(hosts) {
         entries.get_mut(*host as usize)?.hosted |= 1 << state;
     }
-    allowed(&entries, rule).then(|| built(&entries, &mut 0))
+    allowed(&entries, rule).then(|| Some(built(&entries, &mut 0)))
 }
 
 /// Hosts, active sets and depths as they must be.
@@ -214,25 +198,16 @@ fn settle(node: Growing, name: Name, stepped: &mut Stepped) -> Node {
     Node { label: node.label, active: node.active, children }
 }
 
-/// A tree with no node after a letter: no old node accepts or is stable.
-fn without_nodes(tree: Tree) -> Stepped {
-    Stepped { tree, accepting: Vec::new(), stable: Vec::new() }
-}
-
-/// One letter. The trees without a node step to themselves, and any other one
-/// to the met tree if the root's label has a marked transition on the letter.
+/// One letter.
 pub fn step(tree: &Tree, rule: &Rule, letter: u8) -> Stepped {
-    let Tree::Root(root) = tree else { return without_nodes(tree.clone()) };
-    if rule.has_mark(letter, root.label) {
-        return without_nodes(Tree::Met);
-    }
+    let mut stepped = Stepped { tree: None, accepting: Vec::new(), stable: Vec::new() };
+    let Some(root) = tree else { return stepped };
     let mut grown = grow(root, Name::new(), rule, letter);
     part_siblings(&mut grown);
-    let mut stepped = without_nodes(Tree::Dead);
     if grown.label == 0 {
         return stepped;
     }
     accept(&mut grown, rule.sets);
-    stepped.tree = Tree::Root(settle(grown, Name::new(), &mut stepped));
+    stepped.tree = Some(settle(grown, Name::new(), &mut stepped));
     stepped
 }

@@ -4,7 +4,6 @@
 //!
 //! Either way the tail is read once, for all states it may begin in at once.
 
-use super::marks::Moving;
 use super::table::{Build, Move, SPREAD};
 
 /// The transitions of each letter, as a list and as rows: byte q the next
@@ -31,20 +30,17 @@ impl Moves {
 
     /// The states some letters lead to.
     fn through(&self, states: u8, letters: &[u8]) -> u64 {
-        letters.iter().fold(states.into(), |states, letter| self.next(states, *letter))
-    }
-}
-
-impl Moving for Moves {
-    #[inline(always)]
-    fn next(&self, states: u64, letter: u8) -> u64 {
-        // Bit q of the states becomes all of byte q.
-        let apart = (states * ONES) & 0x8040_2010_0804_0201;
-        let wide = ((apart + 0x7f * ONES) >> 7 & ONES) * 255;
-        let mut next = self.rows[usize::from(letter & 15)] & wide;
-        next |= next >> 32;
-        next |= next >> 16;
-        (next | next >> 8) & 255
+        let mut states = u64::from(states);
+        for letter in letters {
+            // Bit q of the states becomes all of byte q.
+            let apart = (states * ONES) & 0x8040_2010_0804_0201;
+            let wide = ((apart + 0x7f * ONES) >> 7 & ONES) * 255;
+            let mut next = self.rows[usize::from(letter & 15)] & wide;
+            next |= next >> 32;
+            next |= next >> 16;
+            states = (next | next >> 8) & 255;
+        }
+        states
     }
 }
 

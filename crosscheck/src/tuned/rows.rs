@@ -15,7 +15,7 @@ struct Node {
     label: u8,
     active: u8,
     /// What is counted on it.
-    counted: u8,
+    marks: u8,
 }
 
 #[derive(Clone, Copy)]
@@ -32,8 +32,8 @@ struct Growing {
 
 impl Growing {
     #[inline(always)]
-    fn put(&mut self, depth: usize, label: u8, active: u8, counted: u8) {
-        self.nodes[self.count & 15] = Node { depth: depth as u8, label, active, counted };
+    fn put(&mut self, depth: usize, label: u8, active: u8, marks: u8) {
+        self.nodes[self.count & 15] = Node { depth: depth as u8, label, active, marks };
         self.count += 1;
     }
 }
@@ -54,7 +54,7 @@ impl Rows {
             }
             let word = word(words, node.label.into());
             let label = word as u8 & !taken[depth];
-            growing.put(depth, label, node.active, node.counted);
+            growing.put(depth, label, node.active, node.marks);
             open = depth + 1;
             taken[open & 15] = taken[depth];
             sprouts[open & 15] = (word >> (8 * node.active)) as u8;
@@ -71,7 +71,7 @@ impl Rows {
 impl History for Rows {
     fn starting(start: u8) -> Rows {
         let mut nodes = [Node::default(); 8];
-        nodes[0] = Node { depth: 0, label: start, active: 1, counted: 0 };
+        nodes[0] = Node { depth: 0, label: start, active: 1, marks: 0 };
         Rows { nodes, count: 1 }
     }
 
@@ -85,7 +85,7 @@ impl History for Rows {
 
     fn counting_anew(&self) -> Rows {
         let mut tree = *self;
-        tree.nodes.iter_mut().for_each(|node| node.counted = STABLE);
+        tree.nodes.iter_mut().for_each(|node| node.marks = STABLE);
         tree
     }
 
@@ -118,11 +118,11 @@ impl History for Rows {
             let mut left = *node;
             if full {
                 left.active = if u64::from(node.active) == sets { 1 } else { node.active + 1 };
-                left.counted |= ACCEPTED;
+                left.marks |= ACCEPTED;
                 cut = depth;
             }
-            if COUNT && !(named[depth] && node.counted & STABLE != 0) {
-                left.counted = 0;
+            if COUNT && !(named[depth] && node.marks & STABLE != 0) {
+                left.marks = 0;
             }
             named[depth + 1] = named[depth];
             next.nodes[next.count & 7] = left;
@@ -137,7 +137,7 @@ impl History for Rows {
             if number > 0 {
                 name.follow(usize::from(node.depth));
             }
-            if node.counted == STABLE | ACCEPTED {
+            if node.marks == STABLE | ACCEPTED {
                 return Some(name);
             }
         }

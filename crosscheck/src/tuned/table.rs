@@ -5,8 +5,7 @@
 //! lower four states of a label, one by the upper four. A label's word is
 //! one look into each.
 
-use super::marks::{Marked, Moving};
-use crate::reference::{LONGEST, MARK};
+use super::LONGEST;
 
 /// Words by a label's lower half, then by its upper half.
 pub type Words = [u64; 32];
@@ -25,12 +24,11 @@ pub trait Build {
     fn cell(&mut self, letter: usize, state: usize, map: u8, sets: &[u8]);
 }
 
-/// The numbers of a good table, and where its marks are.
+/// The numbers of a good table.
 pub struct Header {
     pub letters: usize,
     pub sets: usize,
     pub start: u8,
-    pub marked: Marked,
 }
 
 /// The number for a cell that does not hold (4 or 5), found byte by byte.
@@ -41,28 +39,20 @@ fn cell_number(bytes: &[u8], states: usize, sets: usize) -> u8 {
         return 5;
     }
     let present = bytes[1..].iter().take(map.count_ones() as usize);
-    if present.copied().any(|byte| (byte & !MARK) >> sets != 0) {
+    if present.copied().any(|byte| byte >> sets != 0) {
         5
     } else {
         4
     }
 }
 
-/// A cell: its map and set bytes, and whether it has a mark (1 or 0).
-struct Cell<'a> {
-    map: u8,
-    sets: &'a [u8],
-    mark: u8,
-}
-
-/// One cell, and what is behind it.
+/// One cell's map and set bytes, and what is behind them.
 #[inline(always)]
-fn cell(bytes: &[u8], states: usize, sets: usize) -> Option<(Cell<'_>, &[u8])> {
+fn cell(bytes: &[u8], states: usize, sets: usize) -> Option<(u8, &[u8], &[u8])> {
     let (map, rest) = bytes.split_first()?;
     let (here, rest) = rest.split_at_checked(map.count_ones() as usize)?;
     let all = here.iter().fold(0, |all, byte| all | byte);
-    let cell = Cell { map: *map, sets: here, mark: all >> 7 };
-    (u16::from(*map) >> states == 0 && (all & !MARK) >> sets == 0).then_some((cell, rest))
+    (u16::from(*map) >> states == 0 && all >> sets == 0).then_some((*map, here, rest))
 }
 
 /// Questions 1 to 6, and the cells handed on as they come.
@@ -77,21 +67,19 @@ pub fn parse(table: &[u8], build: &mut impl Build) -> Result<Header, u8> {
         return Err(3);
     }
     let mut bytes = cells;
-    let mut marked = [0; 16];
-    for (letter, with_mark) in marked.iter_mut().enumerate().take(m) {
+    for letter in 0..m {
         for state in 0..n {
-            let Some((Cell { map, sets, mark }, rest)) = cell(bytes, n, k) else {
+            let Some((map, sets, rest)) = cell(bytes, n, k) else {
                 return Err(cell_number(bytes, n, k));
             };
             build.cell(letter, state, map, sets);
-            *with_mark |= mark << state;
             bytes = rest;
         }
     }
     if !bytes.is_empty() {
         return Err(6);
     }
-    Ok(Header { letters: m, sets: k, start: *start, marked })
+    Ok(Header { letters: m, sets: k, start: *start })
 }
 
 /// Questions 7 and 8.
@@ -142,14 +130,6 @@ impl Successors {
                 }
             }
         }
-    }
-}
-
-impl Moving for Successors {
-    /// For closed tables.
-    #[inline(always)]
-    fn next(&self, states: u64, letter: u8) -> u64 {
-        word(&self.by_letter[usize::from(letter & 15)], states) & 255
     }
 }
 

@@ -14,7 +14,6 @@ use Rattle.history.specs.Tree.{Node, Tree}
 use Rattle.history.specs.Letter.{sprouted, Grown, child, kept, five_steps, is_old, stable, accepting}
 use Rattle.history.proofs.Step.LocalStep.{new_label, accepts, branch_at, survive, taken, branch_of, taken_at, name_kept, kept_among, accepts_among}
 use Rattle.history.proofs.Tree.Conditions.{OneRoot}
-use Rattle.history.proofs.Step.MetTree.{stable_quiet}
 use Rattle.history.proofs.Step.StepsJoined.{grown, advanced, old_node, begun_from, survivors_steps}
 use Rattle.history.proofs.Names.Names.{same_self, same_equal, parted, longer, any_node, any_weaker}
 use Rattle.history.proofs.Names.Origins.{From, from_begun, grown_branch, grown_begun, steps_root}
@@ -127,9 +126,7 @@ pub accepting_local : (R : Rule) (a : ℕ) (T : Tree) → OneRoot T → (w : Lis
     → accepting R a T w ≡ accepts_among R a 0 T 0 w
 unfolding accepting accepts_among kept_among survive taken branch_at child any_of listing
 accepting_local R a T one w h =
-    let quiet = stable_quiet R a T w h in
-    ap (λ (F : Forest Grown). any_of (Accepted w) (listing F)) (survivors_steps R a T quiet)
-    ∙ go T one (sym (stable_local R a T one quiet w) ∙ h)
+    ap (λ (F : Forest Grown). any_of (Accepted w) (listing F)) (survivors_steps R a T) ∙ go T one (sym (stable_local R a T one w) ∙ h)
   where
     go : (T : Tree) → OneRoot T → kept_among R a 0 T 0 w ≡ true
         → any_of (Accepted w) (listing (five_steps R a T)) ≡ accepts_among R a 0 T 0 w

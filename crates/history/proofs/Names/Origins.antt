@@ -13,7 +13,6 @@ use Rattle.history.specs.Tree.{Node, Tree}
 use Rattle.history.specs.Letter.{sprouted, Grown, begun, child, kept, five_steps, survivors, is_old, stable}
 use Rattle.history.proofs.Step.LocalStep.{new_label, accepts}
 use Rattle.history.proofs.Tree.SetFacts.{nothing_minus}
-use Rattle.history.proofs.Step.MetTree.{stable_quiet}
 use Rattle.history.proofs.Step.StepsJoined.{earlier_node, grown, advanced, grown_new, grown_node, old_node, begun_from, earlier_begun_from, no_sprout, steps_grown, survivors_steps}
 use Rattle.history.proofs.Names.Names.{or_weaker, any_node, any_map, any_change, at_any, named_in, named_tree}
 use Rattle.history.proofs.Names.NamesDistinct.{IsName, name_number}
@@ -59,11 +58,13 @@ module _ (R : Rule) (a : ℕ) where
       (any_map (same_numbers w) (λ x. x.name) (listing (named T)) ∙ sym (any_change (From w) _ (named T))
       ∙ grown_origins w 0 no_sprout (begun T) refl (rw steps_grown at h))
 
+  from_survivors : (w : List ℕ) (T : Tree) → any_of (From w) (listing (survivors R a T)) ≡ true → IsName T w
+  from_survivors w T h = from_steps w T (rw survivors_steps at h)
+
   -- a stable name is the name of an old node
   pub stable_old : (T : Tree) (w : List ℕ) → stable R a T w ≡ true → IsName T w
   unfolding stable
-  stable_old T w h = from_steps w T (rw (survivors_steps R a T (stable_quiet R a T w h)) at
-      (at_any (From w) (survivors R a T) 0 w (sym (named_tree (From w) w (survivors R a T)) ∙ h)))
+  stable_old T w h = from_survivors w T (at_any (From w) (survivors R a T) 0 w (sym (named_tree (From w) w (survivors R a T)) ∙ h))
 
   -- AN OLD NODE AFTER A LETTER
 

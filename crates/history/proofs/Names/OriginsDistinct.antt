@@ -14,9 +14,8 @@ use Rattle.base.proofs.Logic.{look, never}
 use Rattle.rule.specs.Rule.{Rule}
 use Rattle.history.specs.Forest.{Forest, nil, node, change, listing, named, names, same_numbers}
 use Rattle.history.specs.Tree.{Tree}
-use Rattle.history.specs.Letter.{sprouted, Grown, begun, child, kept, five_steps, meets, met_node, survivors, is_old}
+use Rattle.history.specs.Letter.{sprouted, Grown, begun, child, kept, five_steps, survivors, is_old}
 use Rattle.history.proofs.Step.LocalStep.{new_label, accepts}
-use Rattle.history.proofs.Step.MetTree.{survivors_met}
 use Rattle.history.proofs.Step.StepsJoined.{earlier_node, earlier_branch, grown, advanced, grown_new, grown_node, no_sprout, steps_grown, survivors_steps}
 use Rattle.history.proofs.Names.Names.{same_equal}
 use Rattle.history.proofs.Names.NamesDistinct.{names_distinct}
@@ -131,9 +130,7 @@ module _ (R : Rule) (a : ℕ) where
       rw (steps_grown R a T) (omega (arith, grown_fewer w 0 no_sprout (begun T) refl))
 
   single : (T : Tree) (w : List ℕ) → many (From w) (listing (survivors R a T)) ≤ 1
-  unfolding met_node listing many is_old
-  single T w = ⊎_elim (λ met. rw (survivors_met R a T met) (omega arith))
-      (λ quiet. rw (survivors_steps R a T quiet) (steps_single T w)) (look (meets R a T))
+  single T w = rw (survivors_steps R a T) (steps_single T w)
 
   -- two nodes that come from the same old node are the same
   pub origins_distinct : (T : Tree) (w : List ℕ) (d : Grown) (i j : ℕ) → i < length (listing (survivors R a T))

@@ -11,7 +11,7 @@ use Rattle.base.proofs.Logic.{clash, never}
 use Rattle.rule.specs.Rule.{Rule}
 use Rattle.history.specs.Forest.{Forest, nil, node, change, listing, named_from, same_numbers}
 use Rattle.history.specs.Tree.{Node, Tree}
-use Rattle.history.specs.Letter.{sprouted, Grown, child, kept, five_steps, meets, survivors, is_old, stable}
+use Rattle.history.specs.Letter.{sprouted, Grown, child, kept, five_steps, survivors, is_old, stable}
 use Rattle.history.proofs.Step.LocalStep.{new_label, accepts, branch_at, survive, taken, name_kept, kept_among}
 use Rattle.history.proofs.Tree.Conditions.{OneRoot}
 use Rattle.history.proofs.Step.StepsJoined.{grown, advanced, old_node, begun_from, survivors_steps}
@@ -109,12 +109,11 @@ module _ (R : Rule) (a : ℕ) where
       (not_before w p u (c + suc i) held new (suc c) (suc i) u younger e is (omega arith))
       (siblings_stable w p u held new (suc c) i younger e (is ∙ ap (λ (m : ℕ). p ++ (m ∷ u)) (omega arith)))
 
--- "An old node is stable if it survives with its name unchanged": it is stable from the root down, where the letter does not meet the rule
-pub stable_local : (R : Rule) (a : ℕ) (T : Tree) → OneRoot T → meets R a T ≡ false → (w : List ℕ)
-    → stable R a T w ≡ kept_among R a 0 T 0 w
+-- "An old node is stable if it survives with its name unchanged": it is stable from the root down
+pub stable_local : (R : Rule) (a : ℕ) (T : Tree) → OneRoot T → (w : List ℕ) → stable R a T w ≡ kept_among R a 0 T 0 w
 unfolding stable kept_among survive taken branch_at at_place child
-stable_local R a T one quiet w =
-    named_tree (From w) w (survivors R a T) ∙ ap (λ (F : Forest Grown). at_place (From w) F 0 w) (survivors_steps R a T quiet) ∙ go T one
+stable_local R a T one w =
+    named_tree (From w) w (survivors R a T) ∙ ap (λ (F : Forest Grown). at_place (From w) F 0 w) (survivors_steps R a T) ∙ go T one
   where
     go : (T : Tree) → OneRoot T → at_place (From w) (five_steps R a T) 0 w ≡ kept_among R a 0 T 0 w
     go nil one = ap (λ (F : Forest Grown). at_place (From w) F 0 w) (steps_dead R a)

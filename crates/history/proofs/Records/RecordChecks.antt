@@ -1,5 +1,4 @@
--- The checks of specs/inner/RecordChecks.antt are question 9 but for the met tree: bytes pass them exactly where they are the record of some
--- tree over n and k.
+-- The checks of specs/inner/RecordChecks.antt are question 9: bytes pass them exactly where they are the record of some tree.
 use mathlib.Core.Path.{◌≡◌, refl, sym, ◌∙◌, ap, ap₂}
 use mathlib.Core.Bool.{Bool, true, false, ◌&&◌, cond}
 use mathlib.Core.List.{List, [], ◌∷◌, ◌++◌, map}
@@ -18,8 +17,8 @@ use Rattle.base.proofs.Every.{below_at, below_in, found_at, found_in}
 use Rattle.base.proofs.Logic.{clash, bool_ext, and_both, and_in}
 use Rattle.base.proofs.BitSet.{member_lt, set_ext}
 use Rattle.history.specs.Forest.{nil, node, size}
-use Rattle.history.specs.Tree.{Node, Tree, is_tree, met_tree}
-use Rattle.history.specs.Record.{host, members, rank, tags, record_of, hosted_in, decoded, is_record, is_met_record, read_tree}
+use Rattle.history.specs.Tree.{Node, Tree, is_tree}
+use Rattle.history.specs.Record.{host, members, rank, tags, record_of, hosted_in, decoded, is_record, read_tree}
 use Rattle.history.specs.Inner.RecordChecks.{is_host, all_host, tags_fit, body_fits, record_checks}
 use Rattle.history.proofs.Tree.Conditions.{Active, fits_active, IsTree, tree_out, tree_in}
 use Rattle.history.proofs.Tree.Hosts.{host_to, each_hosts}
@@ -27,7 +26,7 @@ use Rattle.history.proofs.Records.HostLabels.{relabelled, ByNumber, relabelled_h
 use Rattle.history.proofs.Records.Members.{rank_all, rank_onto, rank_lt, length_members, map_at_rank, map_members, map_ranks}
 use Rattle.history.proofs.Records.RecordOfTree.{length_tags, hosted_law, root_states, record_length}
 use Rattle.history.proofs.Records.Tags.{tags_relabelled, tags_in, tags_out}
-use Rattle.history.proofs.Records.QuestionNine.{tree_record_exact}
+use Rattle.history.proofs.Records.QuestionNine.{is_record_exact}
 
 -- WHAT THE CHECKS OF HOSTS SAY
 
@@ -199,12 +198,11 @@ checks_out n k (s ∷ left) h = go (eqb s 0) refl h
           record_is n k s hosts ends all many low each x down whole active ∙ ap (λ (v : List ℕ). s ∷ v) parts,
         )
 
--- the checks are question 9 but for the met tree, and reading goes by them
+-- the checks are question 9, and reading goes by them
 pub checks_exact : (n k : ℕ) (bytes : List ℕ) → k < 16 → record_checks n k bytes ≡ is_record n k bytes
-checks_exact n k bytes h = bool_ext _ _ (λ c. (tree_record_exact n k bytes h).1 (checks_out n k bytes c))
-    (λ c. let (T, t, e) = (tree_record_exact n k bytes h).0 c in ap (record_checks n k) (sym e) ∙ checks_in n k T t h)
+checks_exact n k bytes h = bool_ext _ _ (λ c. (is_record_exact n k bytes h).1 (checks_out n k bytes c))
+    (λ c. let (T, t, e) = (is_record_exact n k bytes h).0 c in ap (record_checks n k) (sym e) ∙ checks_in n k T t h)
 
-pub read_by_checks : (n k : ℕ) (bytes : List ℕ) → k < 16
-    → read_tree n k bytes ≡ cond (is_met_record bytes) (accepted met_tree) (ask (record_checks n k bytes) 9 (accepted (decoded n bytes)))
+pub read_by_checks : (n k : ℕ) (bytes : List ℕ) → k < 16 → read_tree n k bytes ≡ ask (record_checks n k bytes) 9 (accepted (decoded n bytes))
 unfolding read_tree
-read_by_checks n k bytes h = rw (checks_exact n k bytes h)
+read_by_checks n k bytes h = ap (λ (b : Bool). ask b 9 (accepted (decoded n bytes))) (sym (checks_exact n k bytes h))

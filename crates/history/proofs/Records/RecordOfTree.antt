@@ -98,7 +98,7 @@ hosted_law n s hosts number small e = record {
 -- THE TREE OF A RECORD
 
 -- decoding a live record: its map, its hosts and its tags
-pub decoded_parts : (n s : ℕ) (hosts left : List ℕ) → length hosts ≡ ones s
+decoded_parts : (n s : ℕ) (hosts left : List ℕ) → length hosts ≡ ones s
     → decoded n (s ∷ (hosts ++ left)) ≡ (planted (length left) (hosted_in n s hosts) 0 0 left).0
 unfolding decoded
 decoded_parts n s hosts left e = ap₂ (λ (h l : List ℕ). (planted (length l) (hosted_in n s h) 0 0 l).0)

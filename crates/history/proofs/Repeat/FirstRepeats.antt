@@ -7,7 +7,6 @@ use Prim.Native.Nat.{ℕ, zero, suc, ◌+◌, ◌*◌, ◌-◌, ◌/◌, ◌%◌
 use native.Mathlib.Omega.{arith}
 use native.Mathlib.Nat.{mod-lt, div-add-mod', mul-le-mul_right, add-suc, add-zero}
 use native.Mathlib.Decide.{dec_le, dec_lt, ℕ_discrete, map_dec}
-use native.Mathlib.Numerals.{add-one}
 use Rattle.word.proofs.Pigeonhole.{pigeonhole}
 use Rattle.history.specs.Rounds.{FirstRepeat}
 
@@ -114,14 +113,6 @@ module _ {A : Type 0} (t : ℕ → A) (f : A → A) (next : (r : ℕ) → t (suc
   pub same_after : (i j d : ℕ) → t i ≡ t j → t (i + d) ≡ t (j + d)
   same_after i j zero e = rw (add-zero, add-zero) e
   same_after i j (suc d) e = simp (add-suc, next) (ap f (same_after i j d e))
-
-  -- a value that is its own next one repeats at once, where it comes first
-  pub repeat_fixed : (r : ℕ) → f (t r) ≡ t r → ((i : ℕ) → i < r → t i ≡ t r → ⊥) → FirstRepeat t r 1
-  repeat_fixed r fixed before = record {
-    positive = omega arith;
-    back = sym (ap t (add-one r) ∙ next r ∙ fixed);
-    first = λ i j l h e. let z : j + (r - j) ≡ r = omega arith in before (i + (r - j)) (omega arith) (rw z at (same_after i j (r - j) e));
-  }
 
   module _ (entry period : ℕ) (F : FirstRepeat t entry period) where
     -- from the entry on everything repeats with the period

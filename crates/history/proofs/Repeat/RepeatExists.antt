@@ -10,7 +10,7 @@ use Rattle.rule.specs.Limits.{max_states, max_sets}
 use Rattle.rule.specs.Rule.{Rule}
 use Rattle.rule.specs.WellFormed.{WellFormed}
 use Rattle.word.specs.Walk.{rounds}
-use Rattle.history.specs.Tree.{Tree, is_met_or_tree, is_tree_of, start_tree}
+use Rattle.history.specs.Tree.{Tree, is_tree, is_tree_of, start_tree}
 use Rattle.history.specs.Rounds.{read_letters, round_tree, FirstRepeat}
 use Rattle.history.proofs.Step.TreesOf.{of_tree, next_is_tree, start_is_tree}
 use Rattle.history.proofs.Repeat.TreeCode.{tree_code, code_lt, code_injective}
@@ -31,7 +31,7 @@ module _ (R : Rule) (well : WellFormed R) (sets : 1 ≤ R.sets) where
       → (entry : ℕ) × (period : ℕ) × FirstRepeat (round_tree R u v) entry period × (entry + period < 2 ^ 63)
   repeat_exists few few-sets u v =
       let t = round_tree R u v in
-      let tree : (i : ℕ) → is_met_or_tree R.states R.sets (t i) ≡ true = λ i. sym (of_tree R (t i)) ∙ round_is_tree u v i in
+      let tree : (i : ℕ) → is_tree R.states R.sets (t i) ≡ true = λ i. sym (of_tree R (t i)) ∙ round_is_tree u v i in
       let (e, p, first, small) = repeats t (tree_code R.states)
       (λ i j same. code_injective R.states R.sets (t i) (t j) (tree i) (tree j) few few-sets same)
       (2 ^ 63 - 1) (λ i. code_lt R.states R.sets (t i) (tree i) few few-sets) in

@@ -1,9 +1,8 @@
 -- "There are fewer than 2^63 trees": each tree within the limits has a number below 2^63, and no two have the same. The number
 -- says for each of at most eight states whether it is in the tree and which node hosts it (nine possibilities each), the root's
--- active set (four), and of each other node the depth and the active set (eight times four). The met tree has a number of its own, above
--- these. The number is never computed.
+-- active set (four), and of each other node the depth and the active set (eight times four). The number is never computed.
 use mathlib.Core.Path.{◌≡◌, refl, sym, ◌∙◌, ap, ap₂}
-use mathlib.Core.Logic.{◌⊎◌, inl, inr, ⊎_elim}
+use mathlib.Core.Logic.{⊎_elim}
 use mathlib.Core.Bool.{true, false, cond}
 use mathlib.Core.List.{List, ◌∷◌, ◌++◌, map}
 use Prim.Native.Nat.{ℕ, zero, suc, ◌+◌, ◌*◌, ◌-◌, ◌/◌, ◌%◌, ◌^◌, ◌≤◌, ◌<◌}
@@ -20,11 +19,10 @@ use Rattle.base.proofs.Logic.{look, bool_ext}
 use Rattle.base.proofs.BitSet.{member_lt, set_ext}
 use Rattle.rule.specs.Limits.{max_states, max_sets}
 use Rattle.history.specs.Forest.{nil, node, size}
-use Rattle.history.specs.Tree.{Tree, labels, is_tree, met_tree, is_met, is_met_or_tree}
+use Rattle.history.specs.Tree.{Tree, labels, is_tree}
 use Rattle.history.specs.Record.{host, members, tags, record_of}
 use Rattle.history.proofs.Tree.Conditions.{Active, fits_active, IsTree, tree_nested, tree_out}
 use Rattle.history.proofs.Tree.Hosts.{host_to, each_hosts, size_labels}
-use Rattle.history.proofs.Step.MetTree.{is_met_lem, tree_unmet, met_or_tree}
 use Rattle.history.proofs.Records.Members.{map_members}
 use Rattle.history.proofs.Records.RecordOfTree.{length_tags, root_states}
 use Rattle.history.proofs.Records.QuestionNine.{record_injective}
@@ -44,13 +42,9 @@ tag_digit m = 4 * (m / 16) + (m % 16 - 1)
 node_digit : Tree → ℕ → ℕ
 node_digit T i = tag_digit (get_or (tags 0 T) i 0)
 
--- of a tree that is not met
-nodes_code : ℕ → Tree → ℕ
-nodes_code n T = (positional 9 (host_digit T) n * 4 + node_digit T 0) * 2 ^ 35 + positional 32 (λ i. node_digit T (suc i)) 7
-
 -- of a tree
 pub tree_code : ℕ → Tree → ℕ
-tree_code n T = cond (is_met T) (2 ^ 63 - 2) (nodes_code n T)
+tree_code n T = (positional 9 (host_digit T) n * 4 + node_digit T 0) * 2 ^ 35 + positional 32 (λ i. node_digit T (suc i)) 7
 
 -- TAGS
 
@@ -112,24 +106,11 @@ module _ (n k : ℕ) (T : Tree) (t : IsTree n k T) (hn : n ≤ max_states) (hk :
   nodes_lt : positional 32 (λ i. node_digit T (suc i)) 7 < 2 ^ 35
   nodes_lt = positional_lt 32 (λ i. node_digit T (suc i)) 7 (λ i _. node_digit_lt (suc i))
 
--- the number of a tree over n and k is below that of the met tree, and so that of each tree below 2^63 − 1
-nodes_code_lt : (n k : ℕ) (T : Tree) → is_tree n k T ≡ true → n ≤ max_states → k ≤ max_sets → nodes_code n T < 2 ^ 63 - 2
-unfolding nodes_code
-nodes_code_lt n k T t hn hk = let w = tree_out n k T t in
+-- the number of a tree is below 2^63 − 1
+pub code_lt : (n k : ℕ) (T : Tree) → is_tree n k T ≡ true → n ≤ max_states → k ≤ max_sets → tree_code n T < 2 ^ 63 - 1
+unfolding tree_code
+code_lt n k T t hn hk = let w = tree_out n k T t in
     omega (arith, hosts_lt n k T w hn hk, root_digit_lt n k T w hn hk, nodes_lt n k T w hn hk)
-
--- by which of the two a tree is
-met_code : (n : ℕ) → tree_code n met_tree ≡ 2 ^ 63 - 2
-unfolding tree_code
-met_code n = rw is_met_lem
-
-tree_code_lem : (n k : ℕ) (T : Tree) → is_tree n k T ≡ true → tree_code n T ≡ nodes_code n T
-unfolding tree_code
-tree_code_lem n k T t = rw (tree_unmet n k T t)
-
-pub code_lt : (n k : ℕ) (T : Tree) → is_met_or_tree n k T ≡ true → n ≤ max_states → k ≤ max_sets → tree_code n T < 2 ^ 63 - 1
-code_lt n k T t hn hk = ⊎_elim (λ e. rw e (omega (arith, met_code n)))
-    (λ t. omega (arith, tree_code_lem n k T t, nodes_code_lt n k T t hn hk)) (met_or_tree n k T t)
 
 -- NO TWO TREES HAVE THE SAME
 
@@ -179,13 +160,12 @@ same_record n k (node x below nil) (node y down nil) t u s h m =
     map_members (host T) (host U) n x.label (λ q _ g. h q (rw (root_states x below) g)) in
     ap₂ (λ (a b : List ℕ). x.label ∷ (a ++ b)) hosts m ∙ ap (λ (c : ℕ). c ∷ (map (host U) (members n c) ++ tags 0 U)) root
 
--- trees over n and k with the same number are the same
-nodes_code_injective : (n k : ℕ) (T U : Tree) → is_tree n k T ≡ true → is_tree n k U ≡ true → n ≤ max_states → k ≤ max_sets
-    → nodes_code n T ≡ nodes_code n U → T ≡ U
-unfolding nodes_code node_digit
-nodes_code_injective n k T U t u hn hk e =
-    record_injective n k T U (λ _. tree_nested n k T wt) (λ _. tree_nested n k U wu) (omega arith)
-    (same_record n k T U wt wu (set_ext _ _ (λ q. bool_ext _ _ (held_too n k T U wt wu hosts q)
+-- trees with the same number are the same
+pub code_injective : (n k : ℕ) (T U : Tree) → is_tree n k T ≡ true → is_tree n k U ≡ true → n ≤ max_states → k ≤ max_sets
+    → tree_code n T ≡ tree_code n U → T ≡ U
+unfolding tree_code node_digit
+code_injective n k T U t u hn hk e =
+    record_injective n k T U (tree_nested n k T wt) (tree_nested n k U wu) (omega arith) (same_record n k T U wt wu (set_ext _ _ (λ q. bool_ext _ _ (held_too n k T U wt wu hosts q)
     (held_too n k U T wu wt (λ q l. sym (hosts q l)) q))) (same_host n k T U wt wu hosts) nodes)
   where
     wt : IsTree n k T
@@ -220,18 +200,3 @@ nodes_code_injective n k T U t u hn hk e =
         same_tag (get_or (tags 0 T) i 0) (get_or (tags 0 U) i 0) (every_at TagFits (tags 0 T) i 0 (all_tags n k T wt hn hk) l)
         (every_at TagFits (tags 0 U) i 0 (all_tags n k U wu hn hk) (omega (arith, length_tags 0 T, length_tags 0 U, many)))
         (digit i (omega (arith, length_tags 0 T, few n k T wt hn hk))))
-
--- and so are all trees
-pub code_injective : (n k : ℕ) (T U : Tree) → is_met_or_tree n k T ≡ true → is_met_or_tree n k U ≡ true → n ≤ max_states → k ≤ max_sets
-    → tree_code n T ≡ tree_code n U → T ≡ U
-code_injective n k T U t u hn hk e = go (met_or_tree n k T t) (met_or_tree n k U u)
-  where
-    -- no tree over n and k has the number of the met tree
-    apart : (T U : Tree) → T ≡ met_tree → is_tree n k U ≡ true → tree_code n T ≡ tree_code n U → ⊥
-    apart T U m w e = let z : tree_code n T ≡ 2 ^ 63 - 2 = rw m (met_code n) in omega (arith, tree_code_lem n k U w, nodes_code_lt n k U w hn hk)
-
-    go : (T ≡ met_tree) ⊎ (is_tree n k T ≡ true) → (U ≡ met_tree) ⊎ (is_tree n k U ≡ true) → T ≡ U
-    go (inl m) (inl m') = m ∙ sym m'
-    go (inl m) (inr w') = absurd (apart T U m w' e)
-    go (inr w) (inl m') = absurd (apart U T m' w (sym e))
-    go (inr w) (inr w') = nodes_code_injective n k T U w w' hn hk (sym (tree_code_lem n k T w) ∙ e ∙ tree_code_lem n k U w')

@@ -1,5 +1,5 @@
--- The root by itself, one letter that does not meet the rule: its label, the union of its children's labels and its active set after the
--- letter depend on these three alone. Where it has no child, it is the whole tree.
+-- The root by itself, one letter: its label, the union of its children's labels and its active set after the letter depend on these
+-- three alone. Where it has no child, it is the whole tree.
 use mathlib.Core.Path.{◌≡◌, refl, sym, ◌∙◌, ap}
 use mathlib.Core.Bool.{Bool, true, false, ◌||◌, and-true}
 use mathlib.Core.List.{[]}
@@ -12,15 +12,14 @@ use Rattle.base.specs.BitSet.{member, minus}
 use Rattle.base.proofs.Logic.{clash, never}
 use Rattle.base.proofs.BitSet.{member_none, member_union, member_minus, empty_set, set_ext}
 use Rattle.rule.specs.Rule.{Rule, successors}
-use Rattle.rule.proofs.Successors.{successors_none}
 use Rattle.history.specs.Forest.{nil, node}
-use Rattle.history.specs.Tree.{Node, Tree, labels, is_met, is_tree_of}
-use Rattle.history.specs.Letter.{next_set, meets, next_tree, stable, accepting}
+use Rattle.history.specs.Tree.{Node, Tree, labels, is_tree_of}
+use Rattle.history.specs.Letter.{next_set, next_tree, stable, accepting}
 use Rattle.history.specs.Inner.Root.{Root, Shows, settled_root, root_kids, root_letter}
 use Rattle.history.proofs.Tree.SetFacts.{nothing_minus}
 use Rattle.history.proofs.Tree.Conditions.{OneRoot, Fits}
 use Rattle.history.proofs.Step.LocalStep.{settled, settle, new_label, sprout_of, step, branch_at, survive, taken, new_below, accepts, branch_of, taken_at, name_kept, kept_among, accepts_among}
-use Rattle.history.proofs.Step.LabelsOfStep.{labels_step}
+use Rattle.history.proofs.Step.LabelsOfStep.{successors_none, labels_step}
 use Rattle.history.proofs.Step.StepsJoined.{next_tree_step}
 use Rattle.history.proofs.Step.TreesOf.{of_out}
 use Rattle.history.proofs.Names.StableNames.{stable_local}
@@ -93,9 +92,8 @@ shows_node R a r x below shows =
     (settled_shows R a r x _ (kids_step R a r x below nil shows) shows.0 shows.2)
 
 -- THE ROOT GOES ON BY ITSELF
-pub shows_letter : (R : Rule) (a : ℕ) (r : Root) (T : Tree) → OneRoot T → meets R a T ≡ false → Shows r T
-    → Shows (root_letter R a r) (next_tree R a T)
-shows_letter R a r T one quiet h = rw (next_tree_step R a T one quiet) (go T one h)
+pub shows_letter : (R : Rule) (a : ℕ) (r : Root) (T : Tree) → OneRoot T → Shows r T → Shows (root_letter R a r) (next_tree R a T)
+shows_letter R a r T one h = rw (next_tree_step R a T one) (go T one h)
   where
     go : (T : Tree) → OneRoot T → Shows r T → Shows (root_letter R a r) (step R a 0 0 T)
     go nil one h = rw (no_sprout_lem R a 0) (letter_label R a r ∙ ap (successors R a) h ∙ successors_none R a)
@@ -110,9 +108,9 @@ none_below k nil fits h = refl
 none_below k (node x below younger) (own, _, _) h = absurd (own.nonempty (union_none x.label (labels younger) h))
 
 -- a root without children is the whole tree
-pub alone : (R : Rule) (r : Root) (T : Tree) → is_tree_of R T ≡ true → is_met T ≡ false → Shows r T → r.kids ≡ 0 → (r.label ≡ 0 → ⊥)
+pub alone : (R : Rule) (r : Root) (T : Tree) → is_tree_of R T ≡ true → Shows r T → r.kids ≡ 0 → (r.label ≡ 0 → ⊥)
     → T ≡ node (record { label = r.label; active = r.active }) nil nil
-alone R r T tree unmet h none alive = let t = of_out R T tree unmet in go T t.one_root t.fits h
+alone R r T tree h none alive = let t = of_out R T tree in go T t.one_root t.fits h
   where
     go : (T : Tree) → OneRoot T → Fits R.sets T → Shows r T → T ≡ node (record { label = r.label; active = r.active }) nil nil
     go nil one fits h = absurd (alive h)
@@ -120,8 +118,8 @@ alone R r T tree unmet h none alive = let t = of_out R T tree unmet in go T t.on
     go (node x below (node y other younger)) one fits h = absurd one
 
 -- and one without states is that of the dead tree
-pub dead : (R : Rule) (r : Root) (T : Tree) → is_tree_of R T ≡ true → is_met T ≡ false → Shows r T → r.label ≡ 0 → T ≡ nil
-dead R r T tree unmet h none = go T (of_out R T tree unmet).fits h
+pub dead : (R : Rule) (r : Root) (T : Tree) → is_tree_of R T ≡ true → Shows r T → r.label ≡ 0 → T ≡ nil
+dead R r T tree h none = go T (of_out R T tree).fits h
   where
     go : (T : Tree) → Fits R.sets T → Shows r T → T ≡ nil
     go nil fits h = refl
@@ -138,11 +136,11 @@ root_local R a r (node x below nil) one h alive =
     (rw (minus_none, ← h.0, ne_eqb (successors R a r.label) 0 alive), rw (minus_none, kids_step R a r x below nil h, h.0))
 root_local R a r (node x below (node y other younger)) one h alive = absurd one
 
-pub root_stable : (R : Rule) (a : ℕ) (r : Root) (T : Tree) → OneRoot T → meets R a T ≡ false → Shows r T
-    → (successors R a r.label ≡ 0 → ⊥) → stable R a T [] ≡ true
-root_stable R a r T one quiet h alive = stable_local R a T one quiet [] ∙ (root_local R a r T one h alive).0
+pub root_stable : (R : Rule) (a : ℕ) (r : Root) (T : Tree) → OneRoot T → Shows r T → (successors R a r.label ≡ 0 → ⊥)
+    → stable R a T [] ≡ true
+root_stable R a r T one h alive = stable_local R a T one [] ∙ (root_local R a r T one h alive).0
 
-pub root_accepting : (R : Rule) (a : ℕ) (r : Root) (T : Tree) → OneRoot T → meets R a T ≡ false → Shows r T
-    → (successors R a r.label ≡ 0 → ⊥) → accepting R a T [] ≡ eqb (successors R a r.label) (root_kids R a r)
-root_accepting R a r T one quiet h alive =
-    accepting_local R a T one [] (root_stable R a r T one quiet h alive) ∙ (root_local R a r T one h alive).1
+pub root_accepting : (R : Rule) (a : ℕ) (r : Root) (T : Tree) → OneRoot T → Shows r T → (successors R a r.label ≡ 0 → ⊥)
+    → accepting R a T [] ≡ eqb (successors R a r.label) (root_kids R a r)
+root_accepting R a r T one h alive =
+    accepting_local R a T one [] (root_stable R a r T one h alive) ∙ (root_local R a r T one h alive).1

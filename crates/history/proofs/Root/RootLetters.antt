@@ -1,5 +1,5 @@
--- The root by itself, after some letters of which none meets the rule: where it has no child the tree is known, whatever lay below it before;
--- it has kept its name, and was accepting where it says so. So both maps of the followed nodes are known there, too.
+-- The root by itself, after some letters: where it has no child the tree is known, whatever lay below it before; it has kept its name,
+-- and was accepting where it says so. So both maps of the followed nodes are known there, too.
 use mathlib.Core.Path.{◌≡◌, refl, sym, ◌∙◌, ap, subst}
 use mathlib.Core.Bool.{Bool, true, false, ◌&&◌, ◌||◌, or_assoc, or_comm, cond}
 use mathlib.Core.List.{List, [], ◌∷◌, ◌++◌}
@@ -13,19 +13,18 @@ use Rattle.base.proofs.Logic.{and_in}
 use Rattle.base.proofs.BitSet.{member_zero, bit_member, member_union}
 use Rattle.rule.specs.Rule.{Rule, successors}
 use Rattle.rule.specs.WellFormed.{WellFormed}
-use Rattle.rule.proofs.Successors.{successors_none}
 use Rattle.history.specs.Forest.{nil, node, size, named, names, listing}
-use Rattle.history.specs.Tree.{Tree, Node, labels, is_met, is_tree_of}
+use Rattle.history.specs.Tree.{Tree, Node, labels, is_tree_of}
 use Rattle.history.specs.Letter.{next_tree, by_number}
 use Rattle.history.specs.Rounds.{read_letters}
 use Rattle.history.specs.Inner.Following.{stable_through, accepting_once, kept_map, witness_map}
 use Rattle.history.specs.Inner.Root.{Root, Shows, lone_tree, settled_root, root_kids, root_letter, root_letters}
 use Rattle.history.proofs.Repeat.RepeatExists.{letters_keep}
 use Rattle.history.proofs.Root.RootLetter.{letter_label, shows_letter, alone, dead, root_stable, root_accepting}
+use Rattle.history.proofs.Step.LabelsOfStep.{successors_none}
 use Rattle.history.proofs.Step.TreesOf.{of_root, next_is_tree}
 use Rattle.history.proofs.Verdict.FollowingLaws.{stable_append, accepting_append, member_by}
 use Rattle.history.proofs.Walk.TreesOfWalk.{read_append}
-use Rattle.history.proofs.Walk.MetTrees.{quiet_at}
 
 -- each tree has a root that shows it
 unfoldable root_of : Tree → Root
@@ -86,60 +85,53 @@ low_bit m b =
 
 module _ (R : Rule) (well : WellFormed R) (sets : 1 ≤ R.sets) where
   -- the root that is carried is that of the tree
-  pub shows_letters : (w : List ℕ) (r : Root) (T : Tree) → is_tree_of R T ≡ true → is_met (read_letters R w T) ≡ false → Shows r T
+  pub shows_letters : (w : List ℕ) (r : Root) (T : Tree) → is_tree_of R T ≡ true → Shows r T
       → Shows (root_letters R w r) (read_letters R w T)
   unfolding root_letters read_letters
-  shows_letters [] r T tree unmet h = h
-  shows_letters (a ∷ w) r T tree unmet h =
-      shows_letters w (root_letter R a r) (next_tree R a T) (next_is_tree R well sets a T tree) unmet
-      (shows_letter R a r T (of_root R T tree) (quiet_at R [] a w T unmet) h)
+  shows_letters [] r T tree h = h
+  shows_letters (a ∷ w) r T tree h =
+      shows_letters w (root_letter R a r) (next_tree R a T) (next_is_tree R well sets a T tree) (shows_letter R a r T (of_root R T tree) h)
 
   -- WHERE IT HAS NO CHILD THE TREE IS KNOWN
-  pub read_alone : (w : List ℕ) (r : Root) (T : Tree) → is_tree_of R T ≡ true → is_met (read_letters R w T) ≡ false → Shows r T
+  pub read_alone : (w : List ℕ) (r : Root) (T : Tree) → is_tree_of R T ≡ true → Shows r T
       → (root_letters R w r).kids ≡ 0 → read_letters R w T ≡ lone_tree (root_letters R w r)
   unfolding lone_tree
-  read_alone w r T tree unmet h none = go (eqb (root_letters R w r).label 0) refl
+  read_alone w r T tree h none = go (eqb (root_letters R w r).label 0) refl
     where
       kept : is_tree_of R (read_letters R w T) ≡ true
       kept = letters_keep R well sets w T tree
 
       shown : Shows (root_letters R w r) (read_letters R w T)
-      shown = shows_letters w r T tree unmet h
+      shown = shows_letters w r T tree h
 
       go : (gone : Bool) → eqb (root_letters R w r).label 0 ≡ gone → read_letters R w T ≡ lone_tree (root_letters R w r)
-      go true e = rw e (dead R _ _ kept unmet shown (eqb-true _ 0 e))
-      go false e = rw e (alone R _ _ kept unmet shown none (eqb-false _ 0 e))
+      go true e = rw e (dead R _ _ kept shown (eqb-true _ 0 e))
+      go false e = rw e (alone R _ _ kept shown none (eqb-false _ 0 e))
 
   -- ITS NAME: it is stable at every letter, and accepting where it says so
-  pub root_followed : (w : List ℕ) (r : Root) (T : Tree) → is_tree_of R T ≡ true → is_met (read_letters R w T) ≡ false → Shows r T
-      → ((root_letters R w r).label ≡ 0 → ⊥)
+  pub root_followed : (w : List ℕ) (r : Root) (T : Tree) → is_tree_of R T ≡ true → Shows r T → ((root_letters R w r).label ≡ 0 → ⊥)
       → (stable_through R T w [] ≡ true) × ((root_letters R w r).accepted ≡ (r.accepted || accepting_once R T w []))
-  unfolding root_letters read_letters stable_through accepting_once
-  root_followed [] r T tree unmet h alive = (refl, or_comm false r.accepted)
-  root_followed (a ∷ w) r T tree unmet h alive =
+  unfolding root_letters stable_through accepting_once
+  root_followed [] r T tree h alive = (refl, or_comm false r.accepted)
+  root_followed (a ∷ w) r T tree h alive =
       let one = of_root R T tree in
-      let quiet = quiet_at R [] a w T unmet in
       let here : successors R a r.label ≡ 0 → ⊥ = λ e. alive (stays_empty R w (root_letter R a r) (letter_label R a r ∙ e)) in
-      let (kept, once) = root_followed w (root_letter R a r) (next_tree R a T) (next_is_tree R well sets a T tree) unmet
-      (shows_letter R a r T one quiet h) alive in (
-        rw (root_stable R a r T one quiet h here) kept,
-        once ∙ rw (letter_accepted R a r, root_accepting R a r T one quiet h here) (or_assoc r.accepted _ _),
+      let (kept, once) = root_followed w (root_letter R a r) (next_tree R a T) (next_is_tree R well sets a T tree) (shows_letter R a r T one h) alive in (
+        rw (root_stable R a r T one h here) kept,
+        once ∙ rw (letter_accepted R a r, root_accepting R a r T one h here) (or_assoc r.accepted _ _),
       )
 
   -- BOTH MAPS WHERE IT HAS NO CHILD: only the root is left to follow
-  module _ (T : Tree) (tree : is_tree_of R T ≡ true) (before w : List ℕ) (unmet : is_met (read_letters R (before ++ w) T) ≡ false) (r : Root)
-      (h : Shows r (read_letters R before T)) (fresh : r.accepted ≡ false) (none : (root_letters R w r).kids ≡ 0) where
+  module _ (T : Tree) (tree : is_tree_of R T ≡ true) (before w : List ℕ) (r : Root) (h : Shows r (read_letters R before T))
+      (fresh : r.accepted ≡ false) (none : (root_letters R w r).kids ≡ 0) where
     abbrev there : Root
     there = root_letters R w r
 
     abbrev root : Node
     root = record { label = there.label; active = there.active }
 
-    unmet_w : is_met (read_letters R w (read_letters R before T)) ≡ false
-    unmet_w = rw (read_append R before w T) at unmet
-
     read : read_letters R (before ++ w) T ≡ lone_tree there
-    read = read_append R before w T ∙ read_alone w r (read_letters R before T) (letters_keep R well sets before T tree) unmet_w h none
+    read = read_append R before w T ∙ read_alone w r (read_letters R before T) (letters_keep R well sets before T tree) h none
 
     -- it is alive all along where it is so at the end
     module _ (alive : there.label ≡ 0 → ⊥) where
@@ -150,11 +142,11 @@ module _ (R : Rule) (well : WellFormed R) (sets : 1 ≤ R.sets) where
       unfolding lone_tree
       alive_all e =
           let shown : Shows (root_letters R (before ++ w) (root_of T)) (lone_tree there) =
-          subst (Shows (root_letters R (before ++ w) (root_of T))) read (shows_letters (before ++ w) (root_of T) T tree unmet (root_shows T)) in
+          subst (Shows (root_letters R (before ++ w) (root_of T))) read (shows_letters (before ++ w) (root_of T) T tree (root_shows T)) in
           alive (sym (rw (ne_eqb there.label 0 alive) at shown).0 ∙ e)
 
       stable_all : stable_through R T (before ++ w) [] ≡ true
-      stable_all = (root_followed (before ++ w) (root_of T) T tree unmet (root_shows T) alive_all).0
+      stable_all = (root_followed (before ++ w) (root_of T) T tree (root_shows T) alive_all).0
 
       -- it was accepting before, or in these letters
       once_all : accepting_once R T (before ++ w) [] ≡ (member (witness_map R T before) 0 || there.accepted)
@@ -163,7 +155,7 @@ module _ (R : Rule) (well : WellFormed R) (sets : 1 ≤ R.sets) where
           let kept : stable_through R T before [] ≡ true =
           (and_in (stable_through R T before []) _ (sym (stable_append R T before w []) ∙ stable_all)).0 in
           let in-w : there.accepted ≡ accepting_once R (read_letters R before T) w [] =
-          (root_followed w r (read_letters R before T) (letters_keep R well sets before T tree) unmet_w h alive).1 ∙ rw fresh in
+          (root_followed w r (read_letters R before T) (letters_keep R well sets before T tree) h alive).1 ∙ rw fresh in
           accepting_append R T before w [] ∙ rw (root_zero (read_letters R before T) _ alive_before, kept, in-w)
 
     pub root_maps_lem : (kept_map R T (before ++ w) ≡ size (lone_tree there))

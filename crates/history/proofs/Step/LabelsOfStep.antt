@@ -7,15 +7,23 @@ use borrow.Author.Tests.{eqb-true}
 use lib.Bits.{bit_or, or_zero_r}
 use lib.Dec.{eqb}
 use Rattle.base.specs.BitSet.{member, minus, Subset}
-use Rattle.base.proofs.BitSet.{member_none, member_union, member_minus, set_ext, image_in, image_out, image_lt}
+use Rattle.base.proofs.BitSet.{member_none, member_union, member_minus, set_ext, image_in, image_out, image_lt, image_none, image_union}
 use Rattle.rule.specs.Rule.{Rule, edge, edge_in, successors, successors_in}
 use Rattle.rule.proofs.Edges.{edge_in_edge}
-use Rattle.rule.proofs.Successors.{successors_none, successors_union}
 use Rattle.history.specs.Forest.{nil, node}
 use Rattle.history.specs.Tree.{Node, Tree, labels}
 use Rattle.history.proofs.Step.LocalStep.{settled, settle, new_label, step}
 
 -- WHERE STATES LEAD
+
+-- no state leads nowhere; a union leads where its parts lead
+pub successors_none : (R : Rule) (a : ℕ) → successors R a 0 ≡ 0
+unfolding successors
+successors_none R a = image_none R.states (edge R.grid a)
+
+pub successors_union : (R : Rule) (a s t : ℕ) → successors R a (bit_or s t) ≡ bit_or (successors R a s) (successors R a t)
+unfolding successors
+successors_union R a s t = image_union R.states (edge R.grid a) s t
 
 -- a subset leads to a subset
 pub successors_subset : (R : Rule) (a s t : ℕ) → Subset s t → Subset (successors R a s) (successors R a t)

@@ -15,10 +15,10 @@ use lib.Dec.{eqb}
 use borrow.Author.Tests.{eqb-true}
 use Rattle.base.specs.BitSet.{member}
 use Rattle.base.proofs.Logic.{look, clash, never, and_in, or_in, not_in}
-use Rattle.base.proofs.BitSet.{member_none, member_union, member_minus}
-use Rattle.rule.specs.Rule.{Rule, edge, edge_in, successors}
+use Rattle.base.proofs.BitSet.{member_none, member_union, member_minus, image_in, image_out}
+use Rattle.rule.specs.Rule.{Rule, edge, edge_in, successors, successors_in}
 use Rattle.rule.specs.WellFormed.{WellFormed}
-use Rattle.rule.proofs.Successors.{successors_in_lem, successors_in_in}
+use Rattle.rule.proofs.Edges.{edge_inside, edge_in_edge}
 use Rattle.history.specs.Forest.{nil, node}
 use Rattle.history.specs.Tree.{Node, Tree, labels}
 use Rattle.history.specs.Letter.{next_set}
@@ -48,6 +48,32 @@ member_filled : (s q : ℕ) → member s q ≡ true → eqb s 0 ≡ false
 member_filled s q h = never _ (λ e. clash (member_none q) (rw (eqb-true s 0 e) at h))
 
 module _ (R : Rule) where
+  -- SUCCESSORS
+
+  -- each successor has a predecessor
+  pub successors_out : (a s r : ℕ) → member (successors R a s) r ≡ true → (q : ℕ) × (member s q ≡ true) × (edge R.grid a q r ≡ true)
+  unfolding successors
+  successors_out a s r h = let (q, _, _, m, e) = image_out R.states (edge R.grid a) s r h in (q, m, e)
+
+  pub successors_in_out : (i a s r : ℕ) → member (successors_in R i a s) r ≡ true
+      → (q : ℕ) × (member s q ≡ true) × (edge_in R.grid i a q r ≡ true)
+  unfolding successors_in
+  successors_in_out i a s r h = let (q, _, _, m, e) = image_out R.states (edge_in R.grid i a) s r h in (q, m, e)
+
+  -- and each transition leads to a successor
+  pub successors_in_lem : WellFormed R → (a s q r : ℕ) → member s q ≡ true → edge R.grid a q r ≡ true
+      → member (successors R a s) r ≡ true
+  unfolding successors
+  successors_in_lem well a s q r m e =
+      let (_, hq, hr) = edge_inside R well a q r e in image_in R.states (edge R.grid a) s q r hq hr m e
+
+  pub successors_in_in : WellFormed R → (i a s q r : ℕ) → member s q ≡ true → edge_in R.grid i a q r ≡ true
+      → member (successors_in R i a s) r ≡ true
+  unfolding successors_in
+  successors_in_in well i a s q r m e =
+      let (_, hq, hr) = edge_inside R well a q r (edge_in_edge R.grid i a q r e) in
+      image_in R.states (edge_in R.grid i a) s q r hq hr m e
+
   module _ (a : ℕ) where
     -- THE BRANCH AFTER THE LETTER
 
@@ -134,12 +160,12 @@ module _ (R : Rule) where
       pub enters_below : (older : ℕ) (b : Branch) (q r : ℕ) → member b.top.label q ≡ true
           → edge_in R.grid b.top.active a q r ≡ true → member older r ≡ false → member (labels (new_below R a older b)) r ≡ true
       unfolding new_below sprout_of
-      enters_below older b q r m e free = rw (labels_step, free, successors_in_in R well _ a _ q r m e, or-true)
+      enters_below older b q r m e free = rw (labels_step, free, successors_in_in well _ a _ q r m e, or-true)
 
       -- siblings keep what they hold, unless it is taken
       pub stays_among : (older sprout : ℕ) (T : Tree) (q r : ℕ) → member (labels T) q ≡ true → edge R.grid a q r ≡ true
           → member older r ≡ false → member (labels (step R a older sprout T)) r ≡ true
-      stays_among older sprout T q r m e free = rw (labels_step, free, successors_in_lem R well a _ q r m e)
+      stays_among older sprout T q r m e free = rw (labels_step, free, successors_in_lem well a _ q r m e)
 
       -- the place among siblings of the one that holds the state does not rise
       place_settled : (e f : Bool) (x : Node) (below younger : Tree) (q i : ℕ) → member x.label q ≡ false
@@ -175,7 +201,7 @@ module _ (R : Rule) where
               → (b : Bool) → member x.label q ≡ b → (c : Bool) → member (new_label R a older x) r ≡ c
               → (b || member (labels younger) q) ≡ true → place_of r next ≤ cond b 0 (suc (place_of q younger))
           go further b i true j k = let z : place_of r next ≡ 0 = first_settled _ _ _ _ _ r (member_filled _ r j) j in omega arith
-          go further true i false j k = clash j (rw (member_minus, free, successors_in_lem R well a _ q r i e))
+          go further true i false j k = clash j (rw (member_minus, free, successors_in_lem well a _ q r i e))
           go further false i false j k =
               place_settled _ _ _ _ _ r (place_of q younger) j (further k e (rw (member_union, free, j)))
 
@@ -210,7 +236,7 @@ module _ (R : Rule) where
               → (survive R a older (node x below younger) (cond b 0 (suc (place_of q younger))) ≡ true)
               × (member (taken R a older (node x below younger) (cond b 0 (suc (place_of q younger)))) r ≡ false)
           go further true i true j k s = (rw (member_filled _ r j), free)
-          go further true i false j k s = clash j (rw (member_minus, free, successors_in_lem R well a _ q r i e))
+          go further true i false j k s = clash j (rw (member_minus, free, successors_in_lem well a _ q r i e))
           go further false i true j k s =
               let z : place_of r next ≡ 0 = first_settled _ _ _ _ _ r (member_filled _ r j) j in absurd (omega arith)
           go further false i false j k s =

@@ -1,13 +1,14 @@
 -- What a letter makes of a tree depends on the letter's square alone: two letters with the same square, of one rule or of two with the same
 -- states and sets, give the same next tree, with the same accepting and the same stable nodes.
-use mathlib.Core.Path.{◌≡◌, refl}
+use mathlib.Core.Path.{◌≡◌, refl, sym, ◌∙◌}
 use mathlib.Core.List.{List}
 use Prim.Native.Nat.{ℕ}
 use Rattle.rule.specs.Rule.{Rule, square_of}
-use Rattle.rule.proofs.SameSquares.{same_successors, same_successors_in, same_has_mark}
+use Rattle.rule.proofs.SameSquares.{same_successors, same_successors_in}
 use Rattle.history.specs.Forest.{Forest, nil, node, change}
-use Rattle.history.specs.Tree.{Tree, labels}
-use Rattle.history.specs.Letter.{Grown, succeeded, child, sprouting, two_steps, three_steps, five_steps, meets, survivors, next_tree, accepting, stable}
+use Rattle.history.specs.Tree.{Tree}
+use Rattle.history.specs.Letter.{Grown, succeeded, child, sprouting, two_steps, three_steps, five_steps, survivors, next_tree, accepting, stable}
+use Rattle.history.proofs.Step.StepsJoined.{survivors_steps}
 
 module _ (R S : Rule) (states : R.states ≡ S.states) (sets : R.sets ≡ S.sets) (a b : ℕ) (same : square_of R a ≡ square_of S b) where
   same_succeeded : (F : Forest Grown) → succeeded R a F ≡ succeeded S b F
@@ -29,13 +30,8 @@ module _ (R S : Rule) (states : R.states ≡ S.states) (sets : R.sets ≡ S.sets
   unfolding five_steps three_steps two_steps
   same_steps T = rw (same_succeeded, same_sprouting, sets)
 
-  same_meets : (T : Tree) → meets R a T ≡ meets S b T
-  unfolding meets
-  same_meets T = rw (same_has_mark R S a b same states (labels T))
-
   same_survivors : (T : Tree) → survivors R a T ≡ survivors S b T
-  unfolding survivors
-  same_survivors T = rw (same_meets T, same_steps T)
+  same_survivors T = survivors_steps R a T ∙ same_steps T ∙ sym (survivors_steps S b T)
 
   pub same_next : (T : Tree) → next_tree R a T ≡ next_tree S b T
   unfolding next_tree

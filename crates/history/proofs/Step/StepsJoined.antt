@@ -11,7 +11,7 @@ use Rattle.base.proofs.BitSet.{member_union, member_minus, set_ext}
 use Rattle.rule.specs.Rule.{Rule}
 use Rattle.history.specs.Forest.{Forest, nil, node, change, named_from, named}
 use Rattle.history.specs.Tree.{Node, Tree, labels}
-use Rattle.history.specs.Letter.{was, sprouted, Grown, begun, succeeded, youngest, child, sprouting, separated, grown_labels, kept, pruned, two_steps, three_steps, five_steps, meets, survivors, next_tree}
+use Rattle.history.specs.Letter.{was, sprouted, Grown, begun, succeeded, youngest, child, sprouting, separated, grown_labels, kept, pruned, two_steps, three_steps, five_steps, survivors, next_tree}
 use Rattle.history.proofs.Step.LocalStep.{settled, settle, new_label, sprout_of, step, Branch, new_below, accepts}
 use Rattle.history.proofs.Tree.SetFacts.{nothing_minus}
 use Rattle.history.proofs.Tree.Conditions.{OneRoot}
@@ -156,14 +156,14 @@ steps_grown R a T = sym (empty_sprout R a 0 no_sprout (sprouting R a (succeeded 
 
 -- A LETTER
 
--- where it does not meet the rule it makes the five steps
-pub survivors_steps : (R : Rule) (a : ℕ) (T : Tree) → meets R a T ≡ false → survivors R a T ≡ five_steps R a T
+-- a letter makes the five steps
+pub survivors_steps : (R : Rule) (a : ℕ) (T : Tree) → survivors R a T ≡ five_steps R a T
 unfolding survivors
-survivors_steps R a T quiet = rw quiet
+survivors_steps R a T = refl
 
 -- so the next tree is the local step
-pub next_tree_step : (R : Rule) (a : ℕ) (T : Tree) → OneRoot T → meets R a T ≡ false → next_tree R a T ≡ step R a 0 0 T
+pub next_tree_step : (R : Rule) (a : ℕ) (T : Tree) → OneRoot T → next_tree R a T ≡ step R a 0 0 T
 unfolding next_tree plain_node no_sprout
-next_tree_step R a T one quiet =
-    ap plain (survivors_steps R a T quiet ∙ steps_grown R a T) ∙ grown_step R a 0 no_sprout (begun T) refl
+next_tree_step R a T one =
+    ap plain (survivors_steps R a T ∙ steps_grown R a T) ∙ grown_step R a 0 no_sprout (begun T) refl
     ∙ ap (step R a 0 0) (earlier_begun T one)

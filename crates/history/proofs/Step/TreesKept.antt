@@ -22,7 +22,6 @@ use Rattle.history.proofs.Tree.SetFacts.{nothing_minus, subset_proper, none_prop
 use Rattle.history.proofs.Tree.Hosts.{size_labels}
 use Rattle.history.proofs.Tree.Conditions.{Fits, OneRoot, IsTree, tree_out}
 use Rattle.history.proofs.Step.LabelsOfStep.{successors_subset, successors_in_subset, successors_lt, labels_step, labels_next}
-use Rattle.history.proofs.Step.MetTree.{meets_dead}
 use Rattle.history.proofs.Step.StepsJoined.{next_tree_step}
 
 -- ONE LETTER
@@ -141,7 +140,7 @@ start_fits_lem R well pos =
 
 -- "The dead tree steps to itself, both maps 0."
 pub dead_next : (R : Rule) (a : ℕ) → next_tree R a nil ≡ nil
-dead_next R a = next_tree_step R a nil tt (meets_dead R a) ∙ step_none R a 0
+dead_next R a = next_tree_step R a nil tt ∙ step_none R a 0
 
 pub dead_accepting : (R : Rule) (a : ℕ) → accepting_map R a nil ≡ 0
 unfolding accepting_map by_number size collect

@@ -19,7 +19,6 @@ use Rattle.base.proofs.Logic.{look, clash, or_l, or_r}
 use Rattle.base.proofs.BitSet.{member_none, member_union}
 use Rattle.rule.specs.Rule.{Grid, Rule, edge, edge_in, cell_at, successors}
 use Rattle.rule.proofs.Edges.{edge_in_edge, edge_in_member}
-use Rattle.rule.proofs.Successors.{successors_out, successors_in_out}
 use Rattle.word.specs.Walk.{letter_at, rounds}
 use Rattle.word.specs.Lasso.{Leads}
 use Rattle.word.proofs.Paths.{rounds_mul, leads_one, leads_append}
@@ -28,7 +27,7 @@ use Rattle.history.specs.Tree.{labels}
 use Rattle.history.specs.Letter.{next_set}
 use Rattle.history.proofs.Step.LocalStep.{Branch, new_label, sprout_of, accepts, step_branch}
 use Rattle.history.proofs.Walk.Stretches.{stretch, stretch_rounds}
-use Rattle.history.proofs.Step.OneNode.{step_accepting, step_quiet, label_from, below_from, accepted_from}
+use Rattle.history.proofs.Step.OneNode.{successors_out, successors_in_out, step_accepting, step_quiet, label_from, below_from, accepted_from}
 
 -- THE ACTIVE SETS
 

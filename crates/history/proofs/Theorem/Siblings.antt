@@ -13,13 +13,12 @@ use Rattle.base.proofs.Logic.{clash, and_both, and_in, not_in}
 use Rattle.base.proofs.BitSet.{member_none, some_member}
 use Rattle.rule.specs.Rule.{Rule, edge, edge_in}
 use Rattle.rule.specs.WellFormed.{WellFormed}
-use Rattle.rule.proofs.Successors.{successors_out}
 use Rattle.word.proofs.Periods.{Periodic}
 use Rattle.history.specs.Forest.{nil, node}
 use Rattle.history.specs.Tree.{Tree, labels}
 use Rattle.history.proofs.Tree.Conditions.{Fits}
 use Rattle.history.proofs.Step.LocalStep.{new_label, step, Branch, branch_at, survive, taken, accepts, step_branch, branch_of, taken_at, name_kept, kept_among, accepts_among}
-use Rattle.history.proofs.Step.OneNode.{place_of, holds_at_place, branch_step, name_step, label_from, stays_among, place_falls, place_same}
+use Rattle.history.proofs.Step.OneNode.{place_of, holds_at_place, successors_out, branch_step, name_step, label_from, stays_among, place_falls, place_same}
 use Rattle.history.proofs.Step.BranchFits.{label_inside, branch_fits, name_fits}
 use Rattle.history.proofs.Walk.Stretches.{stretch}
 use Rattle.history.proofs.Theorem.BetweenBreakpoints.{Return, loops_back}

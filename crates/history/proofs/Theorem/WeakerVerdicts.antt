@@ -7,10 +7,10 @@ use mathlib.Core.List.{List, [], ◌∷◌}
 use Prim.Native.Nat.{ℕ, zero, suc, ◌≤◌, ◌<◌}
 use native.Mathlib.Omega.{arith}
 use lib.ListN.{get_or}
-use Rattle.base.specs.BitSet.{member, minus}
+use Rattle.base.specs.BitSet.{member}
 use Rattle.base.proofs.Logic.{clash, or_r}
 use Rattle.rule.specs.Rule.{Rule, cell_at, edge, edge_in}
-use Rattle.rule.specs.WellFormed.{WellFormed, start_fits, set_byte_fits, bytes_fit}
+use Rattle.rule.specs.WellFormed.{WellFormed, start_fits, bytes_fit}
 use Rattle.word.specs.Run.{AcceptingRun}
 use Rattle.word.specs.Lasso.{Lasso}
 use Rattle.word.proofs.Variants.{zero_tail, nonempty, small, no_lasso, away, away_fits, once_no_lasso}
@@ -48,7 +48,7 @@ abbrev leaving : Rule
 leaving = small 3 ((0 ∷ 1 ∷ 255 ∷ []) ∷ (255 ∷ 255 ∷ 1 ∷ []) ∷ (255 ∷ 255 ∷ 255 ∷ []) ∷ [])
 
 leaving_fits : WellFormed leaving
-unfolding start_fits bytes_fit set_byte_fits minus
+unfolding start_fits bytes_fit
 leaving_fits = record { starts = refl; squares = refl; fits = ((refl, ((refl, refl), ((refl, refl), ((refl, refl), tt)))), tt) }
 
 -- a transition of set 1 leads away from state 0, and from there one transition is left

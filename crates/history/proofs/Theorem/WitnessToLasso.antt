@@ -20,13 +20,12 @@ use Rattle.history.proofs.Tree.Conditions.{IsTree}
 use Rattle.history.proofs.Names.StableNames.{stable_local}
 use Rattle.history.proofs.Names.AcceptingNames.{accepting_local}
 use Rattle.history.proofs.Step.LocalStep.{step, kept_among}
-use Rattle.history.proofs.Step.MetTree.{stable_quiet}
 use Rattle.history.proofs.Walk.Stretches.{stretch, stretch_lead}
 use Rattle.history.proofs.Theorem.BetweenBreakpoints.{Return, return_rounds}
 use Rattle.history.proofs.Theorem.Siblings.{name_returns}
 use Rattle.history.proofs.Walk.TreesOfWalk.{tree_at, walk_periodic}
 use Rattle.history.proofs.Walk.WitnessByPosition.{Lasts, witness_lasts}
-use Rattle.history.proofs.Walk.StatesOfTrees.{QuietAt, one_root_at, is_tree_at, tree_next, state_reached}
+use Rattle.history.proofs.Walk.StatesOfTrees.{is_tree_at, tree_next, state_reached}
 
 module _ (R : Rule) (well : WellFormed R) (sets : 1 ≤ R.sets) (u v : List ℕ) (filled : 1 ≤ length v)
     (entry period : ℕ) (F : FirstRepeat (round_tree R u v) entry period) (w : List ℕ) (W : Witness R u v entry period w) where
@@ -44,21 +43,17 @@ module _ (R : Rule) (well : WellFormed R) (sets : 1 ≤ R.sets) (u v : List ℕ)
       rw add-zero at (name_returns R (λ d. letter_at u v (begin + d)) (λ d. 0) (λ d. tree_at R u v (begin + d)) next tree.fits
       (λ s. member_lt R.states (labels (tree_at R u v (begin + 0))) s tree.states) 0 w kept
       (period * length v) lasts.place lasts.within
-      (λ j. sym (accepting_local R _ _ (one_root_at R well sets u v _) w (lasts.stays _ (omega arith))) ∙ lasts.accepts j)
+      (λ j. sym (accepting_local R _ _ (is_tree_at R well sets u v _).one_root w (lasts.stays _ (omega arith))) ∙ lasts.accepts j)
       (rw add-zero (walk_periodic R u v filled entry period F (suc R.sets) begin (omega arith))))
     where
-      -- where the name is stable no letter meets the rule
-      quiet : (d : ℕ) → QuietAt R u v (begin + d)
-      quiet d = stable_quiet R (letter_at u v (begin + d)) (tree_at R u v (begin + d)) w (lasts.stays (begin + d) (omega arith))
-
       tree : IsTree R.states R.sets (tree_at R u v (begin + 0))
-      tree = is_tree_at R well sets u v (begin + 0) (quiet 0)
+      tree = is_tree_at R well sets u v (begin + 0)
 
       next : (d : ℕ) → tree_at R u v (begin + suc d) ≡ step R (letter_at u v (begin + d)) 0 0 (tree_at R u v (begin + d))
-      next d = rw add-suc (tree_next R well sets u v (begin + d) (quiet d))
+      next d = rw add-suc (tree_next R well sets u v (begin + d))
 
       kept : (d : ℕ) → kept_among R (letter_at u v (begin + d)) 0 (tree_at R u v (begin + d)) 0 w ≡ true
-      kept d = sym (stable_local R _ _ (one_root_at R well sets u v (begin + d)) (quiet d) w) ∙ lasts.stays (begin + d) (omega arith)
+      kept d = sym (stable_local R _ _ (is_tree_at R well sets u v (begin + d)).one_root w) ∙ lasts.stays (begin + d) (omega arith)
 
   pub witness_lasso : Lasso R u v
   unfolding begin

@@ -3,7 +3,7 @@
 -- order. If there is a witness there is a first one, and one only.
 use mathlib.Core.Path.{◌≡◌, sym, ap, ◌∙◌}
 use mathlib.Core.Logic.{◌⊎◌, inl, inr, ⊎_elim}
-use mathlib.Core.Bool.{Bool, true, false, not, ◌&&◌, Bool-discrete}
+use mathlib.Core.Bool.{Bool, true, not, ◌&&◌, Bool-discrete}
 use mathlib.Core.List.{List, []}
 use Prim.Native.Nat.{ℕ, ◌+◌, ◌-◌, ◌≤◌, ◌<◌}
 use native.Mathlib.Omega.{arith}
@@ -14,11 +14,10 @@ use Rattle.base.proofs.Logic.{look, clash, never, and_both, and_in, not_out, not
 use Rattle.base.proofs.BitSet.{some_in, some_out}
 use Rattle.rule.specs.Rule.{Rule}
 use Rattle.history.specs.Forest.{names}
-use Rattle.history.specs.Tree.{Tree, is_met}
+use Rattle.history.specs.Tree.{Tree}
 use Rattle.history.specs.Letter.{stable, accepting}
 use Rattle.history.specs.Rounds.{round_tree, tree_in_round}
 use Rattle.history.specs.Verdict.{LetterPlace, Witness, Before, FirstWitness}
-use Rattle.history.proofs.Step.MetTree.{quiet_unmet, stable_quiet}
 use Rattle.history.proofs.Names.Origins.{stable_old}
 use Rattle.history.proofs.Repeat.FirstRepeats.{first_below}
 use Rattle.history.proofs.Walk.TreesOfWalk.{in_round_zero}
@@ -82,19 +81,12 @@ module _ (R : Rule) (u v : List ℕ) (entry period : ℕ) where
   module _ (filled : 1 ≤ length v) (positive : 1 ≤ period) where
     -- A WITNESS IS A NODE
 
-    -- it is stable at the first letter that is read from t(e)
-    first_stable : (w : List ℕ) → Witness R u v entry period w → stable R (get_or v 0 0) (round_tree R u v entry) w ≡ true
-    first_stable w W =
-        rw (in_round_zero R u v entry) at (W.stays entry 0 (record { from = omega arith; upto = omega arith; within = filled }))
-
-    -- so it is a node of t(e), which is not met
+    -- of t(e)
     pub witness_node : (w : List ℕ) → Witness R u v entry period w
         → (i : ℕ) × (i < length (names (round_tree R u v entry))) × (get_or (names (round_tree R u v entry)) i [] ≡ w)
-    witness_node w W = stable_old R (get_or v 0 0) (round_tree R u v entry) w (first_stable w W)
-
-    pub witness_unmet : (w : List ℕ) → Witness R u v entry period w → is_met (round_tree R u v entry) ≡ false
-    witness_unmet w W = let T = round_tree R u v entry in
-        quiet_unmet R (get_or v 0 0) T (stable_quiet R (get_or v 0 0) T w (first_stable w W))
+    witness_node w W =
+        stable_old R (get_or v 0 0) (round_tree R u v entry) w
+        (rw (in_round_zero R u v entry) at (W.stays entry 0 (record { from = omega arith; upto = omega arith; within = filled })))
 
     -- THE FIRST WITNESS
 

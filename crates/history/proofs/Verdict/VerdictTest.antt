@@ -15,18 +15,17 @@ use Rattle.base.specs.Reading.{read_many, ended}
 use Rattle.base.specs.Lists.{any_of}
 use Rattle.base.proofs.Logic.{clash, and_both, and_in, not_in}
 use Rattle.base.proofs.BitSet.{some_in}
-use Rattle.rule.specs.Rule.{Rule, cell_at, edge, edge_in, marked, successors, successors_in, marked_successors, has_mark}
-use Rattle.rule.specs.WellFormed.{start_fits, set_byte_fits}
-use Rattle.table.specs.Table.{read_rule, read_body, read_grid, read_cell, read_row, read_transition, map_fits, read_byte, ask_header, in_range}
+use Rattle.rule.specs.Rule.{Rule, cell_at, edge, edge_in, successors, successors_in}
+use Rattle.rule.specs.WellFormed.{start_fits}
+use Rattle.table.specs.Table.{read_rule, read_body, read_grid, read_cell, read_row, read_transition, read_byte, ask_header, in_range}
 use Rattle.word.specs.Walk.{rounds}
 use Rattle.history.specs.Forest.{nil, node, change, listing, named_from, named, names, same_numbers}
-use Rattle.history.specs.Tree.{Tree, labels, is_met, start_tree}
-use Rattle.history.specs.Letter.{begun, succeeded, youngest, child, sprouting, separated, grown_labels, next_set, kept, pruned, two_steps, three_steps, five_steps, meets, met_node, survivors, next_tree, is_old, accepting, stable}
+use Rattle.history.specs.Tree.{Tree, start_tree}
+use Rattle.history.specs.Letter.{begun, succeeded, youngest, child, sprouting, separated, grown_labels, next_set, kept, pruned, two_steps, three_steps, five_steps, survivors, next_tree, is_old, accepting, stable}
 use Rattle.history.specs.Rounds.{read_letters, round_tree, tree_in_round, FirstRepeat}
 use Rattle.history.specs.Verdict.{FirstWitness}
-use Rattle.history.specs.Finding.{Finding, yes_node, yes_met, no_node, Found}
-use Rattle.history.proofs.Names.Names.{same_equal, any_in}
-use Rattle.history.proofs.Step.MetTree.{met_is, unmet_other}
+use Rattle.history.specs.Finding.{Finding, yes_node, no_node, Found}
+use Rattle.history.proofs.Names.Names.{same_equal}
 use Rattle.history.proofs.Repeat.FirstRepeats.{First}
 use Rattle.history.proofs.Verdict.FirstWitness.{witness_test, test_witness, witness_test_lem, witness_node, lowest_first}
 
@@ -84,25 +83,27 @@ repeat_by_test t entry period h =
 
 -- THE FINDING
 
--- is w the first of some names that passes a test?
-is_first : (List ℕ → Bool) → List ℕ → List (List ℕ) → Bool
-is_first test w [] = false
-is_first test w (p ∷ l) = cond (test p) (same_numbers p w) (is_first test w l)
+-- is the finding the first of some names that passes a test, and no where none passes?
+is_first : (List ℕ → Bool) → List (List ℕ) → Finding → Bool
+is_first test [] (yes_node w) = false
+is_first test [] no_node = true
+is_first test (p ∷ l) (yes_node w) = cond (test p) (same_numbers p w) (is_first test l (yes_node w))
+is_first test (p ∷ l) no_node = not (test p) && is_first test l no_node
 
 module _ (test : List ℕ → Bool) where
   -- the name at a place passes
   abbrev Passes : List (List ℕ) → ℕ → Type 0
   Passes l i = test (get_or l i []) ≡ true
 
-  -- it passes, and no earlier one does
-  first_passes : (l : List (List ℕ)) (w : List ℕ) → is_first test w l ≡ true
+  -- what the test says where the finding is a name, and where it is no
+  first_passes : (l : List (List ℕ)) (w : List ℕ) → is_first test l (yes_node w) ≡ true
       → (f : First (Passes l) (length l)) × (get_or l f.at [] ≡ w)
   unfolding is_first
   first_passes [] w h = clash refl h
   first_passes (p ∷ l) w h = go (test p) refl (first_passes l w) h
     where
-      go : (b : Bool) → test p ≡ b → (is_first test w l ≡ true → (f : First (Passes l) (length l)) × (get_or l f.at [] ≡ w))
-          → cond b (same_numbers p w) (is_first test w l) ≡ true
+      go : (b : Bool) → test p ≡ b → (is_first test l (yes_node w) ≡ true → (f : First (Passes l) (length l)) × (get_or l f.at [] ≡ w))
+          → cond b (same_numbers p w) (is_first test l (yes_node w)) ≡ true
           → (f : First (Passes (p ∷ l)) (suc (length l))) × (get_or (p ∷ l) f.at [] ≡ w)
       go true e later h =
           (record { at = 0; below = omega arith; holds = e; least = λ i k. absurd (omega arith) }, same_equal p w h)
@@ -113,42 +114,35 @@ module _ (test : List ℕ → Bool) where
           least f zero k t = clash e t
           least f (suc i) k t = f.least i (omega arith) t
 
--- is the finding right of the repeated tree, where a test tells the witnesses?
-finding_test : (List ℕ → Bool) → Tree → Finding → Bool
-finding_test test T (yes_node w) = is_first test w (names T)
-finding_test test T yes_met = is_met T
-finding_test test T no_node = not (is_met T) && not (any_of test (names T))
+  none_passes : (l : List (List ℕ)) → is_first test l no_node ≡ true → (i : ℕ) → i < length l → Passes l i → ⊥
+  unfolding is_first
+  none_passes [] h i k t = omega arith
+  none_passes (p ∷ l) h zero k t = clash (not_in (test p) (and_in (not (test p)) _ h).0) t
+  none_passes (p ∷ l) h (suc i) k t = none_passes l (and_in (not (test p)) _ h).1 i (omega arith) t
 
 -- THE VERDICT
 
 -- are these the entry, the period and the finding?
 unfoldable pub verdict_test : Rule → List ℕ → List ℕ → ℕ → ℕ → Finding → Bool
-unfolding repeat_test seen_before same_tree finding_test is_first witness_test
+unfolding repeat_test seen_before same_tree is_first witness_test
     tree_in_round round_tree read_letters rounds start_tree
-    next_tree stable accepting survivors meets met_node is_met labels
-    five_steps three_steps two_steps begun succeeded sprouting child youngest separated pruned kept grown_labels next_set
+    next_tree stable accepting survivors five_steps three_steps two_steps begun succeeded sprouting child youngest separated pruned kept grown_labels next_set
     change named named_from names listing any_of is_old same_numbers
-    successors successors_in has_mark marked_successors image collect some member minus edge edge_in marked cell_at
+    successors successors_in image collect some member minus edge edge_in cell_at
 verdict_test R u v entry period finding =
-    repeat_test (round_tree R u v) entry period && finding_test (witness_test R u v entry period) (round_tree R u v entry) finding
+    repeat_test (round_tree R u v) entry period && is_first (witness_test R u v entry period) (names (round_tree R u v entry)) finding
 
 -- number order is dictionary order, so the first that passes is the first witness; and every witness is a name of t(e)
 found_by_test : (R : Rule) (u v : List ℕ) (entry period : ℕ) → 1 ≤ length v → 1 ≤ period → (finding : Finding)
-    → finding_test (witness_test R u v entry period) (round_tree R u v entry) finding ≡ true → Found R u v entry period finding
-unfolding finding_test
+    → is_first (witness_test R u v entry period) (names (round_tree R u v entry)) finding ≡ true → Found R u v entry period finding
 found_by_test R u v entry period filled positive (yes_node w) h =
     let (f, is) = first_passes (witness_test R u v entry period) (names (round_tree R u v entry)) w h in
     subst (FirstWitness R u v entry period) is
     (lowest_first R u v entry period filled positive f.at f.below (test_witness R u v entry period _ f.holds)
     (λ j k W. f.least j k (witness_test_lem R u v entry period _ W)))
-found_by_test R u v entry period filled positive yes_met h = met_is (round_tree R u v entry) h
-found_by_test R u v entry period filled positive no_node h =
-    let (other, none) = and_in (not (is_met (round_tree R u v entry))) _ h in (
-      unmet_other (round_tree R u v entry) (not_in _ other),
-      λ w W. let (i, k, is) = witness_node R u v entry period filled positive w W in
-          clash (not_in _ none) (any_in (witness_test R u v entry period) [] (names (round_tree R u v entry)) i k
-          (rw is (witness_test_lem R u v entry period w W))),
-    )
+found_by_test R u v entry period filled positive no_node h = λ w W.
+    let (i, k, is) = witness_node R u v entry period filled positive w W in
+    none_passes (witness_test R u v entry period) (names (round_tree R u v entry)) h i k (rw is (witness_test_lem R u v entry period w W))
 
 -- a test that says yes proves the first repeat and the finding
 pub verdict_by_test : (R : Rule) (u v : List ℕ) (entry period : ℕ) (finding : Finding) → 1 ≤ length v
@@ -169,7 +163,7 @@ accepted_test f (accepted R) = f R
 -- is the table accepted, and does its rule pass a test?
 unfoldable pub rule_test : (Rule → Bool) → List ℕ → Bool
 unfolding accepted_test
-    read_rule read_body read_grid read_many read_cell read_row read_transition read_byte map_fits set_byte_fits minus ended ask_header in_range start_fits
+    read_rule read_body read_grid read_many read_cell read_row read_transition read_byte ended ask_header in_range start_fits
 rule_test f table = accepted_test f (read_rule table)
 
 accepted_by_test : (f : Rule → Bool) (o : Outcome Rule) → accepted_test f o ≡ true → (R : Rule) × (o ≡ accepted R) × (f R ≡ true)

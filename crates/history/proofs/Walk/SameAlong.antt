@@ -1,7 +1,6 @@
 -- Two rules, each along a walk, with the same cells at every position, have the same trees, position by position. So they have the same
 -- witnesses, wherever the trees at their round ends repeat: a witness is a name that is stable from some position on, and accepting again and
--- again. The one repeated tree is met just if the other is, since behind a met tree there is no other. And if the walk is the same, so are the
--- trees at the round ends, and where they repeat.
+-- again. And if the walk is the same, so are the trees at the round ends, and where they repeat.
 use mathlib.Core.Path.{◌≡◌, sym, ◌∙◌, ap, subst}
 use mathlib.Core.List.{List}
 use Prim.Native.Nat.{ℕ, zero, suc, ◌+◌, ◌*◌, ◌≤◌}
@@ -10,16 +9,13 @@ use lib.ListN.{length}
 use Rattle.rule.specs.Rule.{Rule}
 use Rattle.word.specs.Walk.{letter_at}
 use Rattle.word.proofs.SameAlong.{SameAlong, along_back}
-use Rattle.history.specs.Tree.{Tree, met_tree, is_met, start_tree}
+use Rattle.history.specs.Tree.{Tree, start_tree}
 use Rattle.history.specs.Letter.{next_tree}
 use Rattle.history.specs.Rounds.{round_tree, FirstRepeat}
 use Rattle.history.specs.Verdict.{Witness}
-use Rattle.history.specs.Finding.{Finding, yes_node, yes_met, no_node, Found}
-use Rattle.history.proofs.Step.MetTree.{is_met_lem}
+use Rattle.history.specs.Finding.{Finding, yes_node, no_node, Found}
 use Rattle.history.proofs.Step.SameSquares.{same_next, same_accepting, same_stable}
 use Rattle.history.proofs.Walk.TreesOfWalk.{tree_at, tree_at_round}
-use Rattle.history.proofs.Walk.MetTrees.{met_entry}
-use Rattle.history.proofs.Walk.StatesOfTrees.{met_round}
 use Rattle.history.proofs.Walk.WitnessByPosition.{stable_at, accepting_at, accepts_late, witness_lasts, lasts_witness}
 
 -- TWO RULES, EACH ALONG A WALK
@@ -51,15 +47,6 @@ witness_along {R} {S} {u} {v} {u'} {v'} same filled filled' {entry} {period} {en
     lasts_witness S u' v' filled' entry' period' F' entry' (omega arith) w (length u + entry * length v)
     (λ p h. sym (same_stable_at same w p) ∙ L.stays p h) q behind (sym (same_accepting_at same w q) ∙ accepts)
 
--- and where the repeated tree of one is met, so is that of the other
-met_tree_along : {R S : Rule} {u v u' v' : List ℕ} → SameAlong R S u v u' v' → 1 ≤ length v → 1 ≤ length v'
-    → (entry : ℕ) {entry' period' : ℕ} → FirstRepeat (round_tree S u' v') entry' period'
-    → round_tree R u v entry ≡ met_tree → round_tree S u' v' entry' ≡ met_tree
-met_tree_along {R} {S} {u} {v} {u'} {v'} same filled filled' entry {entry'} {period'} F' e =
-    let p : ℕ = length u + entry * length v in
-    let there : tree_at S u' v' p ≡ met_tree = sym (same_trees_lem same p) ∙ tree_at_round R u v filled entry ∙ e in
-    met_entry S u' v' entry' period' F' p (met_round S u' v' filled' p (ap is_met there ∙ is_met_lem))
-
 -- so what is found of one is found of the other
 module _ {R S : Rule} {u v u' v' : List ℕ} (same : SameAlong R S u v u' v') (filled : 1 ≤ length v) (filled' : 1 ≤ length v')
     {entry period entry' period' : ℕ} (F : FirstRepeat (round_tree R u v) entry period) (F' : FirstRepeat (round_tree S u' v') entry' period') where
@@ -71,8 +58,7 @@ module _ {R S : Rule} {u v u' v' : List ℕ} (same : SameAlong R S u v u' v') (f
     witness = witness_along same filled filled' F F' w f.witness;
     first = λ p W before. f.first p (back p W) before;
   }
-  found_along yes_met e = met_tree_along same filled filled' entry F' e
-  found_along no_node (other, none) = (λ e. other (met_tree_along (along_back same) filled' filled entry' F e), λ w W. none w (back w W))
+  found_along no_node none = λ w W. none w (back w W)
 
 -- TWO RULES ALONG ONE WALK
 

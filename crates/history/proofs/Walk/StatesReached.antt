@@ -7,10 +7,10 @@ use Prim.Native.Nat.{ℕ, zero, suc}
 use Rattle.base.specs.BitSet.{member, Subset}
 use Rattle.rule.specs.Rule.{Rule, cell_at, successors}
 use Rattle.rule.specs.WellFormed.{WellFormed}
-use Rattle.rule.proofs.Successors.{successors_out, successors_in_lem}
 use Rattle.word.specs.Lasso.{Leads}
 use Rattle.word.proofs.Paths.{leads_one, one_leads, leads_append, leads_split}
 use Rattle.history.proofs.Walk.Stretches.{stretch}
+use Rattle.history.proofs.Step.OneNode.{successors_out, successors_in_lem}
 
 module _ (R : Rule) (letter states : ℕ → ℕ) (start : states 0 ≡ R.start) where
   -- if each state there is a successor, it is reached

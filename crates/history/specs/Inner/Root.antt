@@ -1,5 +1,5 @@
 -- The root by itself, for the contracts of the tree judge's own functions: what of it goes on from letter to letter without the nodes
--- below it. That it is the root of the trees, where no letter meets the rule, is a law (proofs/root).
+-- below it. That it is the root of the trees is a law (proofs/root).
 use Rattle.std.specs.Prelude.{◌≡◌, Bool, true, cond, List, [], ◌∷◌, ℕ, eqb}
 use Rattle.std.specs.Int.Bits.{bit_or}
 use Rattle.rule.specs.Rule.{Rule, successors, successors_in}

@@ -1,9 +1,9 @@
 -- Following nodes by their names: what the contracts of the tree judge's own functions say of the two maps.
-use Rattle.std.specs.Prelude.{◌≡◌, true, false, List, map, ◌++◌, ℕ, ◌-◌, ◌^◌}
+use Rattle.std.specs.Prelude.{◌≡◌, true, List, map, ◌++◌, ℕ, ◌-◌, ◌^◌}
 use Rattle.base.specs.Lists.{Every}
 use Rattle.rule.specs.Rule.{Rule}
 use Rattle.word.specs.Inner.WalkLookups.{Lookups, HasLookup}
-use Rattle.history.specs.Tree.{Tree, is_met, is_tree_of}
+use Rattle.history.specs.Tree.{Tree, is_tree_of}
 use Rattle.history.specs.Rounds.{read_letters}
 use Rattle.history.specs.Inner.Following.{carried, kept_map, witness_map}
 use Rattle.tree.specs.Inner.PackedNodes.{counted_nodes}
@@ -29,13 +29,12 @@ pub record Follows (R : Rule) (T : Tree) (w : List ℕ) (x : CodeTree) (m : Maps
   pub kept : m.kept ≡ kept_map R T w
   pub witnesses : m.witnesses ≡ witness_map R T w
 
--- the letters w are read on, behind others, and none of them meets the rule
+-- the letters w are read on, behind others
 pub record FollowsOn (R : Rule) (T : Tree) (before : List ℕ) (lookups : Lookups) (k : ℕ) (w : List ℕ)
     (x : CodeTree) (m : Maps) : Type 0 where
   pub holds : HasSets R k
   pub has_lookups : Every (HasLookup R lookups) w
   pub follows : Follows R T before x m
-  pub unmet : is_met (read_letters R (before ++ w) T) ≡ false
 
 unfoldable pub Followable : Lookups → ℕ → List ℕ → CodeTree → Maps → Type 0
 Followable lookups k w x m = (R : Rule) × (T : Tree) × (before : List ℕ) × FollowsOn R T before lookups k w x m

@@ -1,4 +1,4 @@
--- Letters read by their look-ups, inside the plain judge: the ways that they open.
+-- Letters read by their look-ups, inside the plain judge: the states that they lead to, and the ways that they open.
 use Rattle.std.specs.Prelude.{cond, List, [], ◌∷◌, ℕ, suc, ◌^◌, eqb, get_or}
 use Rattle.std.specs.Int.Bits.{bit_or}
 use Rattle.rule.specs.Inner.Lanes.{map_of, word_of, in_lane}
@@ -10,6 +10,10 @@ use Rattle.word.specs.Inner.WalkLookups.{Lookups}
 unfoldable pub over : (Lookup → ℕ → ℕ) → Lookups → List ℕ → ℕ → ℕ
 over f lookups [] x = x
 over f lookups (a ∷ w) x = over f lookups w (f (get_or lookups a []) x)
+
+-- the states that the letters lead to
+unfoldable pub states_after : Lookups → List ℕ → ℕ → ℕ
+states_after = over (λ lookup states. look_up lookup 0 states)
 
 -- where any transition of a letter leads to from the states s; from none nowhere, whatever the look-up
 unfoldable pub onward : Lookup → ℕ → ℕ

@@ -3,21 +3,17 @@
 use Rattle.std.specs.Prelude.{Bool, true, cond, ℕ, zero, suc, ◌+◌, ◌*◌, ◌/◌, ◌%◌, ◌^◌}
 use Rattle.std.specs.Int.Bits.{bit_and, bit_or}
 use Rattle.base.specs.BitSet.{member, collect}
-use Rattle.rule.specs.Limits.{mark_bit}
 
 -- the bits of a lane: a map has states below this
 abbrev pub lane_width : ℕ
 lane_width = 8
 
--- the lanes of a word: 0 for all transitions, 1 to 6 for those of the sets 1 to 6, and 7 for those that are marked
+-- the lanes of a word: 0 for all transitions, 1 to 6 for those of the sets 1 to 6, and 7, which stays empty
 abbrev pub lanes : ℕ
 lanes = 8
 
 abbrev pub set_lanes : ℕ
 set_lanes = 6
-
-abbrev pub mark_lane : ℕ
-mark_lane = 7
 
 -- the map in lane i
 abbrev pub map_of : ℕ → ℕ → ℕ
@@ -45,10 +41,6 @@ each_lane k = chosen_lanes k (λ i. true)
 -- the lanes of some relations, which are given as a map
 unfoldable pub spread : ℕ → ℕ
 spread relations = chosen_lanes lanes (member relations)
-
--- the relations that a set byte names, as a map: i for set i, and the mark's. That of all transitions is not among them.
-unfoldable pub named_by : ℕ → ℕ
-named_by x = 2 * (x % 2 ^ set_lanes) + 2 ^ mark_lane * (x / 2 ^ mark_bit % 2)
 
 -- those of the lanes `among` in which state s stands
 unfoldable pub lanes_with : ℕ → ℕ → ℕ → ℕ

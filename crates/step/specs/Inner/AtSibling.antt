@@ -4,7 +4,7 @@ use Rattle.rule.specs.Rule.{Rule}
 use Rattle.rule.specs.Inner.Lookup.{Lookup, letter_lookup, look_up}
 use Rattle.rule.specs.Inner.Padded.{padded}
 use Rattle.table.specs.Inner.ReadRule.{WithinLimits}
-use Rattle.history.specs.Tree.{Tree, is_tree}
+use Rattle.history.specs.Tree.{Tree, is_tree_of}
 use Rattle.tree.specs.Inner.Nodes.{AreNodes}
 use Rattle.tree.specs.declared.nodes.Node.{Node as CodeNode}
 use Rattle.step.specs.RunningSet.{RunningSet}
@@ -22,10 +22,9 @@ pub record AtSibling (lookup : Lookup) (k : ℕ) (nodes : List CodeNode) (i : �
   pub pass : pass_at side arrays at accepting stable ≡ closed_to at.top (read_nodes (look_up lookup) k 0 at_start (take i nodes))
 
 -- for every rule, letter and tree whose look-up and nodes these are: "when a sibling is reached, this set is the union of its older
--- siblings' labels, both as they were before these siblings lost states to one another and as they are after". The trees are those over the
--- rule's states and sets; the met tree, from which no such step is made (document 02, U3), is none of them.
+-- siblings' labels, both as they were before these siblings lost states to one another and as they are after"
 unfoldable pub CarriedAlong : Type 0
 CarriedAlong =
-    (R : Rule) → WithinLimits R → (a : ℕ) (T : Tree) → is_tree R.states R.sets T ≡ true
+    (R : Rule) → WithinLimits R → (a : ℕ) (T : Tree) → is_tree_of R T ≡ true
     → (lookup : Lookup) → lookup ≡ letter_lookup (get_or (padded R.grid) a []) → (nodes : List CodeNode) → AreNodes nodes T
     → (i : ℕ) (at : Standing) → AtSibling lookup R.sets nodes i at → RunningSet R a T i at.top at.running

@@ -1,5 +1,5 @@
 -- One letter over nodes in one forward pass: what the code computes, for any nodes. The document's five steps are fused;
--- that the pass over the nodes of a tree gives its next tree, where the letter does not meet the rule, is a law (proofs/StepOfNodes.antt).
+-- that the pass over the nodes of a tree gives its next tree is a law (proofs/StepOfNodes.antt).
 use Rattle.std.specs.Prelude.{Bool, true, false, cond, List, [], ◌∷◌, ◌++◌, ℕ, suc, ◌^◌, ◌≤◌, eqb, ltb, length, get_or}
 use Rattle.std.specs.Int.Bits.{bit_or}
 use Rattle.base.specs.BitSet.{minus}

@@ -1,19 +1,15 @@
 -- What the answers of the functions over the cursor say, for the contracts inside this crate.
-use Rattle.std.specs.Prelude.{◌≡◌, List, ◌++◌, ℕ, ◌+◌, ltb, length, get_or, drop}
+use Rattle.std.specs.Prelude.{List, ◌++◌, ℕ, ◌+◌, ltb, length, get_or, drop}
 use Rattle.base.specs.Outcome.{Outcome, refused, accepted, ask, ◌then◌}
 use Rattle.base.specs.Reading.{Read, read_many}
 use Rattle.rule.specs.Limits.{max_states}
 use Rattle.rule.specs.Rule.{Grid}
-use Rattle.rule.specs.WellFormed.{set_byte_fits}
-use Rattle.rule.specs.Inner.Lanes.{spread, named_by}
 use Rattle.rule.specs.Inner.Padded.{blank_square, blank_cells}
-use Rattle.table.specs.Table.{read_byte, read_cell}
+use Rattle.table.specs.Table.{read_cell}
 use Rattle.table.specs.declared.cursor.Next.{Next}
 use Rattle.table.specs.declared.cursor.Next.TheVariants.{Byte, End}
-use Rattle.table.specs.declared.cells.MapByte.{MapByte}
-use Rattle.table.specs.declared.cells.MapByte.TheVariants.{Byte as MapByte-as-Byte, Refused}
-use Rattle.table.specs.declared.cells.SetByte.{SetByte}
-use Rattle.table.specs.declared.cells.SetByte.TheVariants.{Byte as SetByte-as-Byte, Refused as SetByte-as-Refused}
+use Rattle.table.specs.declared.cells.CellByte.{CellByte}
+use Rattle.table.specs.declared.cells.CellByte.TheVariants.{Byte as CellByte-as-Byte, Refused}
 use Rattle.table.specs.declared.cells.Progress.{Progress}
 use Rattle.table.specs.declared.cells.Progress.TheVariants.{At, Refused as Progress-as-Refused}
 
@@ -26,16 +22,10 @@ next_as End = refused 4
 unfoldable pub byte_at : List ℕ → ℕ → Outcome (ℕ × ℕ)
 byte_at s at = ask (ltb at (length s)) 4 (accepted (get_or s at 0, at + 1))
 
--- a map byte with the bytes behind it, or question 4's or 5's number
-abbrev pub byte_read : List ℕ → MapByte → Read ℕ
-byte_read s (MapByte-as-Byte x c) = accepted (x, drop c.at s)
+-- a byte with the bytes behind it, or question 4's or 5's number
+abbrev pub byte_read : List ℕ → CellByte → Read ℕ
+byte_read s (CellByte-as-Byte x c) = accepted (x, drop c.at s)
 byte_read s (Refused number) = refused number
-
--- the set byte of k sets at a place, with the bytes behind it, and the lanes that it names; or question 4's or 5's number
-abbrev pub SetsRead : ℕ → List ℕ → ℕ → SetByte → Type 0
-SetsRead k s at (SetByte-as-Byte x lanes c) =
-    (accepted (x, drop c.at s) ≡ read_byte (set_byte_fits k) (drop at s)) × (lanes ≡ spread (named_by x))
-SetsRead k s at (SetByte-as-Refused number) = refused number ≡ read_byte (set_byte_fits k) (drop at s)
 
 -- what was read up to a place, with the bytes behind it, or the number of the question that failed
 abbrev pub progress : {A : Type 0} → List ℕ → Progress → A → Read A

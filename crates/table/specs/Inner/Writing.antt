@@ -15,7 +15,7 @@ abbrev pub counted_as : Counted → Outcome ℕ
 counted_as (Transitions count) = accepted count
 counted_as Misfit = refused 11
 
--- question 11's "each 255 or below 2^k", marks permitted, put to some grid bytes; on yes the number of their transitions, which have a set byte each
+-- question 11's "each 255 or below 2^k" put to some grid bytes; on yes the number of their transitions, which have a set byte each
 unfoldable pub transition_count : ℕ → List ℕ → Outcome ℕ
 transition_count k bytes = ask (bytes_fit k bytes) 11 (accepted (length (set_bytes bytes)))
 

@@ -14,12 +14,9 @@ use Rattle.tree.specs.declared.nodes.Tree.{Tree as CodeTree}
 abbrev pub places : ℕ
 places = 2 * max_states
 
--- the node of a root alone, and that of a starting tree
-unfoldable pub root_nodes : ℕ → ℕ → List CodeNode
-root_nodes label active = record { depth = 0; label = label; kids = 0; active = active; old = 0 } ∷ []
-
+-- the node of a starting tree: that of the root alone
 unfoldable pub start_nodes : ℕ → List CodeNode
-start_nodes start = root_nodes start 1
+start_nodes start = record { depth = 0; label = start; kids = 0; active = 1; old = 0 } ∷ []
 
 -- nodes in an array, in front of blank ones
 unfoldable pub blank_behind : List CodeNode → List CodeNode

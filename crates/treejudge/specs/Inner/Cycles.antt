@@ -9,15 +9,13 @@ use Rattle.history.specs.Inner.Following.{witness_map}
 use Rattle.tree.specs.Inner.Nodes.{HoldsTree}
 use Rattle.tree.specs.declared.nodes.Tree.{Tree as CodeTree}
 use Rattle.letters.specs.Inner.Reading.{HasSets}
-use Rattle.treejudge.specs.Inner.Unmet.{Unmet}
 use Rattle.treejudge.specs.declared.cycle.Cycle.{Cycle}
 
--- the walk u v v v …, of which no tree is met, is read, and x is its tree t(r)
+-- the walk u v v v … is read, and x is its tree t(r)
 pub record AtRound (R : Rule) (u v : List ℕ) (lookups : Lookups) (k r : ℕ) (x : CodeTree) : Type 0 where
   pub holds : HasSets R k
   pub has_lookups : Every (HasLookup R lookups) v
   pub tree : HoldsTree R (round_tree R u v r) x
-  pub unmet : Unmet R u v
 
 -- ROUNDS
 

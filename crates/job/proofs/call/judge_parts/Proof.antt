@@ -21,20 +21,21 @@ refusal-requires c κs = search rules
 
 returns : tie.Need-returns
 returns c =
-    let kept = c.before.before.before.before.before.before in
-    parts_refused _ _ _ _ _ _ kept.before.judge-both.ensures.tree (length-replicate {A = ℕ} 7 0) kept.names2.given _ c.before.if1.true c.refusal.ensures
+    let called = c.before.before.before.before.before.before.before in
+    parts_refused _ _ _ _ _ _ called.judge-both.ensures.tree (length-replicate {A = ℕ} 7 0) _ c.before.if1.true c.refusal.ensures
 
 five-lines-requires : tie.Need-five-lines-requires
 five-lines-requires c κs =
+    let called = c.before.before.before.before.before.before in
     let kept = c.before.before.before.before.before in
-    parts_fit _ _ _ _ _ _ kept.before.judge-both.ensures.tree (length-replicate {A = ℕ} 7 0) kept.names2.given
+    parts_fit _ _ _ _ _ _ called.judge-both.ensures.tree (length-replicate {A = ℕ} 7 0) kept.names2.given
 
 returns-2 : tie.Need-returns-2
 unfolding scratch_length
 returns-2 c =
-    let kept = c.before.before.before.before.before.before in
-    let both = kept.before.judge-both.ensures in
-    parts_judged _ _ _ _ _ _ both.tree (length-replicate {A = ℕ} 7 0) kept.names2.given _ (length-replicate {A = ℕ} scratch_length 0) _ both.plain _ c.before.if1.false
+    let called = c.before.before.before.before.before.before.before in
+    let both = called.judge-both.ensures in
+    parts_judged _ _ _ _ _ _ both.tree (length-replicate {A = ℕ} 7 0) _ (length-replicate {A = ℕ} scratch_length 0) _ both.plain _ c.before.if1.false
     c.five-lines.ensures
 
 pub judge-parts-spec : {M : Type 1} → statement M

@@ -21,70 +21,47 @@ slice-aggregate-append c = search rules
 append-requires : tie.Need-append-requires
 append-requires c κs = search rules
 
-slice-aggregate-append-2 : tie.Need-slice-aggregate-append-2
-slice-aggregate-append-2 c = search rules
-
-append-requires-2 : tie.Need-append-requires-2
-append-requires-2 c κs = omega (arith, appended_length _ _ c.before.before.before.append.ensures)
-
--- no
-returns : tie.Need-returns
-unfolding line node_text finding_of
-returns c =
-    let no-yes = c.before.before in
-    let label = no-yes.before.before in
-    let start = label.before.before in
-    let all = appends_both (appends label.append.ensures 5 (omega arith)) (appends c.append2.ensures 29 (omega arith)) (size start) (omega arith) in
-    rw (ne_eqb _ _ no-yes.if1.true) all
-
-slice-aggregate-append-3 : tie.Need-slice-aggregate-append-3
-slice-aggregate-append-3 c = search rules
-
-append-requires-3 : tie.Need-append-requires-3
-append-requires-3 c κs = omega (arith, appended_length _ _ c.before.before.before.before.before.append.ensures)
-
--- the rule is met
-returns-2 : tie.Need-returns-2
-unfolding line node_text finding_of
-returns-2 c =
-    let met = c.before.before in
-    let yes = met.before.before in
-    let label = yes.before.before in
-    let start = label.before.before in
-    let all = appends_both (appends label.append.ensures 5 (omega arith)) (appends c.append3.ensures 29 (omega arith)) (size start) (omega arith) in
-    rw (yes.if1.false, met.if2.true) all
-
 cast-append-name : tie.Need-overflow-cast-append-name
 cast-append-name c = search rules
 
 append-name-requires : tie.Need-append-name-requires
 append-name-requires c κs =
-    let other = c.before in
-    let yes = other.before.before in
-    let label = yes.before.before in
-    (label.before.before.requires.0 yes.if1.false other.if2.false, omega (arith, appended_length _ _ label.append.ensures))
+    let label = c.before.before.before in
+    (label.before.before.requires.0 c.before.if1.true, omega (arith, appended_length _ _ label.append.ensures))
 
-slice-aggregate-append-4 : tie.Need-slice-aggregate-append-4
-slice-aggregate-append-4 c = search rules
+slice-aggregate-append-2 : tie.Need-slice-aggregate-append-2
+slice-aggregate-append-2 c = search rules
 
-append-requires-4 : tie.Need-append-requires-4
-append-requires-4 c κs =
+append-requires-2 : tie.Need-append-requires-2
+append-requires-2 c κs =
     let name = c.before in
-    omega (arith, appends_length name.append-name.ensures, appended_length _ _ name.before.before.before.before.before.before.append.ensures)
+    omega (arith, appends_length name.append-name.ensures, appended_length _ _ name.before.before.before.before.append.ensures)
 
--- yes with a node
-returns-3 : tie.Need-returns-3
+returns : tie.Need-returns
 unfolding line node_text finding_of
-returns-3 c =
+returns c =
     let name = c.before.before in
-    let other = name.before.before in
-    let yes = other.before.before in
+    let yes = name.before.before in
     let label = yes.before.before in
     let start = label.before.before in
     let both = appends_both (appends label.append.ensures 5 (omega arith)) name.append-name.ensures (size start) (omega arith) in
-    let all = appends_both both (appends c.append4.ensures 1 (omega arith)) (size start) (omega arith) in
-    rw (yes.if1.false, ne_eqb _ _ other.if2.false)
-    (appends_regroup (ascii "node ") (name_text (take start.args.tree.length start.args.names)) (ascii "\n") all 34 (omega arith))
+    let all = appends_both both (appends c.append2.ensures 1 (omega arith)) (size start) (omega arith) in
+    rw yes.if1.true (appends_regroup (ascii "node ") (name_text (take start.args.tree.length start.args.names)) (ascii "\n") all 34 (omega arith))
+
+slice-aggregate-append-3 : tie.Need-slice-aggregate-append-3
+slice-aggregate-append-3 c = search rules
+
+append-requires-3 : tie.Need-append-requires-3
+append-requires-3 c κs = omega (arith, appended_length _ _ c.before.before.before.append.ensures)
+
+returns-2 : tie.Need-returns-2
+unfolding line node_text finding_of
+returns-2 c =
+    let no-yes = c.before.before in
+    let label = no-yes.before.before in
+    let start = label.before.before in
+    let all = appends_both (appends label.append.ensures 5 (omega arith)) (appends c.append3.ensures 29 (omega arith)) (size start) (omega arith) in
+    rw (ne_eqb _ _ no-yes.if1.false) all
 
 pub node-line-spec : {M : Type 1} → statement M
 node-line-spec =
@@ -92,14 +69,11 @@ node-line-spec =
     (tie.spec
     slice-aggregate-append
     append-requires
+    cast-append-name
+    append-name-requires
     slice-aggregate-append-2
     append-requires-2
     returns
     slice-aggregate-append-3
     append-requires-3
-    returns-2
-    cast-append-name
-    append-name-requires
-    slice-aggregate-append-4
-    append-requires-4
-    returns-3)
+    returns-2)

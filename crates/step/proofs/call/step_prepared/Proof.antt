@@ -1,14 +1,11 @@
 -- One letter on a record, under a rule and by the letter's look-up: the laws of StepCall.
 use borrow.Author.Rules.{rules}
 use native.Mathlib.Omega.{arith}
-use mathlib.Core.Path.{◌≡◌, sym, ◌∙◌}
-use mathlib.Core.Bool.{false}
 use mathlib.Core.List.{[]}
 use Prim.Native.Nat.{ℕ}
 use Rattle.rule.specs.Rule.{Rule}
 use Rattle.table.specs.Inner.Preparing.{PreparedLetter}
-use Rattle.history.specs.Letter.{meets}
-use Rattle.step.proofs.StepCall.{TreeRead, tree_read, numbers_fit, step_no_tree, step_no_room, letter_on, step_met, step_ready, step_recordable, step_done}
+use Rattle.step.proofs.StepCall.{TreeRead, tree_read, numbers_fit, step_no_tree, step_no_room, step_ready, step_recordable, step_done}
 use Rattle.step.proofs.call.step_prepared.Statement.{statement}
 use Rattle.step.proofs.call.step_prepared.Tie as tie
 
@@ -20,19 +17,6 @@ begun c = c.before.before.before.before.before.before
 tree : (c : tie.After-nodes) → let args = (begun c).args in (R : Rule) (a : ℕ) → PreparedLetter R args.header a args.lookup.now
     → TreeRead R args.bytes.now c.nodes.given.0.0 c.before.before.before.checked.result.tree
 tree c R a p = tree_read p _ [] c.before.before.before.checked.ensures _ c.nodes.given.1
-
--- where it was asked whether the letter meets the rule, and what was told
-abbrev read : tie.After-meets → tie.After-nodes
-read c = c.before.before.before
-
-told : (c : tie.After-meets) → let args = (begun (read c)).args in (R : Rule) (a : ℕ) (p : PreparedLetter R args.header a args.lookup.now)
-    → c.meets.result ≡ meets R a (tree (read c) R a p).tree
-told c R a p = c.meets.ensures R a _ (letter_on p _ [] (tree (read c) R a p))
-
--- it does not
-quiet : (c : tie.Else2) → let n = read c.before in let args = (begun n).args in
-    (R : Rule) (a : ℕ) (p : PreparedLetter R args.header a args.lookup.now) → meets R a (tree n R a p).tree ≡ false
-quiet c R a p = sym (told c.before R a p) ∙ c.if2.false
 
 checked-requires : tie.Need-checked-requires
 checked-requires c κs = search rules
@@ -57,63 +41,41 @@ step-refusal-requires-2 c κs = search rules
 returns-2 : tie.Need-returns-2
 returns-2 c R a p = step_no_room p _ _ (tree c.before.before.before R a p) c.before.if1.true _ c.step-refusal2.ensures
 
-meets-requires : tie.Need-meets-requires
-meets-requires c κs =
-    let n = c.before.before in
-    let (R, a, p) = (begun n).requires in
-    (R, a, _, letter_on p _ [] (tree n R a p))
+laid-requires : tie.Need-laid-requires
+laid-requires c κs = search rules
 
-met-answer-requires : tie.Need-met-answer-requires
-met-answer-requires c κs =
-    let asked = c.before.before in
-    ((numbers_fit (begun (read asked)).requires.2).0, asked.before.if1.false)
+cast-step-nodes : tie.Need-overflow-cast-step-nodes
+cast-step-nodes c = omega (arith, numbers_fit (begun c.before.before.before.before).requires.2)
+
+step-nodes-requires : tie.Need-step-nodes-requires
+step-nodes-requires c κs =
+    let laid = c.before.before in
+    let n = laid.before.before.before in
+    let (R, a, p) = (begun n).requires in
+    step_ready p _ [] (tree n R a p) laid.laid.ensures
+
+put-record-requires : tie.Need-put-record-requires
+put-record-requires c κs =
+    let s = c.before.before in
+    let laid = s.before.before.before in
+    let room = laid.before in
+    let n = room.before.before in
+    let (R, a, p) = (begun n).requires in (
+      step_recordable p _ [] (tree n R a p) laid.laid.ensures s.step-nodes.ensures,
+      (s.step-nodes.ensures.arrays, omega arith),
+      room.if1.false,
+    )
 
 same_length : tie.Need-same-length
 same_length c = search rules
 
 returns-3 : tie.Need-returns-3
 returns-3 c R a p =
-    let done = c.before.before in
-    let way = done.before.before in
-    let asked = way.before in
-    step_met p _ _ (tree (read asked) R a p) (sym (told asked R a p) ∙ way.if2.true) asked.before.if1.false _ _ done.met-answer.ensures
-
-laid-requires : tie.Need-laid-requires
-laid-requires c κs = search rules
-
-cast-step-nodes : tie.Need-overflow-cast-step-nodes
-cast-step-nodes c = omega (arith, numbers_fit (begun (read c.before.before.before)).requires.2)
-
-step-nodes-requires : tie.Need-step-nodes-requires
-step-nodes-requires c κs =
-    let laid = c.before.before in
-    let way = laid.before in
-    let (R, a, p) = (begun (read way.before)).requires in
-    step_ready p _ [] (tree (read way.before) R a p) (quiet way R a p) laid.laid.ensures
-
-put-record-requires : tie.Need-put-record-requires
-put-record-requires c κs =
-    let s = c.before.before in
-    let laid = s.before.before.before in
-    let way = laid.before in
-    let asked = way.before in
-    let (R, a, p) = (begun (read asked)).requires in (
-      step_recordable p _ [] (tree (read asked) R a p) (quiet way R a p) laid.laid.ensures s.step-nodes.ensures,
-      (s.step-nodes.ensures.arrays, omega arith),
-      asked.before.if1.false,
-    )
-
-same-length-2 : tie.Need-same-length-2
-same-length-2 c = search rules
-
-returns-4 : tie.Need-returns-4
-returns-4 c R a p =
     let put = c.before.before in
     let s = put.before.before.before in
     let laid = s.before.before.before in
-    let way = laid.before in
-    let asked = way.before in
-    step_done p _ _ (tree (read asked) R a p) (quiet way R a p) laid.laid.ensures s.step-nodes.ensures asked.before.if1.false _ _
+    let room = laid.before in
+    step_done p _ _ (tree room.before.before R a p) laid.laid.ensures s.step-nodes.ensures room.if1.false _ _
     put.put_record.ensures.0 put.put_record.ensures.1
 
 pub step-prepared-spec : {M : Type 1} → statement M
@@ -127,13 +89,9 @@ step-prepared-spec =
     returns
     step-refusal-requires-2
     returns-2
-    meets-requires
-    met-answer-requires
-    same_length
-    returns-3
     laid-requires
     cast-step-nodes
     step-nodes-requires
     put-record-requires
-    same-length-2
-    returns-4)
+    same_length
+    returns-3)

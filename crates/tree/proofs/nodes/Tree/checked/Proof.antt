@@ -1,7 +1,7 @@
 -- Question 9 and the tree's nodes, by the laws of NodesOfRecord.
 use borrow.Author.Rules.{rules}
-use mathlib.Core.Path.{◌≡◌, sym, ◌∙◌}
-use mathlib.Core.Bool.{true, false, ◌&&◌}
+use mathlib.Core.Path.{◌≡◌}
+use mathlib.Core.Bool.{true, ◌&&◌}
 use Prim.Native.Nat.{◌+◌, ◌≤◌, ◌<◌}
 use native.Mathlib.Omega.{arith}
 use lib.Count.{ones}
@@ -10,8 +10,7 @@ use lib.ListN.{length, get_or}
 use Rattle.base.proofs.Tests.{told_no, told_yes}
 use Rattle.base.proofs.Flattening.{to_end}
 use Rattle.rule.specs.Limits.{max_sets, max_states}
-use Rattle.history.specs.Record.{is_met_record}
-use Rattle.tree.proofs.NodesOfRecord.{passed_long, passed_parts, checked_met, checked_yes, checked_no, behind_first, limits_no, limits_fit, limits_yes}
+use Rattle.tree.proofs.NodesOfRecord.{passed_long, passed_parts, checked_yes, checked_no, behind_first, limits_no, limits_fit, limits_yes}
 use Rattle.tree.proofs.nodes.Tree.checked.Statement.{statement}
 use Rattle.tree.proofs.nodes.Tree.checked.Tie as tie
 
@@ -22,16 +21,9 @@ passed c = told_yes c.before.within_limits.ensures c.if1.false
 fit : (c : tie.Else1) → let args = c.before.before.before.args in (args.n ≤ max_states) × (args.k < 16)
 fit c = limits_fit _ _ c.before.before.before.args.bytes.now (passed c)
 
--- the bytes are not the met tree's record
-abbrev within : tie.Else2 → tie.Else1
-within c = c.before.before
-
-other : (c : tie.Else2) → is_met_record (within c).before.before.before.args.bytes.now ≡ false
-other c = sym c.before.is_met_lem.ensures ∙ c.if2.false
-
 -- bytes that pass have a map and a host for each of its states
-long : (c : tie.Else3) → let bytes = (within c.before.before).before.before.before.args.bytes.now in 1 + ones (get_or bytes 0 0) ≤ length bytes
-long c = passed_long _ _ _ (fit (within c.before.before)).1 (told_yes c.before.record-fits.ensures c.if3.false)
+long : (c : tie.Else2) → let bytes = c.before.before.before.before.before.args.bytes.now in 1 + ones (get_or bytes 0 0) ≤ length bytes
+long c = passed_long _ _ _ (fit c.before.before).1 (told_yes c.before.record-fits.ensures c.if2.false)
 
 within-limits-requires : tie.Need-within-limits-requires
 within-limits-requires c κs = search rules
@@ -45,35 +37,21 @@ returns c =
     rw (limits_no args.n args.k args.bytes.now (told_no c.before.before.within_limits.ensures c.before.if1.true))
     c.no_record.ensures
 
-is-met-requires : tie.Need-is-met-requires
-is-met-requires c κs = search rules
-
-met-requires : tie.Need-met-requires
-met-requires c κs = search rules
-
-returns-2 : tie.Need-returns-2
-returns-2 c =
-    let asked = c.before.before in
-    let args = asked.before.before.before.before.args in
-    let bytes = args.bytes.now in
-    rw (limits_yes args.n args.k bytes (passed asked.before))
-    (checked_met _ _ bytes (sym asked.is_met_lem.ensures ∙ c.before.if2.true) _ c.met.ensures)
-
 record-fits-requires : tie.Need-record-fits-requires
-record-fits-requires c κs = omega (arith, fit (within c))
+record-fits-requires c κs = omega (arith, fit c)
 
 no-record-requires-2 : tie.Need-no-record-requires-2
 no-record-requires-2 c κs = search rules
 
-returns-3 : tie.Need-returns-3
-returns-3 c =
+returns-2 : tie.Need-returns-2
+returns-2 c =
     let fits = c.before.before in
-    let start = within fits.before in
-    let args = start.before.before.before.args in
+    let within = fits.before in
+    let args = within.before.before.before.args in
     let bytes = args.bytes.now in
     rw (
-      limits_yes args.n args.k bytes (passed start),
-      checked_no args.n args.k bytes (fit start).1 (other fits.before) (told_no fits.record-fits.ensures c.before.if3.true),
+      limits_yes args.n args.k bytes (passed within),
+      checked_no args.n args.k bytes (fit within).1 (told_no fits.record-fits.ensures c.before.if2.true),
     )
     c.no-record2.ensures
 
@@ -114,24 +92,24 @@ record-nodes-requires : tie.Need-record-nodes-requires
 record-nodes-requires c κs =
     let way = c.before.before.before in
     let fits = way.before in
-    let start = within fits.before in
-    let bytes = start.before.before.before.args.bytes.now in
+    let within = fits.before in
+    let bytes = within.before.before.before.args.bytes.now in
     let m = ones (get_or bytes 0 0) in
-    let (states, sets) = fit start in
-    let (small, (many, few)) = passed_parts _ _ bytes sets (told_yes fits.record-fits.ensures way.if3.false) _ _
+    let (states, sets) = fit within in
+    let (small, (many, few)) = passed_parts _ _ bytes sets (told_yes fits.record-fits.ensures way.if2.false) _ _
     (behind_first m bytes) (to_end (1 + m) bytes) in
     ((omega arith, (small, many)), omega arith)
 
-returns-4 : tie.Need-returns-4
-returns-4 c =
+returns-3 : tie.Need-returns-3
+returns-3 c =
     let way = c.before.before.before.before in
     let fits = way.before in
-    let start = within fits.before in
-    let args = start.before.before.before.args in
+    let within = fits.before in
+    let args = within.before.before.before.args in
     let bytes = args.bytes.now in
     let m = ones (get_or bytes 0 0) in
-    rw (limits_yes args.n args.k bytes (passed start))
-    (checked_yes _ _ bytes (fit start).1 (other fits.before) (told_yes fits.record-fits.ensures way.if3.false)
+    rw (limits_yes args.n args.k bytes (passed within))
+    (checked_yes _ _ bytes (fit within).1 (told_yes fits.record-fits.ensures way.if2.false)
     _ _ _ (behind_first m bytes) (to_end (1 + m) bytes) c.record-nodes.ensures)
 
 pub checked-spec : {M : Type 1} → statement M
@@ -141,12 +119,9 @@ checked-spec =
     within-limits-requires
     no-record-requires
     returns
-    is-met-requires
-    met-requires
-    returns-2
     record-fits-requires
     no-record-requires-2
-    returns-3
+    returns-2
     shared-slice-read-map
     cast-map
     cast-tags
@@ -159,4 +134,4 @@ checked-spec =
     part-record-nodes-start-2
     part-record-nodes-end-2
     record-nodes-requires
-    returns-4)
+    returns-3)

@@ -1,0 +1,23 @@
+// The lead-in: the map of the states that it leads to.
+ghost use Rattle.std.specs.Prelude.{◌≡◌, ◌<◌};
+ghost use Rattle.base.specs.Lists.{Every};
+ghost use Rattle.rule.specs.Limits.{max_letters};
+ghost use Rattle.plain.specs.Inner.Letters.{states_after};
+
+use rule::lanes::map_of;
+use rule::lookup::look_up;
+use word::lookups::Lookups;
+
+// "u and i tails lead from a starting state to s", before the first tail: the states that u leads to from the states `start`.
+pub fn states_after(lookups: &Lookups, start: u16, u: &[u8]) -> u16
+    requires { Every (λ a. a < max_letters) u.now }
+    ensures { result ≡ states_after lookups.now u.now start }
+{
+    let mut states = start;
+    let mut at = 0usize;
+    while at < u.len() {
+        states = map_of(look_up(&lookups[u[at] as usize], states), 0);
+        at += 1;
+    }
+    states
+}
