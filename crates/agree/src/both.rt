@@ -9,7 +9,7 @@ use treejudge::judge::{TreeAnswer, tree_refusal};
 use word::questions::walk_questions;
 
 // The answers of the two judges.
-#[derive(Drop)]
+#[derive(Clone, Copy)]
 pub struct BothAnswers {
     pub tree: TreeAnswer,
     pub plain: PlainAnswer,

@@ -3,7 +3,7 @@ ghost use Rattle.std.specs.Prelude.{◌≡◌, ℕ};
 ghost use Rattle.base.specs.Inner.PartEnds.{end_as, part_end};
 
 // Where a part ends: behind its last byte; or past the end of the bytes.
-#[derive(Drop)]
+#[derive(Clone, Copy)]
 pub enum End {
     Past,
     At(usize),

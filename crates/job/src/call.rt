@@ -12,7 +12,7 @@ use tree::nodes::Tree;
 pub const ROOM: usize = 128;
 
 // A text: its bytes are the first `length` ones, zeros stand behind them.
-#[derive(Drop)]
+#[derive(Clone, Copy)]
 pub struct Text {
     pub bytes: [u8; ROOM],
     pub length: usize,

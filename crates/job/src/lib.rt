@@ -1,4 +1,6 @@
 // Jobs: question 12, both judges, and the lines that are printed.
+#![tactic(auto)]
+
 pub mod call;
 pub mod limits;
 mod lines;

@@ -6,13 +6,13 @@ use crate::limits::{LONGEST, SHORTEST};
 use base::part::{End, part_end};
 
 // Where table and lead-in end. The tail ends with the job's last byte.
-#[derive(Drop)]
+#[derive(Clone, Copy)]
 pub struct Ends {
     pub table: usize,
     pub lead: usize,
 }
 
-#[derive(Drop)]
+#[derive(Clone, Copy)]
 pub enum Split {
     Refused,
     Parts(Ends),

@@ -1,4 +1,6 @@
 // THE PROGRAM: it reads a job from standard input and prints the answer.
+#![tactic(auto)]
+
 use program::console::run;
 
 fn main() {

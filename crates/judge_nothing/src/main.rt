@@ -1,4 +1,6 @@
 // The program `judge`, run on no input.
+#![tactic(auto)]
+
 use program::console::run;
 
 fn main() {

@@ -1,4 +1,6 @@
 // The program `judge`, run on the longest job with one byte behind it: a whole job stands at its beginning.
+#![tactic(auto)]
+
 use program::console::run;
 
 fn main() {

@@ -14,14 +14,14 @@ use tree::sides::OnSide;
 use word::lookups::Lookups;
 
 // The map of a tree's nodes that have kept their names, and that of the witnesses: those among them that were accepting once.
-#[derive(Drop)]
+#[derive(Clone, Copy)]
 pub struct Maps {
     pub kept: u16,
     pub witnesses: u16,
 }
 
 // A tree in place, and its followed nodes.
-#[derive(Drop)]
+#[derive(Clone, Copy)]
 pub struct Followed {
     pub tree: OnSide,
     pub maps: Maps,

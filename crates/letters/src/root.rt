@@ -18,7 +18,7 @@ use word::lookups::Lookups;
 use word::walk::MAX_LENGTH;
 
 // What is carried of the root: its label, the union of its children's labels, its active set, and whether it was accepting on the way.
-#[derive(Drop)]
+#[derive(Clone, Copy)]
 pub struct Root {
     pub label: u16,
     pub kids: u16,
@@ -27,7 +27,7 @@ pub struct Root {
 }
 
 // The root behind some letters.
-#[derive(Drop)]
+#[derive(Clone, Copy)]
 pub struct RootAt {
     pub place: usize,
     pub root: Root,
@@ -199,7 +199,7 @@ fn lay_alone(sides: &mut DoubleBuffer, side: usize, root: Root) -> usize
 
 // A tree behind some letters, on the side where the one before them stood: how many nodes it has, and whether its root was accepting at one
 // of the letters.
-#[derive(Drop)]
+#[derive(Clone, Copy)]
 pub struct Skipped {
     pub place: usize,
     pub count: usize,

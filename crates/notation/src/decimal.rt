@@ -10,7 +10,7 @@ use crate::lines::{part, separators};
 pub const LARGEST: u64 = 18446744073709551615;
 
 // A number, and whether the text was one.
-#[derive(Drop)]
+#[derive(Clone, Copy)]
 pub struct Number {
     pub value: u64,
     pub right: bool,

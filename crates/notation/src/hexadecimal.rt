@@ -10,7 +10,7 @@ use crate::decimal::{digit, number_of};
 use check::same;
 
 // Where the bytes in a buffer end, and whether all is right: the text was a byte string, and the buffer had room for it.
-#[derive(Drop)]
+#[derive(Clone, Copy)]
 struct Put {
     end: usize,
     right: bool,
@@ -20,7 +20,7 @@ struct Put {
 const LONGEST: usize = 33000;
 
 // A byte string at the front of an array, with zeros behind it, and whether the text was one that has room there.
-#[derive(Drop)]
+#[derive(Clone, Copy)]
 pub struct Bytes {
     pub room: [u8; LONGEST],
     pub end: usize,

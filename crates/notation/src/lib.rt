@@ -1,4 +1,6 @@
 // How stored cases write numbers, byte strings and texts.
+#![tactic(auto)]
+
 pub mod decimal;
 pub mod hexadecimal;
 pub mod lines;

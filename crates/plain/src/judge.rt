@@ -23,7 +23,7 @@ use word::walk::letters_left;
 
 // The plain judge's answer: 0 and the verdict (1 yes, 0 no), or the number of the question that failed and zero.
 #[repr(C)]
-#[derive(Drop)]
+#[derive(Clone, Copy)]
 pub struct PlainAnswer {
     pub number: u8,
     pub verdict: u8,

@@ -1,4 +1,6 @@
 // The plain judge. It knows the table and nothing of trees.
+#![tactic(auto)]
+
 pub mod judge;
 mod lead;
 pub mod limits;

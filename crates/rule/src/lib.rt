@@ -1,4 +1,6 @@
 // Rules: their limits, and the look-up of successors.
+#![tactic(auto)]
+
 pub mod lanes;
 pub mod limits;
 pub mod lookup;

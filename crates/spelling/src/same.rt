@@ -9,7 +9,7 @@ use word::walk::lengths_fit;
 
 // The answer: 0 and whether the walks are one (1 yes, 0 no), or the number of the question that failed and zero.
 #[repr(C)]
-#[derive(Drop)]
+#[derive(Clone, Copy)]
 pub struct SameAnswer {
     pub number: u8,
     pub same: u8,

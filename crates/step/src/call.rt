@@ -18,7 +18,7 @@ use tree::writing::put_record;
 // 0, the new record's length, the accepting and the stable map by old node number; or the number of the question that
 // failed and zeros.
 #[repr(C)]
-#[derive(Drop)]
+#[derive(Clone, Copy)]
 pub struct StepAnswer {
     pub number: u8,
     pub written: usize,

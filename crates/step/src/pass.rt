@@ -19,7 +19,7 @@ use tree::packed::{pack, unpack};
 pub const NONE: u8 = 255;
 
 // What a letter answers: how many nodes the next tree has, and the maps by old node number.
-#[derive(Drop)]
+#[derive(Clone, Copy)]
 pub struct Stepped {
     pub count: usize,
     pub accepting: u16,
@@ -31,7 +31,7 @@ type ByDepth = [u16; Tree::NODES + 1];
 
 // What becomes of a node in steps 1 to 3: its label, the union of its children's labels, and the label that its sprouted
 // child is given in step 2.
-#[derive(Drop)]
+#[derive(Clone, Copy)]
 pub struct NewLabels {
     pub label: u16,
     pub kids: u16,
@@ -118,7 +118,7 @@ fn joined_if(map: u16, old: usize, holds: bool) -> u16
 // of one node, and the levels above the deepest one wait. Where a pass stands: the depth of the deepest level; the running set of its
 // siblings; how many nodes are written. "When a sibling is reached, this set is the union of its older siblings' labels, both as they
 // were before these siblings lost states to one another and as they are after": `running_set` in proofs/RunningSet.antt.
-#[derive(Drop)]
+#[derive(Clone, Copy)]
 pub struct Standing {
     pub top: usize,
     pub running: u16,

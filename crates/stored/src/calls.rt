@@ -21,7 +21,7 @@ use notation::hexadecimal::bytes_are;
 use notation::lines::{TAB, field, separators};
 
 // The library's calls.
-#[derive(Drop)]
+#[derive(Clone, Copy)]
 pub enum Call {
     Read,
     Write,
@@ -34,7 +34,7 @@ pub enum Call {
 }
 
 // A call, or none of this name.
-#[derive(Drop)]
+#[derive(Clone, Copy)]
 enum Named {
     Known(Call),
     Unknown,

@@ -10,14 +10,14 @@ use libc::STDOUT_FILENO;
 use notation::lines::{NEWLINE, end_of};
 
 // What the lines of a file have.
-#[derive(Drop)]
+#[derive(Clone, Copy)]
 pub enum Kind {
     Calls,
     Jobs,
 }
 
 // How many cases a file has, and how many of them differ.
-#[derive(Drop)]
+#[derive(Clone, Copy)]
 struct Tally {
     cases: u64,
     differences: u64,

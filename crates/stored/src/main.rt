@@ -1,5 +1,7 @@
 // Stored cases, with results that come from implementations that share nothing with this code, run against the library.
 // Prints for each file how many cases it has and how many differ, and names each difference by file and line.
+#![tactic(auto)]
+
 mod answers;
 mod calls;
 mod fields;

@@ -5,7 +5,7 @@ use notation::decimal::{LARGEST, number_of};
 use notation::lines::{part, separators};
 
 // n, m, k and the starting map, and whether the text had them.
-#[derive(Drop)]
+#[derive(Clone, Copy)]
 pub struct Rule {
     pub n: usize,
     pub m: usize,

@@ -15,7 +15,7 @@ use table::reader::Reading;
 // 0, the map of the next states, and for each accepting set the map of those that a transition of it reaches: set i at place i − 1,
 // 0 for a set that the rule does not have. Or the number of the question that failed and zeros.
 #[repr(C)]
-#[derive(Drop)]
+#[derive(Clone, Copy)]
 pub struct SuccessorsAnswer {
     pub number: u8,
     pub next: u16,

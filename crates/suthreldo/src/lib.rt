@@ -1,5 +1,7 @@
 // The calls for C and Rust: each is one of the public calls under a plain name, with its contract word for word.
 // include/suthreldo.h declares them.
+#![tactic(auto)]
+
 ghost use Rattle.table.specs.ReadCall.{ReadCall};
 ghost use Rattle.table.specs.WriteCall.{WriteCall};
 ghost use Rattle.successors.specs.SuccessorsCall.{SuccessorsCall};

@@ -6,7 +6,7 @@ ghost use Rattle.table.specs.Inner.Cursor.{byte_at, next_as};
 use crate::cursor::{Cursor, Next};
 
 // The lent bytes of a table, and the place of the byte to be read next.
-#[derive(Drop)]
+#[derive(Clone, Copy)]
 pub struct Reader<'a> {
     src: &'a [u8],
     at: usize,

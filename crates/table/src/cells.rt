@@ -12,14 +12,14 @@ use rule::lanes::{in_lane, spread, with_state};
 use rule::limits::{Cells, NO_TRANSITION, Row, STATES, Square, SquareWords, Words};
 
 // A cell byte with the cursor behind it, or the number of the question that it fails.
-#[derive(Drop)]
+#[derive(Clone, Copy)]
 pub enum CellByte {
     Byte(u8, Cursor),
     Refused(u8),
 }
 
 // The cursor behind what was read, or the number of the question that failed.
-#[derive(Drop)]
+#[derive(Clone, Copy)]
 pub enum Progress {
     At(Cursor),
     Refused(u8),

@@ -8,7 +8,7 @@ ghost use Rattle.table.specs.Inner.Header.{header_number};
 use rule::limits::{LETTERS, SETS, STATES};
 
 // n, m, k and the map of starting states.
-#[derive(Drop)]
+#[derive(Clone, Copy)]
 pub struct Header {
     pub states: usize,
     pub letters: usize,

@@ -1,4 +1,6 @@
 // Rule tables: reader, writer, a table read into arrays of arrays; the questions to a table and a letter.
+#![tactic(auto)]
+
 mod byte_reader;
 mod cells;
 mod cursor;

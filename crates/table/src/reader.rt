@@ -13,7 +13,7 @@ use crate::header::{Header, header_number};
 use rule::limits::{Cells, LETTERS, NO_TRANSITION, STATES, Words};
 
 // The numbers of the rule that was read, or the number of the question that failed.
-#[derive(Drop)]
+#[derive(Clone, Copy)]
 pub enum Reading {
     Refused(u8),
     Rule(Header),
@@ -21,7 +21,7 @@ pub enum Reading {
 
 // The reader's answer: 0 and the rule's numbers, or the number of the question that failed and zeros.
 #[repr(C)]
-#[derive(Drop)]
+#[derive(Clone, Copy)]
 pub struct ReadAnswer {
     pub number: u8,
     pub states: usize,

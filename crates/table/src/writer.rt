@@ -12,21 +12,21 @@ use rule::limits::NO_TRANSITION;
 
 // The writer's answer: 0 and the table's length, or the number of the question that failed and zero.
 #[repr(C)]
-#[derive(Drop)]
+#[derive(Clone, Copy)]
 pub struct WriteAnswer {
     pub number: u8,
     pub written: usize,
 }
 
 // How many transitions a grid has, unless one of its bytes fails question 11.
-#[derive(Drop)]
+#[derive(Clone, Copy)]
 enum Counted {
     Transitions(usize),
     Misfit,
 }
 
 // The exact length of the table that is to be written, or the number of the question that failed.
-#[derive(Drop)]
+#[derive(Clone, Copy)]
 enum Length {
     Exact(usize),
     Refused(u8),

@@ -1,4 +1,6 @@
 // History trees in code: a tree, its record, the check of a record, and the starting record.
+#![tactic(auto)]
+
 mod checks;
 pub mod nodes;
 pub mod packed;

@@ -5,7 +5,7 @@ use rule::limits::STATES;
 
 // A node: its depth, its label, the union of its children's labels, its active set, and its number before the last
 // letter (255 where that letter has sprouted it).
-#[derive(Drop)]
+#[derive(Clone, Copy)]
 pub struct Node {
     pub depth: u16,
     pub label: u16,
@@ -22,7 +22,7 @@ pub type DoubleBuffer = [Preorder; 2];
 
 // A tree: its nodes, and how many of them count. No other crate can make one but by the functions of this type: "Every tree comes
 // from the starting tree or from a checked record" (record.rt), or from one of these by letters (sides.rt).
-#[derive(Drop)]
+#[derive(Clone, Copy)]
 pub struct Tree {
     pub(crate) nodes: Preorder,
     pub(crate) count: usize,

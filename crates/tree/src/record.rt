@@ -12,14 +12,14 @@ use crate::reading::record_nodes;
 use rule::limits::SETS;
 
 // The number of nodes of a checked record's tree, or that the bytes are no record.
-#[derive(Drop)]
+#[derive(Clone, Copy)]
 pub enum Count {
     Nodes(usize),
     Refused,
 }
 
 // The check's answer: the count, and the tree beside it.
-#[derive(Drop)]
+#[derive(Clone, Copy)]
 pub struct Checked {
     pub count: Count,
     pub tree: Tree,

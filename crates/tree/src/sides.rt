@@ -6,7 +6,7 @@ ghost use Rattle.tree.specs.Inner.Sides.{tree_on, Laid, SomeTreeOn};
 use crate::nodes::{DoubleBuffer, Tree};
 
 // A tree in place: which side it stands on, and how many of its nodes count.
-#[derive(Drop)]
+#[derive(Clone, Copy)]
 pub struct OnSide {
     pub side: usize,
     pub count: usize,

@@ -11,7 +11,7 @@ use table::reader::{Reading, read_rule};
 
 // 0 and the record's length, or the number of the question that failed and zero.
 #[repr(C)]
-#[derive(Drop)]
+#[derive(Clone, Copy)]
 pub struct StartAnswer {
     pub number: u8,
     pub written: usize,

@@ -10,7 +10,7 @@ use word::lookups::Lookups;
 
 // What the search has found: the tree t(power − 1), to which `period` rounds lead back; the map of its nodes that keep their names in
 // these rounds and are accepting once; and the tree that was saved before it, t(half − 1), where it was not the first.
-#[derive(Drop)]
+#[derive(Clone, Copy)]
 pub struct Cycle {
     pub saved: Tree,
     pub before: Tree,

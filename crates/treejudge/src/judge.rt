@@ -20,7 +20,7 @@ use word::walk::letters_left;
 // The tree judge's answer: 0, the verdict (1 yes, 0 no), entry and period, and the length of the node's name (255 on no); or the
 // number of the question that failed and zeros.
 #[repr(C)]
-#[derive(Drop)]
+#[derive(Clone, Copy)]
 pub struct TreeAnswer {
     pub number: u8,
     pub verdict: u8,

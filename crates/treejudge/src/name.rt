@@ -8,7 +8,7 @@ use tree::nodes::Tree;
 use tree::packed::unpack;
 
 // A node's name: its numbers are the first `length` ones.
-#[derive(Drop)]
+#[derive(Clone, Copy)]
 pub struct Name {
     pub numbers: [u8; Tree::NODES],
     pub length: usize,

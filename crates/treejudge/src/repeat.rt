@@ -14,7 +14,7 @@ use word::walk::letters_left;
 
 // Entry and period of the first repeat, a tree of the cycle, and the map of the witnesses among its nodes: those that keep their names
 // around the cycle and are accepting once.
-#[derive(Drop)]
+#[derive(Clone, Copy)]
 pub struct Repeat {
     pub tree: Tree,
     pub witnesses: u16,
@@ -23,14 +23,14 @@ pub struct Repeat {
 }
 
 // What is known at the cut of a long tail: the entry of the first repeat and the map of its witnesses, or nothing.
-#[derive(Drop)]
+#[derive(Clone, Copy)]
 pub enum Early {
     Repeat { entry: u64, witnesses: u16 },
     Nothing,
 }
 
 // The answer at the cut, and the tree there beside it.
-#[derive(Drop)]
+#[derive(Clone, Copy)]
 pub struct AtCut {
     pub early: Early,
     pub tree: Tree,

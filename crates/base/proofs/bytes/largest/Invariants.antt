@@ -1,0 +1,16 @@
+-- The largest byte: at each place that of the bytes so far, with that of the bytes from there on, gives it.
+use borrow.Author.Rules.{rules}
+use mathlib.Core.Path.{◌≡◌}
+use Prim.Native.Nat.{max, ◌≤◌, ◌-◌}
+use native.Mathlib.Omega.{arith}
+use native.Mathlib.Numerals.{add-one}
+use lib.ListN.{length, drop, drop_of_length-le}
+use Rattle.base.specs.Inner.Largest.{largest}
+use Rattle.base.proofs.Largest.{largest_from}
+use Rattle.base.proofs.bytes.largest.Given as goal
+
+abbrev pub invariant-loop-at : goal.invariant-loop-at
+invariant-loop-at l = (l.at ≤ length l.bytes) × (max l.most (largest (drop l.at l.bytes)) ≡ largest l.bytes)
+
+abbrev pub decreases-loop-at : goal.decreases-loop-at
+decreases-loop-at l = length l.bytes - l.at

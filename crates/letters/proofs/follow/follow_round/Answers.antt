@@ -1,0 +1,41 @@
+-- `follow_round` meets its contract: the letters up to the place, and those from there on.
+use borrow.Author.Rules.{rules}
+use Rattle.base.proofs.Flattening.{to_end}
+use Rattle.letters.proofs.NamesFollowed.{followed_reads, behind_followable, behind_few, follows_join}
+use Rattle.letters.proofs.follow.follow_round.Goals as goal
+
+pub skip_while_sparing-skipped-requires : goal.skip_while_sparing-skipped-requires
+skip_while_sparing-skipped-requires c =
+    (c.requires.0, followed_reads _ _ _ _ _ c.requires.1)
+
+pub followed_at-there-requires : goal.followed_at-there-requires
+followed_at-there-requires c =
+    behind_few _ _ c.args.w.now _ _ c.args.from.maps _ _ c.skip_while_sparing-skipped.ensures.1 c.requires.1
+
+{- LEFT
+part-follow-each-letter-start : tie.Need-slice-bounds-follow-each-letter-start
+part-follow-each-letter-start c = search rules
+-}
+
+{- LEFT
+part-follow-each-letter-end : tie.Need-slice-bounds-follow-each-letter-end
+part-follow-each-letter-end c = search rules
+-}
+
+pub follow_each_letter-requires : goal.follow_each_letter-requires
+follow_each_letter-requires c =
+    let skipped = c.skip_while_sparing-skipped in
+    let (sides, skips) = skipped.ensures in
+    rw (c.followed_at-there.ensures, to_end skipped.result.place c.args.w.now) (
+      (sides, c.requires.0.1),
+      behind_followable _ _ c.args.w.now _ _ c.args.from.maps _ _ skips c.requires.1,
+    )
+
+pub returns : goal.returns
+returns c =
+    let skipped = c.skip_while_sparing-skipped in
+    let (stands, follows) = c.follow_each_letter.ensures in (
+      stands,
+      follows_join _ _ c.args.w.now _ _ c.args.from.maps _ _ skipped.ensures.1 _ _
+          (rw (c.followed_at-there.ensures, to_end skipped.result.place c.args.w.now) at follows),
+    )

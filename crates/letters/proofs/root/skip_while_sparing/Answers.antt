@@ -1,0 +1,8 @@
+-- `skip_while_sparing` meets its contract: what it calls does, and so does a tree that stands still.
+use borrow.Author.Rules.{rules}
+use Rattle.letters.proofs.RootTrees.{skips_none}
+use Rattle.letters.proofs.root.skip_while_sparing.Goals as goal
+
+pub returns-then-not-root_first : goal.returns-then-not-root_first
+returns-then-not-root_first c =
+    (c.requires.0.0, skips_none _ _ _ _)

@@ -1,0 +1,21 @@
+-- `extended` meets its contract. Where each map of the row has all of its states or none, at once; else the loop has joined the maps of the
+-- relations that it has passed.
+use borrow.Author.Rules.{rules}
+use native.Mathlib.Omega.{arith}
+use mathlib.Core.Path.{◌≡◌, ◌∙◌, ap, ap₂}
+use Prim.Native.Nat.{ℕ, suc, ◌-◌, ◌≤◌}
+use lib.Bits.{bit_or}
+use lib.Count.{count_trailing_zeros, trailing_le}
+use Rattle.rule.specs.Inner.Lanes.{map_of, word_of, each_lane, lanes_with, in_lane, in_lanes, lanes}
+use Rattle.rule.specs.Limits.{max_sets}
+use Rattle.rule.specs.Inner.Lookup.{images_by}
+use Rattle.rule.proofs.LaneLaws.{lanes_with_le}
+use Rattle.plain.specs.Inner.Letters.{onward, extended}
+use Rattle.plain.proofs.LetterLaws.{onward_lt, extended_first, extended_more, extended_full}
+use Rattle.plain.proofs.tail.extended.Given as goal
+
+abbrev pub invariant-loop-relation : goal.invariant-loop-relation
+invariant-loop-relation l = (l.relation ≤ suc max_sets) × (l.all ≡ bit_or (images_by l.lookup (map_of l.row 0)) (word_of l.relation (λ i. onward l.lookup (map_of l.row i))))
+
+abbrev pub decreases-loop-relation : goal.decreases-loop-relation
+decreases-loop-relation l = suc max_sets - l.relation

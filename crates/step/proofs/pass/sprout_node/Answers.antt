@@ -1,0 +1,9 @@
+-- `sprout_node` meets its contract.
+use borrow.Author.Rules.{rules}
+use Rattle.step.specs.Inner.Pass.{sprout_node}
+use Rattle.step.proofs.pass.sprout_node.Goals as goal
+
+pub returns : goal.returns
+unfolding sprout_node
+returns c =
+    rw c.minus.ensures

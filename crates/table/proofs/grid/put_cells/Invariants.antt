@@ -1,0 +1,15 @@
+-- The squares, one behind the other.
+use Prim.Native.Nat.{◌*◌, ◌-◌}
+use mathlib.Core.Path.{◌≡◌}
+use native.Mathlib.Omega.{arith}
+use native.Mathlib.Nat.{suc-mul, mul-le-mul_right}
+use borrow.Author.Rules.{rules}
+use Rattle.base.proofs.Storing.{PiecesStored, pieces_start, pieces_next, pieces_size, pieces_done}
+use Rattle.table.proofs.GridWriting.{squares_up_to, squares_none, squares_more}
+use Rattle.table.proofs.grid.put_cells.Given as goal
+
+abbrev pub invariant-loop-letter : goal.invariant-loop-letter
+invariant-loop-letter l = (l.at ≡ l.letter * (l.n * l.n)) × PiecesStored (squares_up_to l.n l.cells) l.m l.initial.out 0 l.out l.at l.letter
+
+abbrev pub decreases-loop-letter : goal.decreases-loop-letter
+decreases-loop-letter l = l.m - l.letter

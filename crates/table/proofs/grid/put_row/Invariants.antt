@@ -1,0 +1,15 @@
+-- The bytes of a row, one behind the other.
+use Prim.Native.Nat.{◌+◌, ◌-◌}
+use mathlib.Core.Path.{◌≡◌, refl}
+use native.Mathlib.Omega.{arith}
+use borrow.Author.Rules.{rules}
+use lib.ListN.{take}
+use lib.Seq.{take-suc, length-take-le}
+use Rattle.base.proofs.Storing.{PiecesStored, pieces_start, pieces_byte, pieces_size, pieces_done}
+use Rattle.table.proofs.grid.put_row.Given as goal
+
+abbrev pub invariant-loop-r : goal.invariant-loop-r
+invariant-loop-r l = (l.at ≡ l.from + l.r) × PiecesStored (λ i. take i l.row) l.n l.initial.out l.from l.out l.at l.r
+
+abbrev pub decreases-loop-r : goal.decreases-loop-r
+decreases-loop-r l = l.n - l.r

@@ -1,0 +1,33 @@
+-- A cell: its map byte, then its set bytes.
+use mathlib.Core.Path.{◌∙◌}
+use native.Mathlib.Omega.{arith}
+use borrow.Author.Rules.{rules}
+use lib.ListN.{length-set}
+use Rattle.table.specs.Table.{cell_bytes}
+use Rattle.table.proofs.TableWriting.{cell_stored}
+use Rattle.table.proofs.writer.put_cell.Goals as goal
+
+pub bounds-table-from : goal.bounds-table-from
+unfolding cell_bytes
+bounds-table-from c =
+    omega arith
+
+pub overflow_add-from : goal.overflow_add-from
+unfolding cell_bytes
+overflow_add-from c =
+    search rules
+
+pub put_sets-requires : goal.put_sets-requires
+unfolding cell_bytes
+put_sets-requires c =
+    simp length-set (omega arith)
+
+pub shape_of-table : goal.shape_of-table
+shape_of-table c =
+    c.table-1.given ∙ simp length-set
+
+pub returns : goal.returns
+unfolding cell_bytes
+returns c =
+    let e = c.put_sets.ensures in
+    (omega (arith, e.0), e.1 ∙ rw c.row_map-map.ensures (cell_stored _ _ _ c.requires.1))

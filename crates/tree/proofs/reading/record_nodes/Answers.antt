@@ -1,0 +1,49 @@
+-- A node for each tag, by the laws of ReadingInTurn.
+use borrow.Author.Rules.{rules}
+use Prim.Native.Nat.{◌+◌, ◌-◌}
+use mathlib.Core.Path.{refl}
+use native.Mathlib.Omega.{arith}
+use lib.ListN.{length}
+use Rattle.base.proofs.Flattening.{to_end}
+use Rattle.history.specs.Record.{hosted_in}
+use Rattle.tree.specs.Inner.PackedNodes.{unpacked, nodes_in}
+use Rattle.tree.proofs.PackedWords.{node_written}
+use Rattle.tree.proofs.ReadingInTurn.{deeper_few, NodesSoFar, nodes_start, nodes_next, nodes_done}
+use Rattle.tree.proofs.reading.record_nodes.Goals as goal
+
+pub loop-number-init : goal.loop-number-init
+unfolding unpacked
+loop-number-init c =
+    nodes_start _ _ _ refl c.requires.1
+
+pub overflow_cast-depth : goal.overflow_cast-depth
+overflow_cast-depth c =
+    omega (arith, c.type_inv.tags c.loop-number.number)
+
+{- LEFT
+part-deeper-start : tie.Need-slice-bounds-deeper-start invariant-loop decreases-loop
+part-deeper-start c = search rules
+-}
+
+{- LEFT
+part-deeper-end : tie.Need-slice-bounds-deeper-end invariant-loop decreases-loop
+part-deeper-end c = search rules
+-}
+
+pub overflow_add-end : goal.overflow_add-end
+overflow_add-end c =
+    let number = c.loop-number.number in
+    let tags = c.args.tags.now in
+    omega (arith, deeper_few _ (number + 1) tags (to_end (number + 1) tags) c.deeper.ensures)
+
+pub loop-number-preserved : goal.loop-number-preserved
+loop-number-preserved c =
+    let number = c.loop-number.number in
+    let tags = c.args.tags.now in
+    nodes_next c.loop-number.invariant c.loop-number-test.true _ _ _ _ (to_end (number + 1) tags) c.deeper.ensures
+    c.hosted-label.ensures c.hosted-kids.ensures _
+    (node_written c.loop-number.nodes number c.pack.result c.pack.ensures)
+
+pub returns : goal.returns
+returns c =
+    nodes_done c.loop-number.invariant c.loop-number-test.false

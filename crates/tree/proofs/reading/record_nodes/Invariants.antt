@@ -1,0 +1,18 @@
+-- A node for each tag, by the laws of ReadingInTurn.
+use borrow.Author.Rules.{rules}
+use Prim.Native.Nat.{◌+◌, ◌-◌}
+use mathlib.Core.Path.{refl}
+use native.Mathlib.Omega.{arith}
+use lib.ListN.{length}
+use Rattle.base.proofs.Flattening.{to_end}
+use Rattle.history.specs.Record.{hosted_in}
+use Rattle.tree.specs.Inner.PackedNodes.{unpacked, nodes_in}
+use Rattle.tree.proofs.PackedWords.{node_written}
+use Rattle.tree.proofs.ReadingInTurn.{deeper_few, NodesSoFar, nodes_start, nodes_next, nodes_done}
+use Rattle.tree.proofs.reading.record_nodes.Given as goal
+
+abbrev pub invariant-loop-number : goal.invariant-loop-number
+invariant-loop-number l = NodesSoFar (hosted_in l.n l.map l.hosts) l.tags (nodes_in l.nodes) l.number
+
+abbrev pub decreases-loop-number : goal.decreases-loop-number
+decreases-loop-number l = length l.tags - l.number

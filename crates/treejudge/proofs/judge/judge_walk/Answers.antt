@@ -1,0 +1,90 @@
+-- `judge_walk` meets its contract, by the laws of Judging.
+use borrow.Author.Rules.{rules}
+use native.Mathlib.Omega.{arith}
+use mathlib.Core.List.{[]}
+use Rattle.rule.specs.Rule.{Rule}
+use Rattle.word.specs.Inner.Prepared.{Prepared}
+use Rattle.history.specs.Tree.{start_tree}
+use Rattle.tree.specs.Inner.Sides.{tree_on}
+use Rattle.letters.specs.Inner.Reading.{Reads, Readable, ReadsTo}
+use Rattle.treejudge.specs.Inner.Cycles.{AtRound, FirstRound}
+use Rattle.treejudge.specs.Inner.Repeats.{RepeatFound}
+use Rattle.letters.proofs.LettersRead.{laid_first, reads_taken}
+use Rattle.treejudge.proofs.Judging.{sets_small, lead_reads, first_round, says_no, some_node, says_yes}
+use Rattle.treejudge.proofs.judge.judge_walk.Goals as goal
+use Rattle.treejudge.proofs.judge.judge_walk.Goals.{After-on_first_side, After-taken-first}
+
+-- the beginning
+abbrev begun : tie.After-on-first-side → tie.Start
+begun c = c.before.before.before.before.before.before.before.before.before
+
+-- and from where t(0) is taken up
+abbrev begun_first : tie.After-taken → tie.Start
+begun_first c = begun c.before.before.before
+
+-- u is read from the starting tree, over a rule that the look-ups are of
+lead-read : (c : After-on_first_side) →
+    let args = (begun c).args in
+    (R : Rule) → Prepared R args.header args.lookups.now args.u.now args.v.now
+    → Reads R (start_tree R) args.lookups.now args.header.sets c.letters_left.result.now
+    (tree_on c.laid-sides.result c.on_first_side.result)
+lead-read c R p =
+    lead_reads p _ c.start-start.ensures _ c.letters_left.ensures _ (laid_first c.laid-sides.ensures c.on_first_side.ensures).1
+
+-- t(0) of the walk
+first_place : (c : After-taken-first) →
+    let args = (begun_first c).args in
+    (R : Rule) → Prepared R args.header args.lookups.now args.u.now args.v.now
+    → AtRound R args.u.now args.v.now args.lookups.now args.header.sets 0 c.taken-first.result
+first_place c R p =
+    first_round p _ c.start-start.ensures _ c.letters_left.ensures _
+    (reads_taken _ _ _ (laid_first c.laid-sides.ensures c.on_first_side.ensures).1 c.taken-first.ensures c.read_letters-led.ensures.1)
+
+pub overflow_cast-k : goal.overflow_cast-k
+overflow_cast-k c =
+    omega (arith, sets_small c.requires.0.1)
+
+pub read_letters-led-requires : goal.read_letters-led-requires
+unfolding Readable
+read_letters-led-requires c =
+    let (R, p) = (begun (goal.at.read_letters-led-requires c).After-on_first_side).requires.0 in
+    ((laid_first c.laid-sides.ensures c.on_first_side.ensures).0, (R, start_tree R, lead-read (goal.at.read_letters-led-requires c).After-on_first_side R p))
+
+pub taken-first-requires : goal.taken-first-requires
+unfolding ReadsTo
+taken-first-requires c =
+    let (R, p) = (begun (goal.at.taken-first-requires c).After-on_first_side).requires.0 in
+    let (on, to) = c.read_letters-led.ensures in
+    record { stands = on; rule = R; tree = _; holds = to R (start_tree R) (lead-read (goal.at.taken-first-requires c).After-on_first_side R p) }
+
+pub find_repeat-found-requires : goal.find_repeat-found-requires
+unfolding FirstRound
+find_repeat-found-requires c =
+    let (R, p) = (begun_first (goal.at.find_repeat-found-requires c).After-taken-first).requires.0 in (R, _, first_place (goal.at.find_repeat-found-requires c).After-taken-first R p)
+
+pub returns-then-found-eq0 : goal.returns-then-found-eq0
+unfolding RepeatFound
+returns-then-found-eq0 c R p =
+    says_no R _ _ _ (c.find_repeat-found.ensures R _ (first_place (goal.at.returns-then-found-eq0 c).After-taken-first R p)) _ c.if-found-eq0.true
+
+pub node_name-name-requires : goal.node_name-name-requires
+unfolding RepeatFound
+node_name-name-requires c =
+    let (R, p) = (begun_first (goal.at.node_name-name-requires c).After-find_repeat-found).requires.0 in
+    some_node R _ _ _ (c.find_repeat-found.ensures R _ (first_place (goal.at.node_name-name-requires c).After-find_repeat-found R p)) [] p.limits.states
+    c.if-found-eq0.false _ c.first_node.ensures
+
+pub store_name-requires : goal.store_name-requires
+store_name-requires c =
+    (c.node_name-name.ensures.short, (begun_first (goal.at.store_name-requires c).After-find_repeat-found).requires.1)
+
+{- LEFT
+cast-t23 : tie.Need-overflow-cast-t23
+cast-t23 c = search rules
+-}
+
+pub returns : goal.returns
+unfolding RepeatFound
+returns c R p =
+    says_yes R _ _ _ (c.find_repeat-found.ensures R _ (first_place (goal.at.returns c).After-find_repeat-found R p)) _ p.limits.states
+    c.if-found-eq0.false _ c.first_node.ensures _ c.node_name-name.ensures _ c.store_name.ensures
