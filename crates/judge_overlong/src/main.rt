@@ -2,7 +2,8 @@
 #![tactic(auto)]
 
 use program::console::run;
+use std::io;
 
-fn main() {
-    run();
+fn main(rt: HostRuntime) -> io::Result<()> {
+    run(&rt)
 }

@@ -72,6 +72,7 @@ fn call_named(name: &[u8]) -> Named
 }
 
 // How many arguments a call has.
+#[tactic(auto, unfolding(crate::specs::Calls::arguments))]
 fn arguments_of(call: Call) -> usize
     ensures { (result ≡ arguments call) × (result ≤ 4) }
 {

@@ -6,8 +6,11 @@ ghost use Rattle.stored.specs.Inner.Comparing.{LineTallied};
 
 use crate::calls::call_right;
 use crate::jobs::job_right;
-use libc::STDOUT_FILENO;
 use notation::lines::{NEWLINE, end_of};
+use program::console::read_full;
+use std::io::Print;
+use std::rt::Files;
+use std::{fs, str};
 
 // What the lines of a file have.
 #[derive(Clone, Copy)]
@@ -43,34 +46,46 @@ fn is_right(kind: Kind, line: &[u8]) -> bool
     }
 }
 
-// A word and a number, on standard output.
-fn say_number(words: &[u8], number: u64) {
-    io::write_all(STDOUT_FILENO, words);
-    io::print_decimal(STDOUT_FILENO, number);
+// On standard output. Where it takes nothing, what is said is lost, and nothing else changes.
+fn say<P: Print>(rt: &P, words: &[u8]) {
+    let _ = rt.write_all(words);
 }
 
-fn say_difference(name: &[u8], line: u64) {
-    io::write_all(STDOUT_FILENO, b"difference: ");
-    io::write_all(STDOUT_FILENO, name);
-    say_number(b" line ", line);
-    io::write_all(STDOUT_FILENO, b"\n");
+// A word and a number.
+fn say_number<P: Print>(rt: &P, words: &[u8], number: u64) {
+    say(rt, words);
+    let _ = rt.print(number);
 }
 
-fn say_tally(name: &[u8], tally: Tally) {
-    io::write_all(STDOUT_FILENO, name);
-    say_number(b": ", tally.cases);
-    say_number(b" cases, ", tally.differences);
-    io::write_all(STDOUT_FILENO, b" differences\n");
+fn say_difference<P: Print>(rt: &P, name: &[u8], line: u64) {
+    say(rt, b"difference: ");
+    say(rt, name);
+    say_number(rt, b" line ", line);
+    say(rt, b"\n");
+}
+
+fn say_tally<P: Print>(rt: &P, name: &[u8], tally: Tally) {
+    say(rt, name);
+    say_number(rt, b": ", tally.cases);
+    say_number(rt, b" cases, ", tally.differences);
+    say(rt, b" differences\n");
 }
 
 // Why no case of a file was run.
-fn say_not_run(name: &[u8], why: &[u8]) {
-    io::write_all(STDOUT_FILENO, name);
-    io::write_all(STDOUT_FILENO, why);
+fn say_not_run<P: Print>(rt: &P, name: &[u8], why: &[u8]) {
+    say(rt, name);
+    say(rt, why);
 }
 
 // Runs the case of a line, if it has one, and counts it. A difference is named by file and line.
-fn run_line(name: &[u8], kind: Kind, number: u64, line: &[u8], tally: Tally) -> Tally
+fn run_line<P: Print>(
+    rt: &P,
+    name: &[u8],
+    kind: Kind,
+    number: u64,
+    line: &[u8],
+    tally: Tally,
+) -> Tally
     requires { (tally.differences ≤ tally.cases) × (tally.cases < number) }
     ensures { LineTallied kind line.now tally result }
 {
@@ -80,14 +95,14 @@ fn run_line(name: &[u8], kind: Kind, number: u64, line: &[u8], tally: Tally) -> 
     let mut more = tally;
     more.cases += 1;
     if !is_right(kind, line) {
-        say_difference(name, number);
+        say_difference(rt, name, number);
         more.differences += 1;
     }
     more
 }
 
 // Runs the cases of all lines.
-fn run_lines(name: &[u8], kind: Kind, text: &[u8]) -> Tally
+fn run_lines<P: Print>(rt: &P, name: &[u8], kind: Kind, text: &[u8]) -> Tally
     ensures { Tallied kind (lines_of text.now) result.cases result.differences }
 {
     let mut tally = Tally {
@@ -99,7 +114,7 @@ fn run_lines(name: &[u8], kind: Kind, text: &[u8]) -> Tally
     while at < text.len() {
         let end = end_of(text, NEWLINE, at);
         number += 1;
-        let next = run_line(name, kind, number, &text[at..end], tally);
+        let next = run_line(rt, name, kind, number, &text[at..end], tally);
         tally = next;
         at = end;
         if end < text.len() {
@@ -119,19 +134,23 @@ fn room() -> [u8; ROOM]
 }
 
 // Runs the cases of a file. None is run of a file that is missing, or for which there is no room.
-pub fn run_file(name: &[u8], kind: Kind) {
-    let fd = os::open_read(name);
-    if fd < 0 {
-        os::fail(name);
-        say_not_run(name, b": missing\n");
+pub fn run_file<R: Files + Print>(rt: &R, name: &[u8], kind: Kind) {
+    let Ok(path) = str::from_utf8(name) else {
+        say_not_run(rt, name, b": missing\n");
         return;
-    }
+    };
+    let Ok(mut file) = fs::open(rt, path) else {
+        say_not_run(rt, name, b": missing\n");
+        return;
+    };
     let mut text = room();
-    let length = io::read_full(fd, &mut text);
-    libc::close(fd);
+    let Ok(length) = read_full(&mut file, &mut text) else {
+        say_not_run(rt, name, b": not read\n");
+        return;
+    };
     if length == ROOM {
-        say_not_run(name, b": longer than the room\n");
+        say_not_run(rt, name, b": longer than the room\n");
         return;
     }
-    say_tally(name, run_lines(name, kind, &text[..length]));
+    say_tally(rt, name, run_lines(rt, name, kind, &text[..length]));
 }

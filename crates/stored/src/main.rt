@@ -11,11 +11,11 @@ mod rules;
 
 use files::{Kind, run_file};
 
-fn main() {
-    run_file(b"calls.txt", Kind::Calls);
-    run_file(b"boundaries.txt", Kind::Calls);
-    run_file(b"u2-calls.txt", Kind::Calls);
-    run_file(b"u7-calls.txt", Kind::Calls);
-    run_file(b"jobs.txt", Kind::Jobs);
-    run_file(b"shortcuts.txt", Kind::Jobs);
+fn main(rt: HostRuntime) {
+    run_file(&rt, b"calls.txt", Kind::Calls);
+    run_file(&rt, b"boundaries.txt", Kind::Calls);
+    run_file(&rt, b"u2-calls.txt", Kind::Calls);
+    run_file(&rt, b"u7-calls.txt", Kind::Calls);
+    run_file(&rt, b"jobs.txt", Kind::Jobs);
+    run_file(&rt, b"shortcuts.txt", Kind::Jobs);
 }

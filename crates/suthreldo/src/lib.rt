@@ -1,5 +1,5 @@
 // The calls for C and Rust: each is one of the public calls under a plain name, with its contract word for word.
-// include/suthreldo.h declares them.
+// include/suthreldo.h declares them. The crate `suthreldo_c` exports them.
 #![tactic(auto)]
 
 ghost use Rattle.table.specs.ReadCall.{ReadCall};
@@ -20,15 +20,13 @@ use table::writer::{WriteAnswer, write};
 use tree::start::{StartAnswer, start};
 use treejudge::judge::{TreeAnswer, tree_judge};
 
-#[unsafe(no_mangle)]
-pub extern "C" fn suthreldo_read(table: &[u8], grid: &mut [u8]) -> ReadAnswer
+pub fn suthreldo_read(table: &[u8], grid: &mut [u8]) -> ReadAnswer
     ensures { ReadCall table.now grid.old result grid.new }
 {
     read(table, grid)
 }
 
-#[unsafe(no_mangle)]
-pub extern "C" fn suthreldo_write(
+pub fn suthreldo_write(
     n: usize,
     m: usize,
     k: usize,
@@ -41,27 +39,19 @@ pub extern "C" fn suthreldo_write(
     write(n, m, k, start, grid, table)
 }
 
-#[unsafe(no_mangle)]
-pub extern "C" fn suthreldo_start(table: &[u8], buffer: &mut [u8]) -> StartAnswer
+pub fn suthreldo_start(table: &[u8], buffer: &mut [u8]) -> StartAnswer
     ensures { StartCall table.now buffer.old result buffer.new }
 {
     start(table, buffer)
 }
 
-#[unsafe(no_mangle)]
-pub extern "C" fn suthreldo_step(
-    table: &[u8],
-    letter: u8,
-    bytes: &[u8],
-    buffer: &mut [u8],
-) -> StepAnswer
+pub fn suthreldo_step(table: &[u8], letter: u8, bytes: &[u8], buffer: &mut [u8]) -> StepAnswer
     ensures { StepCall table.now letter bytes.now buffer.old result buffer.new }
 {
     step(table, letter, bytes, buffer)
 }
 
-#[unsafe(no_mangle)]
-pub extern "C" fn suthreldo_tree_judge<'a>(
+pub fn suthreldo_tree_judge<'a>(
     table: &[u8],
     u: &'a [u8],
     v: &'a [u8],
@@ -72,8 +62,7 @@ pub extern "C" fn suthreldo_tree_judge<'a>(
     tree_judge(table, u, v, names)
 }
 
-#[unsafe(no_mangle)]
-pub extern "C" fn suthreldo_plain_judge<'a>(
+pub fn suthreldo_plain_judge<'a>(
     table: &[u8],
     u: &'a [u8],
     v: &'a [u8],
@@ -84,15 +73,13 @@ pub extern "C" fn suthreldo_plain_judge<'a>(
     plain_judge(table, u, v, scratch)
 }
 
-#[unsafe(no_mangle)]
-pub extern "C" fn suthreldo_same_walk(u: &[u8], v: &[u8], u2: &[u8], v2: &[u8]) -> SameAnswer
+pub fn suthreldo_same_walk(u: &[u8], v: &[u8], u2: &[u8], v2: &[u8]) -> SameAnswer
     ensures { SameCall u.now v.now u2.now v2.now result }
 {
     same_walk(u, v, u2, v2)
 }
 
-#[unsafe(no_mangle)]
-pub extern "C" fn suthreldo_successors(table: &[u8], letter: u8, states: u16) -> SuccessorsAnswer
+pub fn suthreldo_successors(table: &[u8], letter: u8, states: u16) -> SuccessorsAnswer
     ensures { SuccessorsCall table.now letter states result }
 {
     successors(table, letter, states)

@@ -117,12 +117,12 @@ pub named_in : {A : Type 0} (w p : List ℕ) (c : ℕ) (F : Forest A)
     → (m : ℕ) × (v : List ℕ) × (c ≤ m) × (w ≡ p ++ (m ∷ v))
 unfolding any_of listing named_from
 named_in w p c nil h = clash refl h
-named_in w p c (node x below younger) h =
+named_in {A = A} w p c (node x below younger) h =
     ⊎_elim (λ e. (c, [], omega arith, same_equal w (p ++ (c ∷ [])) e))
     (λ e. ⊎_elim
     (λ k. let (m, v, low, is) = named_in w (p ++ (c ∷ [])) 0 below k in (c, m ∷ v, omega arith, is ∙ longer p c (m ∷ v)))
     (λ k. let (m, v, low, is) = named_in w p (suc c) younger k in (m, v, omega arith, is))
-    (or_in _ _ (rw any_append at e)))
+    (or_in _ _ (rw (any_append (λ (x : Named A). same_numbers w x.name) (listing (named_from (p ++ (c ∷ [])) 0 below)) (listing (named_from p (suc c) younger))) at e)))
     (or_in (same_numbers w (p ++ (c ∷ []))) _ h)
 
 module _ {A : Type 0} (f : A → Bool) where

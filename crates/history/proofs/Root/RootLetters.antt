@@ -105,8 +105,8 @@ module _ (R : Rule) (well : WellFormed R) (sets : 1 ≤ R.sets) where
       shown = shows_letters w r T tree h
 
       go : (gone : Bool) → eqb (root_letters R w r).label 0 ≡ gone → read_letters R w T ≡ lone_tree (root_letters R w r)
-      go true e = rw e (dead R _ _ kept shown (eqb-true _ 0 e))
-      go false e = rw e (alone R _ _ kept shown none (eqb-false _ 0 e))
+      go true e = rw e (dead R (root_letters R w r) (read_letters R w T) kept shown (eqb-true _ 0 e))
+      go false e = rw e (alone R (root_letters R w r) (read_letters R w T) kept shown none (eqb-false _ 0 e))
 
   -- ITS NAME: it is stable at every letter, and accepting where it says so
   pub root_followed : (w : List ℕ) (r : Root) (T : Tree) → is_tree_of R T ≡ true → Shows r T → ((root_letters R w r).label ≡ 0 → ⊥)

@@ -1,5 +1,4 @@
 -- Bytes below a limit: the largest one tells.
-use borrow.Author.Rules.{rules}
 use borrow.Author.Tests.{eq-eqb, ne_eqb}
 use Rattle.base.proofs.Largest.{largest_below}
 use Rattle.base.proofs.bytes.all_below.Goals as goal

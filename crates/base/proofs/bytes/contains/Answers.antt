@@ -1,12 +1,10 @@
 -- A number among bytes: at each place the answer is that of the bytes from there on.
 use borrow.Author.Rules.{rules}
-use mathlib.Core.Path.{◌≡◌}
-use Prim.Native.Nat.{ℕ, ◌≤◌, ◌-◌}
+use Prim.Native.Nat.{ℕ}
 use native.Mathlib.Omega.{arith}
 use native.Mathlib.Numerals.{add-one}
 use borrow.Author.Tests.{eq-eqb, ne_eqb}
-use lib.Dec.{eqb}
-use lib.ListN.{length, drop, drop_of_length-le}
+use lib.ListN.{drop_of_length-le}
 use Rattle.base.specs.Lists.{any_of}
 use Rattle.base.proofs.Every.{any_from}
 use Rattle.base.proofs.bytes.contains.Goals as goal
@@ -20,11 +18,10 @@ returns-then-bytes-at c =
     rw (any_from {A = ℕ} _ _ _ 0 c.loop-at-test.true, eq-eqb _ _ c.if-bytes-at.true) at c.loop-at.invariant.1
 
 pub loop-at-preserved : goal.loop-at-preserved
-loop-at-preserved c =
-    (
-      search rules,
-      rw add-one (rw (any_from {A = ℕ} _ _ _ 0 c.loop-at-test.true, ne_eqb _ _ c.if-bytes-at.false) at c.loop-at.invariant.1),
-    )
+loop-at-preserved c = (
+  search rules,
+  rw add-one (rw (any_from {A = ℕ} _ _ _ 0 c.loop-at-test.true, ne_eqb _ _ c.if-bytes-at.false) at c.loop-at.invariant.1),
+)
 
 pub returns : goal.returns
 unfolding any_of

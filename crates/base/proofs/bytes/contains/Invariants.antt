@@ -1,14 +1,9 @@
 -- A number among bytes: at each place the answer is that of the bytes from there on.
-use borrow.Author.Rules.{rules}
 use mathlib.Core.Path.{◌≡◌}
-use Prim.Native.Nat.{ℕ, ◌≤◌, ◌-◌}
-use native.Mathlib.Omega.{arith}
-use native.Mathlib.Numerals.{add-one}
-use borrow.Author.Tests.{eq-eqb, ne_eqb}
+use Prim.Native.Nat.{◌≤◌, ◌-◌}
 use lib.Dec.{eqb}
-use lib.ListN.{length, drop, drop_of_length-le}
+use lib.ListN.{length, drop}
 use Rattle.base.specs.Lists.{any_of}
-use Rattle.base.proofs.Every.{any_from}
 use Rattle.base.proofs.bytes.contains.Given as goal
 
 abbrev pub invariant-loop-at : goal.invariant-loop-at

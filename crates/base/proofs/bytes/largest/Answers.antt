@@ -1,10 +1,8 @@
 -- The largest byte: at each place that of the bytes so far, with that of the bytes from there on, gives it.
 use borrow.Author.Rules.{rules}
-use mathlib.Core.Path.{◌≡◌}
-use Prim.Native.Nat.{max, ◌≤◌, ◌-◌}
 use native.Mathlib.Omega.{arith}
 use native.Mathlib.Numerals.{add-one}
-use lib.ListN.{length, drop, drop_of_length-le}
+use lib.ListN.{drop_of_length-le}
 use Rattle.base.specs.Inner.Largest.{largest}
 use Rattle.base.proofs.Largest.{largest_from}
 use Rattle.base.proofs.bytes.largest.Goals as goal

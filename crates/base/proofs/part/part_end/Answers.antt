@@ -1,5 +1,4 @@
 -- Where a part ends.
-use borrow.Author.Rules.{rules}
 use Prim.Native.Nat.{◌+◌}
 use native.Mathlib.Omega.{arith}
 use Rattle.base.proofs.PartEnds.{end_none, end_past, end_at}

@@ -12,7 +12,7 @@ returns-then-tree-ne0 c =
 
 pub five_lines-requires : goal.five_lines-requires
 five_lines-requires c =
-    parts_fit _ _ _ _ _ _ c.judge_both-answers.ensures.tree (length-replicate {A = ℕ} 7 0) c.names-2-1.given
+    parts_fit _ _ _ _ _ _ c.judge_both-answers.ensures.tree (length-replicate {A = ℕ} 7 0) (search rules)
 
 pub returns : goal.returns
 unfolding scratch_length

@@ -1,5 +1,4 @@
 -- The five lines.
-use borrow.Author.Rules.{rules}
 use mathlib.Core.Path.{◌∙◌, ap}
 use mathlib.Core.List.{append_assoc}
 use Prim.Native.Nat.{ℕ}
@@ -10,45 +9,24 @@ use Rattle.job.proofs.JobJudging.{finding_says}
 use Rattle.job.proofs.Appending.{appends_length, appends_both, from_nothing}
 use Rattle.job.proofs.lines.five_lines.Goals as goal
 
-{- LEFT
-slice-aggregate-yes-no-line : tie.Need-slice-aggregate-yes-no-line
-slice-aggregate-yes-no-line c = search rules
--}
-
-{- LEFT
-slice-aggregate-number-line : tie.Need-slice-aggregate-number-line
-slice-aggregate-number-line c = search rules
--}
-
 pub number_line-entry-requires : goal.number_line-entry-requires
 number_line-entry-requires c =
     omega (arith, appends_length c.yes_no_line-verdict.ensures)
-
-{- LEFT
-slice-aggregate-number-line-2 : tie.Need-slice-aggregate-number-line-2
-slice-aggregate-number-line-2 c = search rules
--}
 
 pub number_line-period-requires : goal.number_line-period-requires
 number_line-period-requires c =
     omega (arith, appends_length c.number_line-entry.ensures, appends_length c.yes_no_line-verdict.ensures)
 
 pub node_line-node-requires : goal.node_line-node-requires
-node_line-node-requires c =
-    (
-      c.requires,
-      omega (
-        arith,
-        appends_length c.number_line-period.ensures,
-        appends_length c.number_line-entry.ensures,
-        appends_length c.yes_no_line-verdict.ensures,
-      ),
-    )
-
-{- LEFT
-slice-aggregate-yes-no-line-2 : tie.Need-slice-aggregate-yes-no-line-2
-slice-aggregate-yes-no-line-2 c = search rules
--}
+node_line-node-requires c = (
+  c.requires,
+  omega (
+    arith,
+    appends_length c.number_line-period.ensures,
+    appends_length c.number_line-entry.ensures,
+    appends_length c.yes_no_line-verdict.ensures,
+  ),
+)
 
 pub yes_no_line-requires : goal.yes_no_line-requires
 yes_no_line-requires c =

@@ -15,19 +15,9 @@ use Rattle.job.proofs.lines.node_line.Goals.{Start}
 size : (c : Start) → length c.args.text.bytes ≡ 128
 size c = search rules
 
-{- LEFT
-slice-aggregate-append : tie.Need-slice-aggregate-append
-slice-aggregate-append c = search rules
--}
-
 pub append_name-named-requires : goal.append_name-named-requires
 append_name-named-requires c =
     (c.requires.0 c.if-tree-eq1.true, omega (arith, appended_length _ _ c.append-labelled.ensures))
-
-{- LEFT
-slice-aggregate-append-2 : tie.Need-slice-aggregate-append-2
-slice-aggregate-append-2 c = search rules
--}
 
 pub append-requires : goal.append-requires
 append-requires c =
@@ -36,14 +26,9 @@ append-requires c =
 pub returns-then-tree-eq1 : goal.returns-then-tree-eq1
 unfolding line node_text finding_of
 returns-then-tree-eq1 c =
-    let both = appends_both (appends c.append-labelled.ensures 5 (omega arith)) c.append_name-named.ensures (size (goal.at.returns-then-tree-eq1 c).After-append-arg-2-1) (omega arith) in
-    let all = appends_both both (appends c.append.ensures 1 (omega arith)) (size (goal.at.returns-then-tree-eq1 c).After-append-arg-2-1) (omega arith) in
+    let both = appends_both (appends c.append-labelled.ensures 5 (omega arith)) c.append_name-named.ensures (size (goal.at.returns-then-tree-eq1 c).Start) (omega arith) in
+    let all = appends_both both (appends c.append.ensures 1 (omega arith)) (size (goal.at.returns-then-tree-eq1 c).Start) (omega arith) in
     rw c.if-tree-eq1.true (appends_regroup (ascii "node ") (name_text (take c.args.tree.length c.args.names)) (ascii "\n") all 34 (omega arith))
-
-{- LEFT
-slice-aggregate-append-3 : tie.Need-slice-aggregate-append-3
-slice-aggregate-append-3 c = search rules
--}
 
 pub append-requires-2 : goal.append-requires-2
 append-requires-2 c =
@@ -52,5 +37,5 @@ append-requires-2 c =
 pub returns : goal.returns
 unfolding line node_text finding_of
 returns c =
-    let all = appends_both (appends c.append-labelled.ensures 5 (omega arith)) (appends c.append-2.ensures 29 (omega arith)) (size (goal.at.returns c).After-append-arg-2-1) (omega arith) in
+    let all = appends_both (appends c.append-labelled.ensures 5 (omega arith)) (appends c.append-2.ensures 29 (omega arith)) (size (goal.at.returns c).Start) (omega arith) in
     rw (ne_eqb _ _ c.if-tree-eq1.false) all

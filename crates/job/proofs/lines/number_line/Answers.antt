@@ -17,11 +17,6 @@ pub append_number-numbered-requires : goal.append_number-numbered-requires
 append_number-numbered-requires c =
     omega (arith, appended_length _ _ c.append-labelled.ensures)
 
-{- LEFT
-slice-aggregate-append : tie.Need-slice-aggregate-append
-slice-aggregate-append c = search rules
--}
-
 pub append-requires : goal.append-requires
 append-requires c =
     omega (
@@ -37,6 +32,6 @@ returns c =
     let short = digits_short 19 c.args.number (omega arith) in
     let long = length c.args.label.now in
     let first = appends c.append-labelled.ensures long (omega arith) in
-    let both = appends_both first (appends c.append_number-numbered.ensures 20 (omega arith)) (size (goal.at.returns c).After-shared_slice_known-1) (omega arith) in
-    let all = appends_both both (appends c.append.ensures 1 (omega arith)) (size (goal.at.returns c).After-shared_slice_known-1) (omega arith) in
+    let both = appends_both first (appends c.append_number-numbered.ensures 20 (omega arith)) (size (goal.at.returns c).Start) (omega arith) in
+    let all = appends_both both (appends c.append.ensures 1 (omega arith)) (size (goal.at.returns c).Start) (omega arith) in
     appends_regroup c.args.label.now _ _ all _ (omega arith)

@@ -1,14 +1,8 @@
 -- The line of a refusal.
-use borrow.Author.Rules.{rules}
 use native.Mathlib.Omega.{arith}
 use Rattle.job.specs.JobCall.{refusal_text}
 use Rattle.job.proofs.Appending.{from_nothing}
 use Rattle.job.proofs.lines.refusal.Goals as goal
-
-{- LEFT
-slice-aggregate-number-line : tie.Need-slice-aggregate-number-line
-slice-aggregate-number-line c = search rules
--}
 
 pub returns : goal.returns
 unfolding refusal_text

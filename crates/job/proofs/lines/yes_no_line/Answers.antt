@@ -8,19 +8,9 @@ use Rattle.job.specs.JobCall.{line, yes_no}
 use Rattle.job.proofs.Appending.{appended_length, appends, appends_both}
 use Rattle.job.proofs.lines.yes_no_line.Goals as goal
 
-{- LEFT
-slice-aggregate-append : tie.Need-slice-aggregate-append
-slice-aggregate-append c = search rules
--}
-
 pub append-requires : goal.append-requires
 append-requires c =
     omega (arith, appended_length _ _ c.append-labelled.ensures)
-
-{- LEFT
-slice-aggregate-append-2 : tie.Need-slice-aggregate-append-2
-slice-aggregate-append-2 c = search rules
--}
 
 pub append-requires-else-verdict-eq1 : goal.append-requires-else-verdict-eq1
 append-requires-else-verdict-eq1 c =

@@ -1,13 +1,7 @@
 -- More bytes, one behind the other.
-use borrow.Author.Rules.{rules}
-use mathlib.Core.Path.{◌≡◌, refl}
 use Prim.Native.Nat.{◌-◌}
-use native.Mathlib.Omega.{arith}
 use lib.ListN.{length, take}
-use lib.Seq.{take-suc, take-length}
-use Rattle.base.proofs.Storing.{PiecesStored, pieces_start, pieces_byte, pieces_done}
-use Rattle.job.specs.Inner.TextCode.{appended}
-use Rattle.job.proofs.Appending.{piece_place}
+use Rattle.base.proofs.Storing.{PiecesStored}
 use Rattle.job.proofs.text.append.Given as goal
 
 abbrev pub invariant-loop-i : goal.invariant-loop-i

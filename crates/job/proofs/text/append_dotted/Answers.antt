@@ -8,11 +8,6 @@ use Rattle.job.proofs.Appending.{appended_length, appends, appends_both}
 use Rattle.job.proofs.DecimalDigits.{digits_short}
 use Rattle.job.proofs.text.append_dotted.Goals as goal
 
-{- LEFT
-slice-aggregate-append : tie.Need-slice-aggregate-append
-slice-aggregate-append c = search rules
--}
-
 pub append_number-requires : goal.append_number-requires
 append_number-requires c =
     omega (arith, appended_length _ _ c.append.ensures)

@@ -1,20 +1,14 @@
 -- A node's name, by the laws of NameTexts.
 use borrow.Author.Rules.{rules}
 use mathlib.Core.Path.{◌≡◌}
-use Prim.Native.Nat.{◌-◌, ◌≤◌}
 use native.Mathlib.Omega.{arith}
 use mir.Syntax.{w8}
 use mir.Val.{Fits}
 use Rattle.job.specs.JobCall.{name_text}
 use lib.ListN.{length, get_or}
 use Rattle.job.proofs.Appending.{appended_length, appends, appends_length}
-use Rattle.job.proofs.NameTexts.{DottedSoFar, byte_digits, dotted_start, dotted_turn, dotted_done}
+use Rattle.job.proofs.NameTexts.{byte_digits, dotted_start, dotted_turn, dotted_done}
 use Rattle.job.proofs.text.append_name.Goals as goal
-
-{- LEFT
-slice-aggregate-append : tie.Need-slice-aggregate-append invariant-loop decreases-loop
-slice-aggregate-append c = search rules
--}
 
 pub returns-then-long-eq0 : goal.returns-then-long-eq0
 unfolding name_text
@@ -24,12 +18,12 @@ returns-then-long-eq0 c =
 pub loop-i-init : goal.loop-i-init
 loop-i-init c =
     let size : length c.append_number-name.result.bytes ≡ 128 = search rules in
-    let byte : Fits w8 (get_or c.args.t2 0 0) = search rules in
+    let byte : Fits w8 (get_or c.args.names 0 0) = search rules in
     (omega (arith, c.if-long-eq0.false), dotted_start _ _ size (omega (arith, appended_length _ _ c.append_number-name.ensures, byte_digits _ byte.fits)))
 
 pub append_dotted-name-requires : goal.append_dotted-name-requires
 append_dotted-name-requires c =
-    let byte : Fits w8 (get_or c.args.t2 0 0) = search rules in
+    let byte : Fits w8 (get_or c.args.names 0 0) = search rules in
     omega (
       arith,
       c.loop-i-test.true,
@@ -41,9 +35,9 @@ append_dotted-name-requires c =
 
 pub loop-i-preserved : goal.loop-i-preserved
 loop-i-preserved c =
-    let held : length c.args.t2 ≡ 7 = search rules in
-    let first : Fits w8 (get_or c.args.t2 0 0) = search rules in
-    let byte : Fits w8 (get_or c.args.t2 c.loop-i.i 0) = search rules in (
+    let held : length c.args.names ≡ 7 = search rules in
+    let first : Fits w8 (get_or c.args.names 0 0) = search rules in
+    let byte : Fits w8 (get_or c.args.names c.loop-i.i 0) = search rules in (
       omega arith,
       dotted_turn _ _ _ _ _ c.loop-i.invariant.1 (omega (arith, c.loop-i-test.true)) byte.fits
           (omega (arith, c.loop-i-test.true, appended_length _ _ c.append_number-name.ensures, byte_digits _ first.fits))
@@ -53,7 +47,7 @@ loop-i-preserved c =
 pub returns : goal.returns
 returns c =
     let size : length c.args.text.bytes ≡ 128 = search rules in
-    let held : length c.args.t2 ≡ 7 = search rules in
-    let first : Fits w8 (get_or c.args.t2 0 0) = search rules in
+    let held : length c.args.names ≡ 7 = search rules in
+    let first : Fits w8 (get_or c.args.names 0 0) = search rules in
     dotted_done _ _ _ _ _ _ c.loop-i.invariant.1 c.loop-i.invariant.0 c.loop-i-test.false (omega arith) (omega arith) first.fits size
     (omega arith) c.append_number-name.ensures

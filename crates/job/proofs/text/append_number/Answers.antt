@@ -1,11 +1,9 @@
 -- A number in decimal.
 use borrow.Author.Rules.{rules}
-use mathlib.Core.Path.{◌≡◌, refl, ◌∙◌, ap}
-use Prim.Native.Nat.{◌+◌}
+use mathlib.Core.Path.{refl, ◌∙◌, ap}
 use native.Mathlib.Omega.{arith}
-use lib.ListN.{length, length-set}
 use Rattle.job.specs.Inner.TextCode.{appended}
-use Rattle.job.proofs.DecimalDigits.{DigitsFrom, digits_short, places_start, places_left, places_turn, places_done}
+use Rattle.job.proofs.DecimalDigits.{digits_short, places_start, places_left, places_turn, places_done}
 use Rattle.job.proofs.text.append_number.Goals as goal
 
 pub loop-rest-init : goal.loop-rest-init
@@ -35,18 +33,6 @@ bounds-places-at-2 c =
 pub slice_bounds-append-count : goal.slice_bounds-append-count
 slice_bounds-append-count c =
     omega (arith, c.loop-rest.invariant.1.within)
-
-{- LEFT
-part-append-start : tie.Need-slice-bounds-append-start invariant-loop decreases-loop
-part-append-start c = search rules
--}
-
-{- LEFT
-part-append-end : tie.Need-slice-bounds-append-end invariant-loop decreases-loop
-part-append-end c =
-    let left = c.before.before.loop in
-    omega (arith, left.invariant.0, length-set left.places left.at (48 + left.rest))
--}
 
 pub append-requires : goal.append-requires
 append-requires c =

@@ -1,11 +1,7 @@
 -- A number in decimal.
-use borrow.Author.Rules.{rules}
-use mathlib.Core.Path.{◌≡◌, refl, ◌∙◌, ap}
-use Prim.Native.Nat.{◌+◌}
-use native.Mathlib.Omega.{arith}
-use lib.ListN.{length, length-set}
-use Rattle.job.specs.Inner.TextCode.{appended}
-use Rattle.job.proofs.DecimalDigits.{DigitsFrom, digits_short, places_start, places_left, places_turn, places_done}
+use mathlib.Core.Path.{◌≡◌}
+use lib.ListN.{length}
+use Rattle.job.proofs.DecimalDigits.{DigitsFrom}
 use Rattle.job.proofs.text.append_number.Given as goal
 
 abbrev pub invariant-loop-rest : goal.invariant-loop-rest

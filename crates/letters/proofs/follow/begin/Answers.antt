@@ -1,5 +1,4 @@
 -- `begin` meets its contract: one less than 2^count is the map of all nodes.
-use borrow.Author.Rules.{rules}
 use native.Mathlib.Omega.{arith}
 use lib.Pow.{pow_pos}
 use Rattle.base.proofs.BitSet.{one_shifted}

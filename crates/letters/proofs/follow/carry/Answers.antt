@@ -2,14 +2,12 @@
 use borrow.Author.Rules.{rules}
 use mathlib.Core.Path.{◌≡◌, refl}
 use mathlib.Core.List.{[]}
-use Prim.Native.Nat.{◌-◌, ◌≤◌}
 use native.Mathlib.Omega.{arith}
 use lib.ListN.{get_or}
 use Rattle.base.specs.BitSet.{collect}
-use Rattle.tree.specs.Inner.PackedNodes.{nodes_in}
 use Rattle.tree.proofs.PackedWords.{node_read}
 use Rattle.tree.proofs.TreeNodes.{side_nodes}
-use Rattle.letters.proofs.MapsCarried.{carried_to, both_to, both_more, both_all}
+use Rattle.letters.proofs.MapsCarried.{carried_to, both_more, both_all}
 use Rattle.letters.proofs.follow.carry.Goals as goal
 
 pub loop-j-init : goal.loop-j-init

@@ -1,11 +1,7 @@
 -- `follow_each_letter` meets its contract. The loop has the nodes followed through the letters that it has passed.
-use borrow.Author.Rules.{rules}
-use Prim.Native.Nat.{◌-◌}
 use native.Mathlib.Omega.{arith}
-use lib.ListN.{length}
-use Rattle.tree.specs.Inner.Sides.{tree_on}
 use Rattle.letters.proofs.LettersRead.{letter_small}
-use Rattle.letters.proofs.NamesFollowed.{FollowedUpTo, followed_reads, followed_none, followed_ready, followed_few, followed_more, followed_all}
+use Rattle.letters.proofs.NamesFollowed.{followed_reads, followed_none, followed_ready, followed_few, followed_more, followed_all}
 use Rattle.letters.proofs.follow.follow_each_letter.Goals as goal
 
 pub loop-at-init : goal.loop-at-init
@@ -15,14 +11,6 @@ loop-at-init c =
 pub bounds-lookups-w : goal.bounds-lookups-w
 bounds-lookups-w c =
     letter_small _ _ _ _ (followed_reads _ _ _ _ _ c.requires.1) _ c.loop-at-test.true
-
-pub overflow_cast-w : goal.overflow_cast-w
-overflow_cast-w c =
-    omega (arith, index-1-step-nodes (goal.at.overflow_cast-w c).After-shared_slice_known-in-loop-at-1)
-
-pub offset_bounds-lookups-w : goal.offset_bounds-lookups-w
-offset_bounds-lookups-w c =
-    omega (arith, index-1-step-nodes (goal.at.offset_bounds-lookups-w c).After-shared_slice_known-in-loop-at-1)
 
 pub step_nodes-next-requires : goal.step_nodes-next-requires
 step_nodes-next-requires c =
@@ -36,10 +24,6 @@ pub carry-maps-requires : goal.carry-maps-requires
 carry-maps-requires c =
     followed_few _ _ _ _ _ _ _ _ _ c.loop-at.invariant c.loop-at-test.true _ _ c.step_nodes-next.ensures
     c.requires.1
-
-pub overflow_add-at : goal.overflow_add-at
-overflow_add-at c =
-    omega (arith, c.loop-at-test.true, c.well-formed.1.1.0)
 
 pub loop-at-preserved : goal.loop-at-preserved
 loop-at-preserved c =

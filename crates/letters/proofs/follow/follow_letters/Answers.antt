@@ -1,5 +1,4 @@
 -- `follow_letters` meets its contract: the letters up to the place, and those from there on.
-use borrow.Author.Rules.{rules}
 use Rattle.base.proofs.Flattening.{to_end}
 use Rattle.letters.proofs.NamesFollowed.{followed_reads, behind_followable, behind_few, follows_join}
 use Rattle.letters.proofs.follow.follow_letters.Goals as goal
@@ -11,16 +10,6 @@ skip_to_alone-skipped-requires c =
 pub followed_at-there-requires : goal.followed_at-there-requires
 followed_at-there-requires c =
     behind_few _ _ c.args.w.now _ _ c.args.from.maps _ _ c.skip_to_alone-skipped.ensures.1 c.requires.1
-
-{- LEFT
-part-follow-each-letter-start : tie.Need-slice-bounds-follow-each-letter-start
-part-follow-each-letter-start c = search rules
--}
-
-{- LEFT
-part-follow-each-letter-end : tie.Need-slice-bounds-follow-each-letter-end
-part-follow-each-letter-end c = search rules
--}
 
 pub follow_each_letter-requires : goal.follow_each_letter-requires
 follow_each_letter-requires c =

@@ -1,5 +1,4 @@
 -- `followed_at` meets its contract.
-use borrow.Author.Rules.{rules}
 use native.Mathlib.Omega.{arith}
 use borrow.Author.Tests.{eq-eqb, ne_eqb}
 use Rattle.letters.specs.Inner.RootPass.{root_maps}

@@ -1,10 +1,6 @@
 -- `read_each_letter` meets its contract. The loop has the tree after the letters that it has passed.
-use borrow.Author.Rules.{rules}
-use Prim.Native.Nat.{◌-◌}
 use native.Mathlib.Omega.{arith}
-use lib.ListN.{length}
-use Rattle.tree.specs.Inner.Sides.{tree_on}
-use Rattle.letters.proofs.LettersRead.{ReadUpTo, letter_small, upto_none, upto_ready, upto_more, upto_all}
+use Rattle.letters.proofs.LettersRead.{letter_small, upto_none, upto_ready, upto_more, upto_all}
 use Rattle.letters.proofs.read.read_each_letter.Goals as goal
 
 pub loop-at-init : goal.loop-at-init
@@ -14,14 +10,6 @@ loop-at-init c =
 pub bounds-lookups-w : goal.bounds-lookups-w
 bounds-lookups-w c =
     letter_small _ _ _ _ c.requires.1 _ c.loop-at-test.true
-
-pub overflow_cast-w : goal.overflow_cast-w
-overflow_cast-w c =
-    omega (arith, index-1-step-nodes (goal.at.overflow_cast-w c).After-shared_slice_known-in-loop-at-1)
-
-pub offset_bounds-lookups-w : goal.offset_bounds-lookups-w
-offset_bounds-lookups-w c =
-    omega (arith, index-1-step-nodes (goal.at.offset_bounds-lookups-w c).After-shared_slice_known-in-loop-at-1)
 
 pub step_nodes-next-requires : goal.step_nodes-next-requires
 step_nodes-next-requires c =

@@ -1,10 +1,8 @@
 -- `read_each_letter` meets its contract. The loop has the tree after the letters that it has passed.
-use borrow.Author.Rules.{rules}
 use Prim.Native.Nat.{◌-◌}
-use native.Mathlib.Omega.{arith}
 use lib.ListN.{length}
 use Rattle.tree.specs.Inner.Sides.{tree_on}
-use Rattle.letters.proofs.LettersRead.{ReadUpTo, letter_small, upto_none, upto_ready, upto_more, upto_all}
+use Rattle.letters.proofs.LettersRead.{ReadUpTo}
 use Rattle.letters.proofs.read.read_each_letter.Given as goal
 
 abbrev pub invariant-loop-at : goal.invariant-loop-at

@@ -1,18 +1,7 @@
 -- `read_letters` meets its contract: the letters up to the place, and those from there on.
-use borrow.Author.Rules.{rules}
 use Rattle.base.proofs.Flattening.{to_end}
 use Rattle.letters.proofs.LettersRead.{behind_readable, reads_join}
 use Rattle.letters.proofs.read.read_letters.Goals as goal
-
-{- LEFT
-part-read-each-letter-start : tie.Need-slice-bounds-read-each-letter-start
-part-read-each-letter-start c = search rules
--}
-
-{- LEFT
-part-read-each-letter-end : tie.Need-slice-bounds-read-each-letter-end
-part-read-each-letter-end c = search rules
--}
 
 pub read_each_letter-requires : goal.read_each_letter-requires
 read_each_letter-requires c =

@@ -1,20 +1,9 @@
 -- `find_alone` meets its contract: a place in the part that is tried, or one behind it.
-use borrow.Author.Rules.{rules}
 use Prim.Native.Nat.{◌-◌}
 use native.Mathlib.Omega.{arith}
 use Rattle.base.proofs.Flattening.{to_end}
 use Rattle.letters.proofs.RootPass.{front_passable, rest_passable, alone_front, alone_behind}
 use Rattle.letters.proofs.root.find_alone.Goals as goal
-
-{- LEFT
-part-last-alone-start : tie.Need-slice-bounds-last-alone-start
-part-last-alone-start c = search rules
--}
-
-{- LEFT
-part-last-alone-end : tie.Need-slice-bounds-last-alone-end
-part-last-alone-end c = search rules
--}
 
 pub last_alone-tried-requires : goal.last_alone-tried-requires
 last_alone-tried-requires c =
@@ -23,16 +12,6 @@ last_alone-tried-requires c =
 pub returns-then-place-eq0 : goal.returns-then-place-eq0
 returns-then-place-eq0 c =
     alone_front _ _ c.args.w.now _ (c.tried_part-part.result - 0) _ _ c.last_alone-tried.ensures.here
-
-{- LEFT
-part-last-alone-start-2 : tie.Need-slice-bounds-last-alone-start-2
-part-last-alone-start-2 c = search rules
--}
-
-{- LEFT
-part-last-alone-end-2 : tie.Need-slice-bounds-last-alone-end-2
-part-last-alone-end-2 c = search rules
--}
 
 pub last_alone-rest-requires : goal.last_alone-rest-requires
 last_alone-rest-requires c =

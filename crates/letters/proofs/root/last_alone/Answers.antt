@@ -1,13 +1,11 @@
 -- `last_alone` meets its contract. The loop has the root behind the letters that it has passed, and the last place where it was alone.
-use borrow.Author.Rules.{rules}
 use mathlib.Core.Path.{◌≡◌}
-use Prim.Native.Nat.{◌-◌, ◌<◌}
+use Prim.Native.Nat.{◌<◌}
 use native.Mathlib.Omega.{arith}
 use lib.ListN.{length}
 use Rattle.base.proofs.Every.{every_at}
 use Rattle.rule.specs.Limits.{max_letters}
-use Rattle.letters.specs.Inner.RootPass.{root_as}
-use Rattle.letters.proofs.RootPass.{PassedUpTo, passed_none, passed_more}
+use Rattle.letters.proofs.RootPass.{passed_none, passed_more}
 use Rattle.letters.proofs.root.last_alone.Goals as goal
 
 pub loop-at-init : goal.loop-at-init
@@ -17,14 +15,6 @@ loop-at-init c =
 pub bounds-lookups-w : goal.bounds-lookups-w
 bounds-lookups-w c =
     every_at (λ a. a < max_letters) c.args.w.now _ 0 c.requires.letters c.loop-at-test.true
-
-pub overflow_cast-w : goal.overflow_cast-w
-overflow_cast-w c =
-    omega (arith, index-1-root-letter (goal.at.overflow_cast-w c).After-shared_slice_known-in-loop-at-1)
-
-pub offset_bounds-lookups-w : goal.offset_bounds-lookups-w
-offset_bounds-lookups-w c =
-    omega (arith, index-1-root-letter (goal.at.offset_bounds-lookups-w c).After-shared_slice_known-in-loop-at-1)
 
 pub loop-at-preserved : goal.loop-at-preserved
 loop-at-preserved c =

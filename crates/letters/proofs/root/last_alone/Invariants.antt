@@ -1,13 +1,8 @@
 -- `last_alone` meets its contract. The loop has the root behind the letters that it has passed, and the last place where it was alone.
-use borrow.Author.Rules.{rules}
-use mathlib.Core.Path.{◌≡◌}
-use Prim.Native.Nat.{◌-◌, ◌<◌}
-use native.Mathlib.Omega.{arith}
+use Prim.Native.Nat.{◌-◌}
 use lib.ListN.{length}
-use Rattle.base.proofs.Every.{every_at}
-use Rattle.rule.specs.Limits.{max_letters}
 use Rattle.letters.specs.Inner.RootPass.{root_as}
-use Rattle.letters.proofs.RootPass.{PassedUpTo, passed_none, passed_more}
+use Rattle.letters.proofs.RootPass.{PassedUpTo}
 use Rattle.letters.proofs.root.last_alone.Given as goal
 
 abbrev pub invariant-loop-at : goal.invariant-loop-at

@@ -1,5 +1,4 @@
 -- `lay_alone` meets its contract: the root is the one node, or there is none.
-use borrow.Author.Rules.{rules}
 use Rattle.letters.proofs.RootTrees.{laid_dead, laid_alive}
 use Rattle.letters.proofs.root.lay_alone.Goals as goal
 

@@ -1,5 +1,4 @@
 -- `root_letter` meets its contract: two look-ups, and step 4.
-use borrow.Author.Rules.{rules}
 use Rattle.rule.specs.Inner.Lookup.{look_up}
 use Rattle.letters.specs.Inner.RootPass.{root_by}
 use Rattle.letters.proofs.root.root_letter.Goals as goal

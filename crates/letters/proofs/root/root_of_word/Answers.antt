@@ -1,5 +1,4 @@
 -- `root_of_word` meets its contract.
-use borrow.Author.Rules.{rules}
 use borrow.Author.Tests.{eq-eqb, ne_eqb}
 use Rattle.letters.specs.Inner.RootPass.{place_in, root_in, root_found}
 use mathlib.Core.Path.{refl, sym}

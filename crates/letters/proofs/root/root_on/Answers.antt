@@ -1,5 +1,4 @@
 -- `root_on` meets its contract: the first node, where there is one.
-use borrow.Author.Rules.{rules}
 use borrow.Author.Tests.{eq-eqb, ne_eqb}
 use Rattle.letters.specs.Inner.RootPass.{root_on}
 use mathlib.Core.List.{[]}

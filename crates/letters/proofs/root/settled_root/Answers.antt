@@ -1,5 +1,4 @@
 -- `settled_root` meets its contract, by step 4's test.
-use borrow.Author.Rules.{rules}
 use borrow.Author.Tests.{eq-eqb, ne_eqb}
 use Rattle.history.specs.Inner.Root.{settled_root}
 use Rattle.letters.proofs.root.settled_root.Goals as goal

@@ -1,5 +1,4 @@
 -- `skip_while_sparing` meets its contract: what it calls does, and so does a tree that stands still.
-use borrow.Author.Rules.{rules}
 use Rattle.letters.proofs.RootTrees.{skips_none}
 use Rattle.letters.proofs.root.skip_while_sparing.Goals as goal
 

@@ -1,5 +1,4 @@
 -- The value of a digit, by the letter's range.
-use borrow.Author.Rules.{rules}
 use mathlib.Core.Path.{sym}
 use Rattle.notation.proofs.DecimalDigits.{below_0, is_0_to_9, below_a, is_a_to_f, above_f}
 use Rattle.notation.proofs.decimal.digit.Goals as goal

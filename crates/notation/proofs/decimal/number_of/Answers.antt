@@ -1,11 +1,8 @@
 -- The number that a text has in decimal. The digits that the loop has passed have the value so far.
-use borrow.Author.Rules.{rules}
 use mathlib.Core.Path.{sym, ◌∙◌, ap}
-use Prim.Native.Nat.{◌-◌}
 use native.Mathlib.Omega.{arith}
-use lib.ListN.{length}
 use Rattle.notation.specs.Decimal.{number_answer}
-use Rattle.notation.proofs.DecimalDigits.{Passed, passed_none, passed_other, passed_large, passed_more, passed_all}
+use Rattle.notation.proofs.DecimalDigits.{passed_none, passed_other, passed_large, passed_more, passed_all}
 use Rattle.notation.proofs.decimal.number_of.Goals as goal
 
 pub loop-at-init : goal.loop-at-init

@@ -1,16 +1,10 @@
 -- Does a text have just these numbers? Each part that the loop has passed has its number.
-use borrow.Author.Rules.{rules}
-use borrow.Author.Count.{below_more}
-use borrow.Author.Tests.{not-true, not-false}
 use mathlib.Core.Path.{◌≡◌}
 use mathlib.Core.Option.{some}
 use Prim.Native.Nat.{ℕ, ◌-◌, ◌<◌, ◌≤◌}
-use native.Mathlib.Omega.{arith}
 use lib.ListN.{length, get_or}
-use Rattle.notation.specs.Parts.{space, parts, part_at}
+use Rattle.notation.specs.Parts.{space, part_at}
 use Rattle.notation.specs.Decimal.{decimal}
-use Rattle.notation.proofs.Testing.{tests_yes, tests_no}
-use Rattle.notation.proofs.DecimalDigits.{has_count, all_numbers, part_none, part_other, part_same}
 use Rattle.notation.proofs.decimal.numbers_are.Given as goal
 
 abbrev pub invariant-loop-at : goal.invariant-loop-at

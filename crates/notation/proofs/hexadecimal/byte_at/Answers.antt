@@ -1,5 +1,4 @@
 -- The byte that two digits have.
-use borrow.Author.Rules.{rules}
 use mathlib.Core.Path.{sym}
 use native.Mathlib.Omega.{arith}
 use Rattle.notation.proofs.ByteTexts.{byte_short, byte_high, byte_low, byte_two}

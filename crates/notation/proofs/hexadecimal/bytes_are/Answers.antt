@@ -1,5 +1,4 @@
 -- Are these the bytes that a text has?
-use borrow.Author.Rules.{rules}
 use Rattle.notation.proofs.ByteAnswers.{bytes_hold, bytes_tell}
 use Rattle.notation.proofs.hexadecimal.bytes_are.Goals as goal
 

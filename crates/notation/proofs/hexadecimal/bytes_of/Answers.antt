@@ -1,5 +1,4 @@
 -- The byte string that a text has.
-use borrow.Author.Rules.{rules}
 use borrow.Author.Tests.{not-true, not-false}
 use Rattle.notation.proofs.ByteAnswers.{answer_no, answer_yes, bytes_within}
 use Rattle.notation.proofs.hexadecimal.bytes_of.Goals as goal

@@ -1,10 +1,9 @@
 -- A byte so many times.
-use borrow.Author.Rules.{rules}
 use mathlib.Core.Path.{◌≡◌, refl, ◌∙◌, ap}
 use mathlib.Core.List.{List, ◌++◌}
-use Prim.Native.Nat.{ℕ, ◌-◌, ◌≤◌}
+use Prim.Native.Nat.{ℕ}
 use native.Mathlib.Omega.{arith}
-use lib.ListN.{length, replicate, drop, set, length-set}
+use lib.ListN.{replicate, drop, set, length-set}
 use Rattle.notation.proofs.ByteTexts.{filled_more}
 use Rattle.notation.proofs.hexadecimal.fill.Goals as goal
 

@@ -1,5 +1,4 @@
 -- A byte string, by its form.
-use borrow.Author.Rules.{rules}
 use lib.Dec.{eqb}
 use lib.ListN.{get_or}
 use Rattle.notation.proofs.TextParts.{behind}
@@ -18,16 +17,6 @@ returns-then-text-lt3 c =
 pub returns-then-text-ne42 : goal.returns-then-text-ne42
 returns-then-text-ne42 c =
     rw (no_star _ c.if-text-lt3.false c.if-text-ne42.true) c.put_pairs-then-text-ne42.ensures
-
-{- LEFT
-part-put-run-start : tie.Need-slice-bounds-put-run-start
-part-put-run-start c = search rules
--}
-
-{- LEFT
-part-put-run-end : tie.Need-slice-bounds-put-run-end
-part-put-run-end c = search rules
--}
 
 pub returns : goal.returns
 returns c =

@@ -1,10 +1,7 @@
 -- Pairs of digits. The bytes of those that the loop has passed stand at the front of the buffer.
-use borrow.Author.Rules.{rules}
 use mathlib.Core.Bool.{true}
-use Prim.Native.Nat.{◌-◌}
 use native.Mathlib.Omega.{arith}
-use lib.ListN.{length}
-use Rattle.notation.proofs.ByteTexts.{PairsLaid, pairs_start, pairs_size, pairs_none, pairs_full, pairs_more, pairs_all}
+use Rattle.notation.proofs.ByteTexts.{pairs_start, pairs_size, pairs_none, pairs_full, pairs_more, pairs_all}
 use Rattle.notation.proofs.hexadecimal.put_pairs.Goals as goal
 
 pub loop-at-init : goal.loop-at-init

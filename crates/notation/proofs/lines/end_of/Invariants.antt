@@ -1,11 +1,8 @@
 -- The end of a part. No letter that the loop has passed is the separator.
-use borrow.Author.Rules.{rules}
 use mathlib.Core.Path.{◌≡◌}
 use Prim.Native.Nat.{◌+◌, ◌-◌}
-use native.Mathlib.Omega.{arith}
 use lib.ListN.{length, drop}
 use Rattle.notation.specs.Parts.{part_at}
-use Rattle.notation.proofs.TextParts.{stop_length, more_length, end_length}
 use Rattle.notation.proofs.lines.end_of.Given as goal
 
 abbrev pub invariant-loop-at : goal.invariant-loop-at

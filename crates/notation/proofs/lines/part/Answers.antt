@@ -1,5 +1,4 @@
 -- A part. Each turn passes one, and those that are left stand from there on.
-use borrow.Author.Rules.{rules}
 use mathlib.Core.Path.{◌≡◌, refl, sym, ◌∙◌}
 use Prim.Native.Nat.{◌≤◌, ◌<◌}
 use native.Mathlib.Omega.{arith}
@@ -12,16 +11,6 @@ pub loop-left-init : goal.loop-left-init
 loop-left-init c =
     (omega arith, refl)
 
-{- LEFT
-part-result-start : tie.Need-slice-bounds-result-start invariant-loop decreases-loop
-part-result-start c = search rules
--}
-
-{- LEFT
-part-result-end : tie.Need-slice-bounds-result-end invariant-loop decreases-loop
-part-result-end c = search rules
--}
-
 pub returns-then-end-text : goal.returns-then-end-text
 returns-then-end-text c =
     let args = c.args in
@@ -30,7 +19,7 @@ returns-then-end-text c =
     let at_end : length text ≤ c.end_of-end.result = omega arith in
     let none_left =
     none_further args.separator text c.loop-left.from c.end_of-end.result c.end_of-end.ensures inv.0 at_end
-    c.loop-left.false c.loop-left-test.true in
+    c.loop-left.left c.loop-left-test.true in
     behind c.end_of-end.result text ∙ drop_of_length-le text at_end ∙ sym (inv.1 ∙ none_left)
 
 pub overflow_add-from : goal.overflow_add-from
@@ -47,22 +36,13 @@ loop-left-preserved c =
     let in-text : c.end_of-end.result < length text = omega (arith, end_within args.separator text from inv.0) in (
       omega arith,
       inv.1
-          ∙ further args.separator text from c.end_of-end.result c.end_of-end.ensures inv.0 in-text c.loop-left.false
+          ∙ further args.separator text from c.end_of-end.result c.end_of-end.ensures inv.0 in-text c.loop-left.left
           c.loop-left-test.true,
     )
 
-{- LEFT
-part-result-start-2 : tie.Need-slice-bounds-result-start-2 invariant-loop decreases-loop
-part-result-start-2 c = search rules
--}
-
-{- LEFT
-part-result-end-2 : tie.Need-slice-bounds-result-end-2 invariant-loop decreases-loop
-part-result-end-2 c =
-    let turn = c.before in
-    let args = turn.before.before.before.args in
-    omega (arith, end_within args.separator args.text.now turn.before.loop.from turn.before.loop.invariant.0)
--}
+pub slice_bounds-result-end-2 : goal.slice_bounds-result-end-2
+slice_bounds-result-end-2 c =
+    omega (arith, end_within c.args.separator c.args.text.now c.loop-left.from c.loop-left.invariant.0)
 
 pub returns : goal.returns
 returns c =
@@ -70,6 +50,6 @@ returns c =
     let s = args.separator in
     let text = args.text.now in
     let from = c.loop-left.from in
-    let last : c.loop-left.false ≡ 0 = omega arith in
+    let last : c.loop-left.left ≡ 0 = omega arith in
     let inv : part_at s text args.number ≡ part_at s (drop from text) 0 = rw last at c.loop-left.invariant.1 in
     first_between s text from c.end_of-to.result c.end_of-to.ensures ∙ sym inv

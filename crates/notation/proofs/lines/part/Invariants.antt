@@ -1,11 +1,8 @@
 -- A part. Each turn passes one, and those that are left stand from there on.
-use borrow.Author.Rules.{rules}
-use mathlib.Core.Path.{◌≡◌, refl, sym, ◌∙◌}
-use Prim.Native.Nat.{◌≤◌, ◌<◌}
-use native.Mathlib.Omega.{arith}
-use lib.ListN.{length, drop, drop_of_length-le}
+use mathlib.Core.Path.{◌≡◌}
+use Prim.Native.Nat.{◌≤◌}
+use lib.ListN.{length, drop}
 use Rattle.notation.specs.Parts.{part_at}
-use Rattle.notation.proofs.TextParts.{behind, end_within, none_further, further, first_between}
 use Rattle.notation.proofs.lines.part.Given as goal
 
 abbrev pub invariant-loop-left : goal.invariant-loop-left

@@ -1,22 +1,17 @@
 -- How many separators there are: those that the loop has passed, and those of the rest.
-use borrow.Author.Rules.{rules}
-use mathlib.Core.Path.{◌≡◌}
-use mathlib.Core.Logic.{⊎_elim}
-use Prim.Native.Nat.{◌+◌, ◌-◌, ◌≤◌}
 use native.Mathlib.Omega.{arith}
-use lib.ListN.{length, drop}
-use Rattle.notation.specs.Parts.{parts}
 use Rattle.notation.proofs.TextParts.{stop_count, more_count, end_count}
 use Rattle.notation.proofs.lines.separators.Goals as goal
+use Rattle.notation.proofs.lines.separators.Goals.{then-text-at, else-text-at}
 
 pub loop-at-preserved : goal.loop-at-preserved
 loop-at-preserved c =
-    let args = c.args in
+    let text = c.args.text.now in
     let at = c.loop-at.at in
-    ⊎_elim
-    (λ w. omega (arith, stop_count args.separator args.text.now at c.loop-at-test.true w.0.taken))
-    (λ w. omega (arith, more_count args.separator args.text.now at c.loop-at-test.true w.0.left))
-    c.if-text-at.branch
+    elim c.if-text-at.branch [
+      | then-text-at w ↦ omega (arith, stop_count c.args.separator text at c.loop-at-test.true w.if-text-at.true)
+      | else-text-at w ↦ omega (arith, more_count c.args.separator text at c.loop-at-test.true w.if-text-at.false)
+    ]
 
 pub returns : goal.returns
 returns c =

@@ -1,12 +1,8 @@
 -- How many separators there are: those that the loop has passed, and those of the rest.
-use borrow.Author.Rules.{rules}
 use mathlib.Core.Path.{◌≡◌}
-use mathlib.Core.Logic.{⊎_elim}
 use Prim.Native.Nat.{◌+◌, ◌-◌, ◌≤◌}
-use native.Mathlib.Omega.{arith}
 use lib.ListN.{length, drop}
 use Rattle.notation.specs.Parts.{parts}
-use Rattle.notation.proofs.TextParts.{stop_count, more_count, end_count}
 use Rattle.notation.proofs.lines.separators.Given as goal
 
 abbrev pub invariant-loop-at : goal.invariant-loop-at

@@ -1,5 +1,4 @@
 -- The letters at the front of a line.
-use borrow.Author.Rules.{rules}
 use native.Mathlib.Omega.{arith}
 use Rattle.notation.proofs.OneLines.{written_some, written_two, fronts_short, fronts_same, fronts_other, fronts_newline, fronts_first, fronts_second}
 use Rattle.notation.proofs.texts.letters_for.Goals as goal

@@ -1,11 +1,8 @@
 -- A text on one line. The letters that the loop has passed stand at the front of the line, and the rest goes on.
-use borrow.Author.Rules.{rules}
-use Prim.Native.Nat.{◌-◌}
 use native.Mathlib.Omega.{arith}
-use lib.ListN.{length}
 use Rattle.notation.proofs.TextParts.{behind}
 use Rattle.notation.proofs.Testing.{tests_no}
-use Rattle.notation.proofs.OneLines.{fronts_within, fronts_no, fronts_yes, LinePassed, line_start, line_other, line_more, line_end}
+use Rattle.notation.proofs.OneLines.{fronts_within, fronts_no, fronts_yes, line_start, line_other, line_more, line_end}
 use Rattle.notation.proofs.texts.text_is.Goals as goal
 
 pub loop-at-init : goal.loop-at-init
@@ -19,16 +16,6 @@ returns-then-count-eq0 c =
 pub slice_bounds-rest-count : goal.slice_bounds-rest-count
 slice_bounds-rest-count c =
     omega (arith, fronts_within _ _ _ c.letters_for-count.ensures)
-
-{- LEFT
-part-rest-start : tie.Need-slice-bounds-rest-start invariant-loop decreases-loop
-part-rest-start c = omega (arith, fronts_within _ _ _ c.before.letters-for.ensures)
--}
-
-{- LEFT
-part-rest-end : tie.Need-slice-bounds-rest-end invariant-loop decreases-loop
-part-rest-end c = search rules
--}
 
 pub loop-at-preserved : goal.loop-at-preserved
 loop-at-preserved c =

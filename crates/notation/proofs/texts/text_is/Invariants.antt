@@ -1,11 +1,7 @@
 -- A text on one line. The letters that the loop has passed stand at the front of the line, and the rest goes on.
-use borrow.Author.Rules.{rules}
 use Prim.Native.Nat.{◌-◌}
-use native.Mathlib.Omega.{arith}
 use lib.ListN.{length}
-use Rattle.notation.proofs.TextParts.{behind}
-use Rattle.notation.proofs.Testing.{tests_no}
-use Rattle.notation.proofs.OneLines.{fronts_within, fronts_no, fronts_yes, LinePassed, line_start, line_other, line_more, line_end}
+use Rattle.notation.proofs.OneLines.{LinePassed}
 use Rattle.notation.proofs.texts.text_is.Given as goal
 
 abbrev pub invariant-loop-at : goal.invariant-loop-at

@@ -1,5 +1,4 @@
 -- The plain judge: the questions to the table and the walk, then the judge on the look-ups that are ready.
-use borrow.Author.Rules.{rules}
 use mathlib.Core.Path.{refl}
 use Rattle.table.proofs.Asked.{asked_no, asked_yes}
 use Rattle.word.specs.Judging.{judge_questions}
@@ -8,16 +7,16 @@ use Rattle.plain.proofs.judge.plain_judge.Goals as goal
 
 pub judge_prepared-requires : goal.judge_prepared-requires
 judge_prepared-requires c =
-    let (R, _, ready) = asked_yes c.walk_questions.ensures c.header-1.given.1 in
+    let (R, _, ready) = asked_yes c.in-Rule.ensures refl in
     (R, ready)
 
 pub returns-in-Refused : goal.returns-in-Refused
 unfolding plain_outcome judge_questions scratch_after
 returns-in-Refused c =
-    rw (asked_no c.walk_questions.ensures c.number-1.given.1) (c.plain_refusal.ensures, refl)
+    rw (asked_no c.in-Refused.ensures refl) (c.plain_refusal.ensures, refl)
 
 pub returns-in-Rule : goal.returns-in-Rule
 unfolding plain_outcome judge_questions
 returns-in-Rule c =
-    let (R, accepts, ready) = asked_yes c.walk_questions.ensures c.header-1.given.1 in
+    let (R, accepts, ready) = asked_yes c.in-Rule.ensures refl in
     rw accepts (c.judge_prepared.ensures R ready)

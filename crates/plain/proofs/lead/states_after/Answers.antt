@@ -1,9 +1,7 @@
 -- `states_after` meets its contract. What the letters from `at` on lead to from the states at hand is what all letters lead to.
-use borrow.Author.Rules.{rules}
 use native.Mathlib.Omega.{arith}
-use mathlib.Core.Path.{◌≡◌, refl, sym, ◌∙◌, ap}
-use Prim.Native.Nat.{ℕ, ◌-◌, ◌≤◌, ◌<◌}
-use lib.ListN.{length, drop}
+use mathlib.Core.Path.{refl, sym, ◌∙◌, ap}
+use Prim.Native.Nat.{ℕ, ◌<◌}
 use Rattle.base.proofs.Every.{every_at}
 use Rattle.rule.specs.Limits.{max_letters}
 use Rattle.rule.specs.Inner.Lanes.{map_of}
@@ -22,11 +20,11 @@ bounds-lookups-u c =
 
 pub overflow_cast-u : goal.overflow_cast-u
 overflow_cast-u c =
-    omega (arith, index-1-look-up (goal.at.overflow_cast-u c).After-shared_slice_known-in-loop-at-1)
+    omega (arith, every_at (λ a. a < max_letters) c.args.u.now _ 0 c.requires c.loop-at-test.true)
 
 pub offset_bounds-lookups-u : goal.offset_bounds-lookups-u
 offset_bounds-lookups-u c =
-    omega (arith, index-1-look-up (goal.at.offset_bounds-lookups-u c).After-shared_slice_known-in-loop-at-1)
+    omega (arith, every_at (λ a. a < max_letters) c.args.u.now _ 0 c.requires c.loop-at-test.true)
 
 pub loop-at-preserved : goal.loop-at-preserved
 unfolding states_after look_up

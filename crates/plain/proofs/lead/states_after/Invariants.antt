@@ -1,15 +1,8 @@
 -- `states_after` meets its contract. What the letters from `at` on lead to from the states at hand is what all letters lead to.
-use borrow.Author.Rules.{rules}
-use native.Mathlib.Omega.{arith}
-use mathlib.Core.Path.{◌≡◌, refl, sym, ◌∙◌, ap}
-use Prim.Native.Nat.{ℕ, ◌-◌, ◌≤◌, ◌<◌}
+use mathlib.Core.Path.{◌≡◌}
+use Prim.Native.Nat.{◌-◌, ◌≤◌}
 use lib.ListN.{length, drop}
-use Rattle.base.proofs.Every.{every_at}
-use Rattle.rule.specs.Limits.{max_letters}
-use Rattle.rule.specs.Inner.Lanes.{map_of}
-use Rattle.rule.specs.Inner.Lookup.{look_up}
 use Rattle.plain.specs.Inner.Letters.{states_after}
-use Rattle.plain.proofs.LetterLaws.{over_done, over_more}
 use Rattle.plain.proofs.lead.states_after.Given as goal
 
 abbrev pub invariant-loop-at : goal.invariant-loop-at

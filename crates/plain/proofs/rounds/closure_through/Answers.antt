@@ -2,9 +2,6 @@
 use borrow.Author.Rules.{rules}
 use native.Mathlib.Omega.{arith}
 use mathlib.Core.Path.{◌≡◌}
-use Prim.Native.Nat.{◌-◌, ◌≤◌}
-use Rattle.plain.specs.Inner.Ways.{Changed}
-use Rattle.plain.specs.Inner.Rounds.{continued}
 use Rattle.plain.proofs.RowLaws.{changed_none, changed_more}
 use Rattle.plain.proofs.RoundRows.{through_ways}
 use Rattle.plain.proofs.rounds.closure_through.Goals as goal
@@ -21,5 +18,5 @@ pub returns : goal.returns
 returns c =
     let e : c.loop-state.state ≡ c.args.n = omega arith in (
       search rules,
-      through_ways _ _ _ _ _ (omega arith) c.continued-behind.ensures (rw e (goal.at.returns c).At-loop-state c.loop-state.invariant.1),
+      through_ways _ _ _ _ _ (omega arith) c.continued-behind.ensures (rw e at c.loop-state.invariant.1),
     )

@@ -1,12 +1,7 @@
 -- `closure_through` meets its contract. The loop changes one row after the other.
-use borrow.Author.Rules.{rules}
-use native.Mathlib.Omega.{arith}
-use mathlib.Core.Path.{◌≡◌}
 use Prim.Native.Nat.{◌-◌, ◌≤◌}
 use Rattle.plain.specs.Inner.Ways.{Changed}
 use Rattle.plain.specs.Inner.Rounds.{continued}
-use Rattle.plain.proofs.RowLaws.{changed_none, changed_more}
-use Rattle.plain.proofs.RoundRows.{through_ways}
 use Rattle.plain.proofs.rounds.closure_through.Given as goal
 
 abbrev pub invariant-loop-state : goal.invariant-loop-state

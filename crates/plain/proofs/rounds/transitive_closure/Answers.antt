@@ -2,10 +2,6 @@
 use borrow.Author.Rules.{rules}
 use native.Mathlib.Omega.{arith}
 use mathlib.Core.Path.{◌≡◌, refl}
-use Prim.Native.Nat.{◌-◌, ◌≤◌}
-use lib.ListN.{length}
-use Rattle.rule.specs.Inner.Lanes.{lane_width}
-use Rattle.plain.specs.Inner.Ways.{ways, AreWays}
 use Rattle.plain.specs.Inner.Rounds.{closure}
 use Rattle.plain.proofs.RoundRows.{closure_more}
 use Rattle.plain.proofs.rounds.transitive_closure.Goals as goal

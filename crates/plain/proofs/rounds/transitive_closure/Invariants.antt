@@ -1,13 +1,10 @@
 -- `transitive_closure` meets its contract. The loop has the ways that may pass the states that it has passed.
-use borrow.Author.Rules.{rules}
-use native.Mathlib.Omega.{arith}
-use mathlib.Core.Path.{◌≡◌, refl}
+use mathlib.Core.Path.{◌≡◌}
 use Prim.Native.Nat.{◌-◌, ◌≤◌}
 use lib.ListN.{length}
 use Rattle.rule.specs.Inner.Lanes.{lane_width}
 use Rattle.plain.specs.Inner.Ways.{ways, AreWays}
 use Rattle.plain.specs.Inner.Rounds.{closure}
-use Rattle.plain.proofs.RoundRows.{closure_more}
 use Rattle.plain.proofs.rounds.transitive_closure.Given as goal
 
 abbrev pub invariant-loop-middle : goal.invariant-loop-middle

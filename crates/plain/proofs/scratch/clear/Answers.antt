@@ -1,11 +1,10 @@
 -- `clear` meets its contract. The loop stores one zero after another.
-use borrow.Author.Rules.{rules}
 use native.Mathlib.Omega.{arith}
 use mathlib.Core.Path.{◌≡◌, refl, ap, ◌∙◌, subst}
-use mathlib.Core.List.{List, ◌++◌}
-use Prim.Native.Nat.{ℕ, ◌-◌, ◌≤◌}
+use mathlib.Core.List.{List}
+use Prim.Native.Nat.{ℕ}
 use borrow.Author.Fill.{fill_none, fill_more}
-use lib.ListN.{length, drop, set, replicate, length-set}
+use lib.ListN.{set, replicate, length-set}
 use Rattle.base.specs.LentBuffer.{stored}
 use Rattle.plain.specs.PlainCall.{scratch_length}
 use Rattle.plain.proofs.ScratchBytes.{scratch_length_lem, cleared}

@@ -1,14 +1,9 @@
 -- `clear` meets its contract. The loop stores one zero after another.
-use borrow.Author.Rules.{rules}
-use native.Mathlib.Omega.{arith}
-use mathlib.Core.Path.{◌≡◌, refl, ap, ◌∙◌, subst}
-use mathlib.Core.List.{List, ◌++◌}
-use Prim.Native.Nat.{ℕ, ◌-◌, ◌≤◌}
-use borrow.Author.Fill.{fill_none, fill_more}
-use lib.ListN.{length, drop, set, replicate, length-set}
-use Rattle.base.specs.LentBuffer.{stored}
+use mathlib.Core.Path.{◌≡◌}
+use mathlib.Core.List.{◌++◌}
+use Prim.Native.Nat.{◌-◌, ◌≤◌}
+use lib.ListN.{length, drop, replicate}
 use Rattle.plain.specs.PlainCall.{scratch_length}
-use Rattle.plain.proofs.ScratchBytes.{scratch_length_lem, cleared}
 use Rattle.plain.proofs.scratch.clear.Given as goal
 
 abbrev pub invariant-loop-at : goal.invariant-loop-at

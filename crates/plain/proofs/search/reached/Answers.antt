@@ -1,9 +1,8 @@
 -- `reached` meets its contract. The loop has the states reached from the states that it has passed.
-use borrow.Author.Rules.{rules}
 use native.Mathlib.Omega.{arith}
 use native.Mathlib.Nat.{mul-le-mul_left}
 use mathlib.Core.Path.{◌≡◌, refl}
-use Prim.Native.Nat.{◌-◌, ◌/◌, ◌%◌, ◌^◌, ◌≤◌}
+use Prim.Native.Nat.{◌/◌, ◌%◌, ◌^◌, ◌≤◌}
 use native.Mathlib.Numerals.{add-one}
 use Rattle.plain.specs.Inner.Search.{reached}
 use Rattle.plain.proofs.search.reached.Goals as goal

@@ -1,16 +1,12 @@
 -- `some_lasso` meets its contract. None of the states passed has a loop.
-use borrow.Author.Rules.{rules}
 use native.Mathlib.Omega.{arith}
-use mathlib.Core.Path.{◌≡◌, refl}
+use mathlib.Core.Path.{refl}
 use mathlib.Core.Logic.{inl, inr}
-use Prim.Native.Nat.{ℕ, suc, ◌-◌, ◌≤◌, ◌<◌}
 use borrow.Author.Count.{below_more}
 use borrow.Author.Tests.{eqb-true, eq-eqb}
 use Rattle.base.specs.BitSet.{member}
-use Rattle.rule.specs.Inner.Lanes.{each_lane}
 use Rattle.rule.proofs.LaneLaws.{each_out, each_in}
 use Rattle.plain.specs.Inner.Ways.{ways}
-use Rattle.plain.specs.Inner.Search.{LassoAt}
 use Rattle.plain.proofs.Searching.{reached_out, reached_in}
 use Rattle.plain.proofs.search.some_lasso.Goals as goal
 
@@ -30,14 +26,14 @@ loop-state-preserved-then-lanes_with-full c =
 pub returns-then-all-t-eq1 : goal.returns-then-all-t-eq1
 unfolding ways member
 returns-then-all-t-eq1 c =
-    let all = each_out _ _ _ (omega arith) (rw (c.lanes_with.ensures, c.loop-state.invariant.0) (goal.at.returns-then-all-t-eq1 c).In-loop-state c.if-lanes_with-full.false) in
+    let all = each_out _ _ _ (omega arith) (rw (c.lanes_with.ensures, c.loop-state.invariant.0) at c.if-lanes_with-full.false) in
     inl (
       refl,
       (
         c.loop-state.state,
         c.loop-state-test.true,
         (
-          reached_out _ _ c.loop-state.state _ (rw c.reached-all.ensures (goal.at.returns-then-all-t-eq1 c).In-loop-state (eq-eqb _ _ c.if-all-t-eq1.true)),
+          reached_out _ _ c.loop-state.state _ (rw c.reached-all.ensures at (eq-eqb _ _ c.if-all-t-eq1.true)),
           λ i h. all i (omega arith),
         ),
       ),

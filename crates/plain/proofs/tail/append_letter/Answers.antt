@@ -2,9 +2,6 @@
 use borrow.Author.Rules.{rules}
 use native.Mathlib.Omega.{arith}
 use mathlib.Core.Path.{◌≡◌}
-use Prim.Native.Nat.{◌-◌, ◌≤◌}
-use Rattle.plain.specs.Inner.Ways.{Changed}
-use Rattle.plain.specs.Inner.Letters.{extended}
 use Rattle.plain.proofs.RowLaws.{changed_none, changed_more}
 use Rattle.plain.proofs.tail.append_letter.Goals as goal
 

@@ -1,11 +1,7 @@
 -- `append_letter` meets its contract. The loop changes one row after the other.
-use borrow.Author.Rules.{rules}
-use native.Mathlib.Omega.{arith}
-use mathlib.Core.Path.{◌≡◌}
 use Prim.Native.Nat.{◌-◌, ◌≤◌}
 use Rattle.plain.specs.Inner.Ways.{Changed}
 use Rattle.plain.specs.Inner.Letters.{extended}
-use Rattle.plain.proofs.RowLaws.{changed_none, changed_more}
 use Rattle.plain.proofs.tail.append_letter.Given as goal
 
 abbrev pub invariant-loop-state : goal.invariant-loop-state

@@ -3,10 +3,10 @@
 use borrow.Author.Rules.{rules}
 use native.Mathlib.Omega.{arith}
 use mathlib.Core.Path.{◌≡◌, ◌∙◌, ap, ap₂}
-use Prim.Native.Nat.{ℕ, suc, ◌-◌, ◌≤◌}
+use Prim.Native.Nat.{ℕ, suc}
 use lib.Bits.{bit_or}
 use lib.Count.{count_trailing_zeros, trailing_le}
-use Rattle.rule.specs.Inner.Lanes.{map_of, word_of, each_lane, lanes_with, in_lane, in_lanes, lanes}
+use Rattle.rule.specs.Inner.Lanes.{map_of, each_lane, lanes_with, in_lane, in_lanes, lanes}
 use Rattle.rule.specs.Limits.{max_sets}
 use Rattle.rule.specs.Inner.Lookup.{images_by}
 use Rattle.rule.proofs.LaneLaws.{lanes_with_le}

@@ -1,17 +1,12 @@
 -- `extended` meets its contract. Where each map of the row has all of its states or none, at once; else the loop has joined the maps of the
 -- relations that it has passed.
-use borrow.Author.Rules.{rules}
-use native.Mathlib.Omega.{arith}
-use mathlib.Core.Path.{◌≡◌, ◌∙◌, ap, ap₂}
-use Prim.Native.Nat.{ℕ, suc, ◌-◌, ◌≤◌}
+use mathlib.Core.Path.{◌≡◌}
+use Prim.Native.Nat.{suc, ◌-◌, ◌≤◌}
 use lib.Bits.{bit_or}
-use lib.Count.{count_trailing_zeros, trailing_le}
-use Rattle.rule.specs.Inner.Lanes.{map_of, word_of, each_lane, lanes_with, in_lane, in_lanes, lanes}
+use Rattle.rule.specs.Inner.Lanes.{map_of, word_of}
 use Rattle.rule.specs.Limits.{max_sets}
 use Rattle.rule.specs.Inner.Lookup.{images_by}
-use Rattle.rule.proofs.LaneLaws.{lanes_with_le}
-use Rattle.plain.specs.Inner.Letters.{onward, extended}
-use Rattle.plain.proofs.LetterLaws.{onward_lt, extended_first, extended_more, extended_full}
+use Rattle.plain.specs.Inner.Letters.{onward}
 use Rattle.plain.proofs.tail.extended.Given as goal
 
 abbrev pub invariant-loop-relation : goal.invariant-loop-relation

@@ -2,10 +2,10 @@
 use borrow.Author.Rules.{rules}
 use native.Mathlib.Omega.{arith}
 use mathlib.Core.Path.{◌≡◌, ◌∙◌, ap}
-use Prim.Native.Nat.{ℕ, ◌*◌, ◌-◌, ◌%◌, ◌^◌, ◌<◌}
+use Prim.Native.Nat.{ℕ, ◌*◌, ◌%◌, ◌^◌, ◌<◌}
 use lib.Pow.{pow-lt}
 use Rattle.base.proofs.BitSet.{one_shifted}
-use Rattle.base.proofs.Tabulate.{Holds, holds_none, holds_more, holds_all}
+use Rattle.base.proofs.Tabulate.{holds_none, holds_more, holds_all}
 use Rattle.rule.specs.Inner.Lanes.{lane_width, in_lane}
 use Rattle.plain.specs.Inner.Letters.{own_row}
 use Rattle.plain.proofs.tail.identity_matrix.Goals as goal

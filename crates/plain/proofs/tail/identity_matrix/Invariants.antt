@@ -1,12 +1,7 @@
 -- `identity_matrix` meets its contract. The loop stores the row of each state in turn.
-use borrow.Author.Rules.{rules}
-use native.Mathlib.Omega.{arith}
-use mathlib.Core.Path.{◌≡◌, ◌∙◌, ap}
-use Prim.Native.Nat.{ℕ, ◌*◌, ◌-◌, ◌%◌, ◌^◌, ◌<◌}
-use lib.Pow.{pow-lt}
-use Rattle.base.proofs.BitSet.{one_shifted}
-use Rattle.base.proofs.Tabulate.{Holds, holds_none, holds_more, holds_all}
-use Rattle.rule.specs.Inner.Lanes.{lane_width, in_lane}
+use Prim.Native.Nat.{◌-◌}
+use Rattle.base.proofs.Tabulate.{Holds}
+use Rattle.rule.specs.Inner.Lanes.{lane_width}
 use Rattle.plain.specs.Inner.Letters.{own_row}
 use Rattle.plain.proofs.tail.identity_matrix.Given as goal
 

@@ -1,5 +1,4 @@
 -- `onward` meets its contract: a look_up, but for the empty set.
-use borrow.Author.Rules.{rules}
 use mathlib.Core.Path.{sym, ◌∙◌, ap}
 use Prim.Native.Nat.{ℕ}
 use Rattle.rule.specs.Inner.Lanes.{map_of}

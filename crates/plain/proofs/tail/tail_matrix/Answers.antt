@@ -2,8 +2,8 @@
 use borrow.Author.Rules.{rules}
 use native.Mathlib.Omega.{arith}
 use mathlib.Core.Path.{◌≡◌, sym, ◌∙◌, ap}
-use Prim.Native.Nat.{ℕ, ◌-◌, ◌≤◌, ◌<◌}
-use lib.ListN.{length, drop, get_or}
+use Prim.Native.Nat.{ℕ, ◌<◌}
+use lib.ListN.{get_or}
 use Rattle.base.proofs.Every.{every_at}
 use Rattle.base.proofs.Tabulate.{get_d_tabulate}
 use Rattle.rule.specs.Inner.Lanes.{lane_width}
@@ -25,11 +25,11 @@ bounds-lookups-v c =
 
 pub overflow_cast-v : goal.overflow_cast-v
 overflow_cast-v c =
-    omega (arith, index-1-append-letter (goal.at.overflow_cast-v c).After-shared_slice_known-in-loop-at-1)
+    omega (arith, every_at (λ a. a < max_letters) c.args.v.now _ 0 c.requires.1 c.loop-at-test.true)
 
 pub offset_bounds-lookups-v : goal.offset_bounds-lookups-v
 offset_bounds-lookups-v c =
-    omega (arith, index-1-append-letter (goal.at.offset_bounds-lookups-v c).After-shared_slice_known-in-loop-at-1)
+    omega (arith, every_at (λ a. a < max_letters) c.args.v.now _ 0 c.requires.1 c.loop-at-test.true)
 
 pub loop-at-preserved : goal.loop-at-preserved
 unfolding row_after

@@ -1,15 +1,9 @@
 -- `tail_matrix` meets its contract. What the letters from `at` on make of the rows at hand is what all letters make of the rows of no letter.
-use borrow.Author.Rules.{rules}
-use native.Mathlib.Omega.{arith}
-use mathlib.Core.Path.{◌≡◌, sym, ◌∙◌, ap}
+use mathlib.Core.Path.{◌≡◌}
 use Prim.Native.Nat.{ℕ, ◌-◌, ◌≤◌, ◌<◌}
 use lib.ListN.{length, drop, get_or}
-use Rattle.base.proofs.Every.{every_at}
-use Rattle.base.proofs.Tabulate.{get_d_tabulate}
 use Rattle.rule.specs.Inner.Lanes.{lane_width}
-use Rattle.rule.specs.Limits.{max_letters}
 use Rattle.plain.specs.Inner.Letters.{own_row, row_after}
-use Rattle.plain.proofs.LetterLaws.{over_done, over_more}
 use Rattle.plain.proofs.tail.tail_matrix.Given as goal
 
 abbrev pub invariant-loop-at : goal.invariant-loop-at

@@ -1,5 +1,4 @@
 -- `in_lane` meets its contract: the map fits into its lane.
-use borrow.Author.Rules.{rules}
 use native.Mathlib.Omega.{arith}
 use Prim.Native.Nat.{◌*◌}
 use lib.Pow.{shl_exact}

@@ -1,5 +1,4 @@
 -- `lanes_to` meets its contract: of all lanes those above the last one are dropped.
-use borrow.Author.Rules.{rules}
 use native.Mathlib.Omega.{arith}
 use Prim.Native.Nat.{suc, ◌-◌}
 use Rattle.rule.specs.Inner.Lanes.{lanes, word_of, chosen_lanes, each_lane}
@@ -9,4 +8,4 @@ use Rattle.rule.proofs.lanes.lanes_to.Goals as goal
 pub returns : goal.returns
 unfolding each_lane chosen_lanes word_of
 returns c =
-    each_fewer (lanes - 1 - c.args.new) lanes (suc c.args.new) (omega arith)
+    each_fewer (lanes - 1 - c.args.last) lanes (suc c.args.last) (omega arith)

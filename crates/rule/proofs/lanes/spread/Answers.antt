@@ -1,5 +1,4 @@
 -- `spread` meets its contract: a test of all maps of relations.
-use borrow.Author.Rules.{rules}
 use mathlib.Core.Path.{refl}
 use Prim.Native.Nat.{suc, ◌*◌, ◌^◌}
 use lib.Bits.{bit_and}

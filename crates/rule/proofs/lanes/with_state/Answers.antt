@@ -1,5 +1,4 @@
 -- `with_state` meets its contract: no chosen bit leaves the word.
-use borrow.Author.Rules.{rules}
 use mathlib.Core.Path.{◌∙◌, ap}
 use native.Mathlib.Nat.{mul_comm}
 use native.Mathlib.Omega.{arith}

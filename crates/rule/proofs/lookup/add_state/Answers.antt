@@ -1,11 +1,9 @@
 -- `add_state` meets its contract. The loop stores the entries of the sets with the highest state q, in order.
-use borrow.Author.Rules.{rules}
 use mathlib.Core.Path.{◌≡◌, ◌∙◌}
-use Prim.Native.Nat.{◌*◌, ◌-◌, ◌%◌, ◌^◌, ◌≤◌}
+use Prim.Native.Nat.{◌*◌, ◌%◌, ◌^◌, ◌≤◌}
 use native.Mathlib.Nat.{one-mul}
 use native.Mathlib.Omega.{arith}
 use lib.Pow.{pow_mono, shl_exact}
-use Rattle.rule.specs.Inner.LookupSteps.{StateAdded}
 use Rattle.rule.proofs.LookupSteps.{added_none, added_more}
 use Rattle.rule.proofs.lookup.add_state.Goals as goal
 

@@ -1,10 +1,8 @@
 -- `fill_lookup` meets its contract. With each state the images of twice as many sets are in the look-up.
-use borrow.Author.Rules.{rules}
 use mathlib.Core.Path.{◌≡◌}
-use Prim.Native.Nat.{◌-◌, ◌^◌, ◌≤◌}
 use native.Mathlib.Numerals.{add-one}
 use native.Mathlib.Omega.{arith}
-use Rattle.rule.proofs.LookupSteps.{Filled, filled_none, filled_more, filled_all}
+use Rattle.rule.proofs.LookupSteps.{filled_none, filled_more, filled_all}
 use Rattle.rule.proofs.lookup.fill_lookup.Goals as goal
 
 pub loop-q-init : goal.loop-q-init

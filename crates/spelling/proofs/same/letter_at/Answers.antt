@@ -1,5 +1,4 @@
 -- A letter of the lead-in, or of the tail behind it.
-use borrow.Author.Rules.{rules}
 use mathlib.Core.Path.{sym}
 use Rattle.word.proofs.Positions.{letter_prefix, letter_tail}
 use Rattle.spelling.proofs.same.letter_at.Goals as goal

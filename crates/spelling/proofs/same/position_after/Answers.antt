@@ -1,5 +1,4 @@
 -- The next position, or the tail's first.
-use borrow.Author.Rules.{rules}
 use borrow.Author.Tests.{lt-ltb, le-ltb}
 use Rattle.spelling.specs.Inner.Comparing.{wrapped}
 use Rattle.spelling.proofs.same.position_after.Goals as goal

@@ -1,19 +1,10 @@
 -- Two walks letter by letter: in each turn both positions go on round.
 use borrow.Author.Rules.{rules}
 use mathlib.Core.Path.{sym, ◌∙◌}
-use mathlib.Core.List.{List}
-use Prim.Native.Nat.{ℕ, ◌≤◌, ◌-◌}
 use native.Mathlib.Omega.{arith}
 use Rattle.word.proofs.WalkQuestions.{lengths_in}
-use Rattle.spelling.proofs.Comparing.{SameUpTo, GoesOn, goes_from, goes_next, goes_here, same_further, differ_at, agree_up_to}
+use Rattle.spelling.proofs.Comparing.{goes_from, goes_next, goes_here, same_further, differ_at, agree_up_to}
 use Rattle.spelling.proofs.same.same_letters.Goals as goal
-
--- so many letters were compared, and were the same; both walks go on from their positions
-record Compared (u v u' v' : List ℕ) (count position position' compared : ℕ) : Type 0 where
-  upto : compared ≤ count
-  same : SameUpTo u v u' v' compared
-  goes : GoesOn u v compared position
-  goes' : GoesOn u' v' compared position'
 
 pub overflow_add-end : goal.overflow_add-end
 overflow_add-end c =

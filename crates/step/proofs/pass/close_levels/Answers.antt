@@ -1,7 +1,6 @@
 -- `close_levels` meets its contract, by the laws of ClosingLoop: one for each way through the loop's body.
 use native.Mathlib.Omega.{arith}
-use borrow.Author.Rules.{rules}
-use Rattle.step.proofs.ClosingLoop.{ClosedSoFar, closing_start, close_none, close_some, closing_done}
+use Rattle.step.proofs.ClosingLoop.{closing_start, close_none, close_some, closing_done}
 use Rattle.step.proofs.pass.close_levels.Goals as goal
 
 pub loop-top-init : goal.loop-top-init

@@ -1,5 +1,4 @@
 -- `enter` meets its contract, by the laws of Levels: one for each way out.
-use borrow.Author.Rules.{rules}
 use Rattle.step.proofs.Levels.{enter_removed, enter_accepting, enter_kept}
 use Rattle.step.proofs.pass.enter.Goals as goal
 

@@ -1,7 +1,6 @@
 -- `next_set` meets its contract.
 use native.Mathlib.Numerals.{add-one}
 use borrow.Author.Tests.{lt-ltb, le-ltb}
-use borrow.Author.Rules.{rules}
 use Rattle.history.specs.Letter.{next_set}
 use Rattle.step.proofs.pass.next_set.Goals as goal
 

@@ -1,6 +1,5 @@
 -- `settled_node` meets its contract, by step 4's test.
 use borrow.Author.Tests.{eq-eqb, ne_eqb}
-use borrow.Author.Rules.{rules}
 use Rattle.step.specs.Inner.Pass.{settled_node}
 use Rattle.step.proofs.pass.settled_node.Goals as goal
 

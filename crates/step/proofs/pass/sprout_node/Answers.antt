@@ -1,5 +1,4 @@
 -- `sprout_node` meets its contract.
-use borrow.Author.Rules.{rules}
 use Rattle.step.specs.Inner.Pass.{sprout_node}
 use Rattle.step.proofs.pass.sprout_node.Goals as goal
 

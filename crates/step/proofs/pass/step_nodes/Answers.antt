@@ -1,7 +1,7 @@
 -- `step_nodes` meets its contract, by the laws of PassLoop: one for each way through the loop's body.
 use mathlib.Core.Path.{◌≡◌, refl, ◌∙◌}
 use mathlib.Core.List.{[]}
-use Prim.Native.Nat.{ℕ, ◌-◌, ◌<◌}
+use Prim.Native.Nat.{ℕ, ◌<◌}
 use native.Mathlib.Omega.{arith}
 use borrow.Author.Rules.{rules}
 use lib.ListN.{get_or}
@@ -9,10 +9,10 @@ use Rattle.rule.specs.Limits.{max_states}
 use Rattle.tree.specs.Inner.Nodes.{blank_node}
 use Rattle.tree.specs.Inner.PackedNodes.{nodes_in}
 use Rattle.tree.specs.Inner.RecordNodes.{places}
-use Rattle.step.specs.Inner.LevelArrays.{level_arrays, waiting_levels}
+use Rattle.step.specs.Inner.LevelArrays.{waiting_levels}
 use Rattle.step.specs.Inner.AtSibling.{AtSibling}
 use Rattle.step.specs.Inner.Stepping.{nodes_on}
-use Rattle.step.proofs.PassLoop.{OnSides, sides_start, closable, side_read, set_fits, node_skipped, node_removed, node_room, node_kept, sides_done}
+use Rattle.step.proofs.PassLoop.{sides_start, closable, side_read, set_fits, node_skipped, node_removed, node_room, node_kept, sides_done}
 use Rattle.step.proofs.RunningSet.{reading_at_sibling}
 use Rattle.step.proofs.pass.step_nodes.Goals as goal
 use Rattle.step.proofs.pass.step_nodes.Goals.{After-close_levels-at, After-unpack-x}
@@ -30,7 +30,9 @@ module _ (u : After-unpack-x) where
 module _ (q : After-close_levels-at) where
   -- there is room for one more
   room : {many : ℕ} → many ≡ q.close_levels-at.result.written → many < places
-  room = node_room _ _ _ _ _ q.loop-i.invariant q.loop-i-test.true _ (read u) _ _ q.close_levels-at.ensures
+  room =
+      node_room _ _ _ _ _ q.loop-i.invariant q.loop-i-test.true _
+      (side_read _ _ _ _ _ q.loop-i.invariant q.loop-i-test.true _ q.unpack-x.ensures) _ _ q.close_levels-at.ensures
 
   -- a node of the deepest level is a sibling that is reached: `running_set` (RunningSet.antt) speaks of `at.running` here
   pub at-node : q.unpack-x.result.depth ≡ q.close_levels-at.result.top

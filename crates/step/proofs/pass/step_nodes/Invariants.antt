@@ -1,19 +1,7 @@
 -- `step_nodes` meets its contract, by the laws of PassLoop: one for each way through the loop's body.
-use mathlib.Core.Path.{◌≡◌, refl, ◌∙◌}
-use mathlib.Core.List.{[]}
-use Prim.Native.Nat.{ℕ, ◌-◌, ◌<◌}
-use native.Mathlib.Omega.{arith}
-use borrow.Author.Rules.{rules}
-use lib.ListN.{get_or}
-use Rattle.rule.specs.Limits.{max_states}
-use Rattle.tree.specs.Inner.Nodes.{blank_node}
-use Rattle.tree.specs.Inner.PackedNodes.{nodes_in}
-use Rattle.tree.specs.Inner.RecordNodes.{places}
-use Rattle.step.specs.Inner.LevelArrays.{level_arrays, waiting_levels}
-use Rattle.step.specs.Inner.AtSibling.{AtSibling}
-use Rattle.step.specs.Inner.Stepping.{nodes_on}
-use Rattle.step.proofs.PassLoop.{OnSides, sides_start, closable, side_read, set_fits, node_skipped, node_removed, node_room, node_kept, sides_done}
-use Rattle.step.proofs.RunningSet.{reading_at_sibling}
+use Prim.Native.Nat.{◌-◌}
+use Rattle.step.specs.Inner.LevelArrays.{level_arrays}
+use Rattle.step.proofs.PassLoop.{OnSides}
 use Rattle.step.proofs.pass.step_nodes.Given as goal
 
 abbrev pub invariant-loop-i : goal.invariant-loop-i

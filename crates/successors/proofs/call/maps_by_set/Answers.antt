@@ -2,8 +2,8 @@
 use borrow.Author.Rules.{rules}
 use native.Mathlib.Omega.{arith}
 use mathlib.Core.Path.{◌≡◌, ◌∙◌, ap}
-use Prim.Native.Nat.{suc, ◌+◌, ◌-◌}
-use Rattle.base.proofs.Tabulate.{Holds, holds_none, holds_more, holds_all}
+use Prim.Native.Nat.{suc, ◌+◌}
+use Rattle.base.proofs.Tabulate.{holds_none, holds_more, holds_all}
 use Rattle.rule.specs.Limits.{max_sets}
 use Rattle.rule.specs.Inner.Lanes.{map_of}
 use Rattle.successors.proofs.call.maps_by_set.Goals as goal

@@ -1,16 +1,13 @@
 -- The cells of a letter, by the laws of ManyReading.
-use Prim.Native.Nat.{◌-◌}
 use mathlib.Core.List.{[]}
-use mathlib.Core.Path.{◌≡◌, ◌∙◌}
+use mathlib.Core.Path.{◌∙◌}
 use borrow.Author.Rules.{rules}
-use lib.ListN.{drop, get_or-replicate}
+use lib.ListN.{get_or-replicate}
 use Rattle.rule.specs.Limits.{max_states}
-use Rattle.rule.specs.Inner.Padded.{blank_row, blank_square}
-use Rattle.rule.specs.Inner.Lookup.{square_words}
+use Rattle.rule.specs.Inner.Padded.{blank_row}
 use Rattle.rule.proofs.RowWords.{word_at, word_stored}
-use Rattle.table.specs.Table.{read_cell}
 use Rattle.table.specs.Inner.Cursor.{read_square}
-use Rattle.table.proofs.ManyReading.{ManySoFar, many_start, many_place, many_more, many_refused, many_done}
+use Rattle.table.proofs.ManyReading.{many_start, many_place, many_more, many_refused, many_done}
 use Rattle.table.proofs.cells.read_letter.Goals as goal
 
 pub loop-state-init : goal.loop-state-init
@@ -26,14 +23,14 @@ read_cell-requires c =
 pub returns-in-Refused : goal.returns-in-Refused
 returns-in-Refused c =
     let inv = c.loop-state.invariant in (
-      many_refused inv.0 c.loop-state-test.true _ (rw c.number-1.given.1 at c.read_cell.ensures.0),
+      many_refused inv.0 c.loop-state-test.true _ c.in-Refused.ensures.0,
       word_stored _ inv.1 _ _ c.read_cell.ensures.1,
     )
 
 pub loop-state-preserved : goal.loop-state-preserved
 loop-state-preserved c =
     let inv = c.loop-state.invariant in (
-      many_more inv.0 c.loop-state-test.true (search rules) _ _ (rw c.next-1.given.1 at c.read_cell.ensures.0),
+      many_more inv.0 c.loop-state-test.true (search rules) _ _ c.in-At.ensures.0,
       word_stored _ inv.1 _ _ c.read_cell.ensures.1,
     )
 

@@ -1,16 +1,13 @@
 -- The cells of a letter, by the laws of ManyReading.
 use Prim.Native.Nat.{◌-◌}
-use mathlib.Core.List.{[]}
-use mathlib.Core.Path.{◌≡◌, ◌∙◌}
-use borrow.Author.Rules.{rules}
-use lib.ListN.{drop, get_or-replicate}
+use mathlib.Core.Path.{◌≡◌}
+use lib.ListN.{drop}
 use Rattle.rule.specs.Limits.{max_states}
-use Rattle.rule.specs.Inner.Padded.{blank_row, blank_square}
+use Rattle.rule.specs.Inner.Padded.{blank_square}
 use Rattle.rule.specs.Inner.Lookup.{square_words}
-use Rattle.rule.proofs.RowWords.{word_at, word_stored}
 use Rattle.table.specs.Table.{read_cell}
 use Rattle.table.specs.Inner.Cursor.{read_square}
-use Rattle.table.proofs.ManyReading.{ManySoFar, many_start, many_place, many_more, many_refused, many_done}
+use Rattle.table.proofs.ManyReading.{ManySoFar}
 use Rattle.table.proofs.cells.read_letter.Given as goal
 
 abbrev pub invariant-loop-state : goal.invariant-loop-state

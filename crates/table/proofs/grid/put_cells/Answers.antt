@@ -1,10 +1,9 @@
 -- The squares, one behind the other.
-use Prim.Native.Nat.{◌*◌, ◌-◌}
-use mathlib.Core.Path.{◌≡◌}
+use Prim.Native.Nat.{◌*◌}
 use native.Mathlib.Omega.{arith}
 use native.Mathlib.Nat.{suc-mul, mul-le-mul_right}
 use borrow.Author.Rules.{rules}
-use Rattle.base.proofs.Storing.{PiecesStored, pieces_start, pieces_next, pieces_size, pieces_done}
+use Rattle.base.proofs.Storing.{pieces_start, pieces_next, pieces_size, pieces_done}
 use Rattle.table.proofs.GridWriting.{squares_up_to, squares_none, squares_more}
 use Rattle.table.proofs.grid.put_cells.Goals as goal
 

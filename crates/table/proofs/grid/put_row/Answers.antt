@@ -1,11 +1,9 @@
 -- The bytes of a row, one behind the other.
-use Prim.Native.Nat.{◌+◌, ◌-◌}
-use mathlib.Core.Path.{◌≡◌, refl}
+use mathlib.Core.Path.{refl}
 use native.Mathlib.Omega.{arith}
 use borrow.Author.Rules.{rules}
-use lib.ListN.{take}
 use lib.Seq.{take-suc, length-take-le}
-use Rattle.base.proofs.Storing.{PiecesStored, pieces_start, pieces_byte, pieces_size, pieces_done}
+use Rattle.base.proofs.Storing.{pieces_start, pieces_byte, pieces_size, pieces_done}
 use Rattle.table.proofs.grid.put_row.Goals as goal
 
 pub loop-r-init : goal.loop-r-init
@@ -18,7 +16,7 @@ bounds-out-at c =
 
 pub loop-r-preserved : goal.loop-r-preserved
 loop-r-preserved c =
-    (omega arith, pieces_byte c.loop-r.invariant.1 c.loop-r-test.true _ (take-suc c.args.t1 c.loop-r.r 0 (search rules)) (omega arith))
+    (omega arith, pieces_byte c.loop-r.invariant.1 c.loop-r-test.true _ (take-suc c.args.row c.loop-r.r 0 (search rules)) (omega arith))
 
 pub shape_of-out : goal.shape_of-out
 shape_of-out c =

@@ -1,11 +1,8 @@
 -- The bytes of a row, one behind the other.
 use Prim.Native.Nat.{◌+◌, ◌-◌}
-use mathlib.Core.Path.{◌≡◌, refl}
-use native.Mathlib.Omega.{arith}
-use borrow.Author.Rules.{rules}
+use mathlib.Core.Path.{◌≡◌}
 use lib.ListN.{take}
-use lib.Seq.{take-suc, length-take-le}
-use Rattle.base.proofs.Storing.{PiecesStored, pieces_start, pieces_byte, pieces_size, pieces_done}
+use Rattle.base.proofs.Storing.{PiecesStored}
 use Rattle.table.proofs.grid.put_row.Given as goal
 
 abbrev pub invariant-loop-r : goal.invariant-loop-r

@@ -1,7 +1,6 @@
 -- Questions 1 to 3, then the cells, by the laws of RuleReading.
 use mathlib.Core.Path.{sym, ◌∙◌}
 use native.Mathlib.Omega.{arith}
-use borrow.Author.Rules.{rules}
 use Rattle.table.proofs.Ranges.{in_range_lem}
 use Rattle.table.proofs.RuleReading.{header_accepted, rule_short, rule_header, rule_body}
 use Rattle.table.proofs.reader.read_rule.Goals as goal

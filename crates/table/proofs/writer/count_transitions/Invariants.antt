@@ -1,10 +1,7 @@
 -- Question 11 at each byte, and the count, by the laws of RowWriting.
 use Prim.Native.Nat.{◌-◌}
-use native.Mathlib.Omega.{arith}
-use borrow.Author.Rules.{rules}
 use lib.ListN.{length}
-use lib.Pow.{shl_exact}
-use Rattle.table.proofs.RowWriting.{CountedSoFar, count_start, count_skip, count_one, count_misfit, count_done}
+use Rattle.table.proofs.RowWriting.{CountedSoFar}
 use Rattle.table.proofs.writer.count_transitions.Given as goal
 
 abbrev pub invariant-loop-i : goal.invariant-loop-i

@@ -22,10 +22,6 @@ unfolding cell_bytes
 put_sets-requires c =
     simp length-set (omega arith)
 
-pub shape_of-table : goal.shape_of-table
-shape_of-table c =
-    c.table-1.given ∙ simp length-set
-
 pub returns : goal.returns
 unfolding cell_bytes
 returns c =

@@ -1,9 +1,7 @@
 -- The cells of the rows, one behind the other.
-use Prim.Native.Nat.{◌-◌}
 use native.Mathlib.Omega.{arith}
-use borrow.Author.Rules.{rules}
 use Rattle.base.proofs.Storing.{pieces_size}
-use Rattle.table.proofs.TableWriting.{CellsStored, cells_start, row_end, row_length, cells_room, cells_next, cells_done}
+use Rattle.table.proofs.TableWriting.{cells_start, row_end, row_length, cells_room, cells_next, cells_done}
 use Rattle.table.proofs.writer.put_cells.Goals as goal
 
 pub loop-row-init : goal.loop-row-init

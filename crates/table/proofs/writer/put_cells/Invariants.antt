@@ -1,9 +1,6 @@
 -- The cells of the rows, one behind the other.
 use Prim.Native.Nat.{◌-◌}
-use native.Mathlib.Omega.{arith}
-use borrow.Author.Rules.{rules}
-use Rattle.base.proofs.Storing.{pieces_size}
-use Rattle.table.proofs.TableWriting.{CellsStored, cells_start, row_end, row_length, cells_room, cells_next, cells_done}
+use Rattle.table.proofs.TableWriting.{CellsStored}
 use Rattle.table.proofs.writer.put_cells.Given as goal
 
 abbrev pub invariant-loop-row : goal.invariant-loop-row

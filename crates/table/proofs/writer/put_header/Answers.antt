@@ -1,6 +1,5 @@
 -- The header's four bytes.
 use native.Mathlib.Omega.{arith}
-use borrow.Author.Rules.{rules}
 use lib.ListN.{length-set}
 use Rattle.table.proofs.TableWriting.{header_stored}
 use Rattle.table.proofs.writer.put_header.Goals as goal

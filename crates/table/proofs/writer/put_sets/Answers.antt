@@ -1,12 +1,10 @@
 -- The set bytes of a row, one behind the other.
-use Prim.Native.Nat.{◌-◌}
 use mathlib.Core.Path.{ap}
 use native.Mathlib.Omega.{arith}
-use borrow.Author.Rules.{rules}
 use lib.ListN.{length}
 use Rattle.base.proofs.Storing.{pieces_size}
-use Rattle.base.proofs.EachStored.{EachStored, each_start, each_room, each_byte, each_skip, each_done}
-use Rattle.table.proofs.RowWriting.{set_byte, set_bytes_each, set_byte_none, set_byte_one}
+use Rattle.base.proofs.EachStored.{each_start, each_room, each_byte, each_skip, each_done}
+use Rattle.table.proofs.RowWriting.{set_bytes_each, set_byte_none, set_byte_one}
 use Rattle.table.proofs.writer.put_sets.Goals as goal
 
 pub loop-r-init : goal.loop-r-init

@@ -1,7 +1,6 @@
 -- The map byte, from the highest state down, by the laws of RowWriting.
 use native.Mathlib.Omega.{arith}
-use borrow.Author.Rules.{rules}
-use Rattle.table.proofs.RowWriting.{MapSoFar, map_start, map_room, map_skip, map_one, map_done}
+use Rattle.table.proofs.RowWriting.{map_start, map_room, map_skip, map_one, map_done}
 use Rattle.table.proofs.writer.row_map.Goals as goal
 
 pub loop-r-init : goal.loop-r-init

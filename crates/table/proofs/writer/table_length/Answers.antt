@@ -1,7 +1,6 @@
 -- Questions 2, 3 and 11 in order, by the laws of WriteOutcome.
 use mathlib.Core.Path.{sym, ◌∙◌}
 use native.Mathlib.Omega.{arith}
-use borrow.Author.Rules.{rules}
 use Rattle.table.proofs.WriteOutcome.{header_range, rows_small, bytes_small, count_small, length_header, length_size, length_misfit, length_exact}
 use Rattle.table.proofs.writer.table_length.Goals as goal
 
@@ -33,15 +32,15 @@ overflow_add-result c =
 pub overflow_add-result-in-Transitions : goal.overflow_add-result-in-Transitions
 overflow_add-result-in-Transitions c =
     let range = header_range _ _ _ _ (sym c.header_number-number.ensures ∙ c.if-number-ne0.false) in
-    let count = count_small _ _ _ (rw c.count-1.given.1 at c.count_transitions.ensures) in
+    let count = count_small _ _ _ c.in-Transitions.ensures in
     omega (arith, rows_small range, bytes_small range, count)
 
 pub returns-in-Misfit : goal.returns-in-Misfit
 returns-in-Misfit c =
     length_misfit _ _ _ _ _ (sym c.header_number-number.ensures ∙ c.if-number-ne0.false) c.if-grid-rows.false
-    (rw c.enum_told-1.given.1 at c.count_transitions.ensures)
+    c.in-Misfit.ensures
 
 pub returns-in-Transitions : goal.returns-in-Transitions
 returns-in-Transitions c =
     length_exact _ _ _ _ _ (sym c.header_number-number.ensures ∙ c.if-number-ne0.false) c.if-grid-rows.false _
-    (rw c.count-1.given.1 at c.count_transitions.ensures)
+    c.in-Transitions.ensures

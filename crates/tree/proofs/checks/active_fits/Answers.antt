@@ -1,5 +1,4 @@
 -- The two comparisons of an active set.
-use borrow.Author.Rules.{rules}
 use borrow.Author.Tests.{lt-leb, le-leb}
 use Rattle.history.specs.Inner.RecordChecks.{active_fits}
 use Rattle.tree.proofs.checks.active_fits.Goals as goal

@@ -1,11 +1,6 @@
 -- Nodes that host, from the highest number down: the answer is that of the nodes still to come.
-use borrow.Author.Rules.{rules}
 use mathlib.Core.Path.{◌≡◌}
-use Prim.Native.Nat.{◌<◌}
-use native.Mathlib.Omega.{arith}
-use Rattle.base.proofs.Tests.{told_no, told_yes}
 use Rattle.history.specs.Inner.RecordChecks.{all_host}
-use Rattle.tree.proofs.ChecksInTurn.{all_from}
 use Rattle.tree.proofs.checks.all_host.Given as goal
 
 abbrev pub invariant-loop-left : goal.invariant-loop-left

@@ -1,8 +1,6 @@
 -- What follows a map: its hosts and its tags.
-use borrow.Author.Rules.{rules}
-use mathlib.Core.Path.{sym}
+use mathlib.Core.Path.{sym, ◌∙◌}
 use lib.Seq.{length-take-le}
-use Rattle.base.proofs.Tests.{told_no, told_yes}
 use Rattle.base.proofs.Flattening.{to_end}
 use Rattle.history.specs.Inner.RecordChecks.{body_fits}
 use Rattle.tree.proofs.checks.body_fits.Goals as goal
@@ -14,7 +12,7 @@ slice_bounds-all_below-end c =
 pub returns-then-not-all_below : goal.returns-then-not-all_below
 unfolding body_fits
 returns-then-not-all_below c =
-    rw (told_no c.all_below.ensures c.if-not-all_below.true)
+    rw (sym c.all_below.ensures ∙ c.if-not-all_below.true)
 
 pub slice_bounds-all_host-end : goal.slice_bounds-all_host-end
 slice_bounds-all_host-end c =
@@ -23,20 +21,10 @@ slice_bounds-all_host-end c =
 pub returns-then-not-all_host : goal.returns-then-not-all_host
 unfolding body_fits
 returns-then-not-all_host c =
-    rw (told_yes c.all_below.ensures c.if-not-all_below.false, told_no c.all_host.ensures c.if-not-all_host.true)
-
-{- LEFT
-part-tags-fit-start : tie.Need-slice-bounds-tags-fit-start
-part-tags-fit-start c = search rules
--}
-
-{- LEFT
-part-tags-fit-end : tie.Need-slice-bounds-tags-fit-end
-part-tags-fit-end c = search rules
--}
+    rw (sym c.all_below.ensures ∙ c.if-not-all_below.false, sym c.all_host.ensures ∙ c.if-not-all_host.true)
 
 pub returns : goal.returns
 unfolding body_fits
 returns c =
-    rw (told_yes c.all_below.ensures c.if-not-all_below.false, told_yes c.all_host.ensures c.if-not-all_host.false)
+    rw (sym c.all_below.ensures ∙ c.if-not-all_below.false, sym c.all_host.ensures ∙ c.if-not-all_host.false)
     (rw to_end at c.tags_fit.ensures)

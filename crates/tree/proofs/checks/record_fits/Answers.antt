@@ -1,5 +1,4 @@
 -- Question 9: the map, then what follows it.
-use borrow.Author.Rules.{rules}
 use mathlib.Core.Path.{◌∙◌}
 use native.Mathlib.Omega.{arith}
 use lib.Count.{ones-le}

@@ -1,7 +1,6 @@
 -- The root's tag, then those behind it.
-use borrow.Author.Rules.{rules}
+use mathlib.Core.Path.{sym, ◌∙◌}
 use borrow.Author.Tests.{eq-eqb, ne_eqb}
-use Rattle.base.proofs.Tests.{told_no, told_yes}
 use Rattle.base.proofs.Flattening.{to_end}
 use Rattle.tree.proofs.ChecksInTurn.{fit_none, fit_parts}
 use Rattle.tree.proofs.checks.tags_fit.Goals as goal
@@ -16,23 +15,13 @@ returns-then-root-ne0 c =
 
 pub returns-then-not-active_fits : goal.returns-then-not-active_fits
 returns-then-not-active_fits c =
-    rw (fit_parts _ _ c.if-tags-lt1.false, eq-eqb _ _ c.if-root-ne0.false, told_no c.active_fits.ensures c.if-not-active_fits.true)
-
-{- LEFT
-part-tags-follow-start : tie.Need-slice-bounds-tags-follow-start
-part-tags-follow-start c = search rules
--}
-
-{- LEFT
-part-tags-follow-end : tie.Need-slice-bounds-tags-follow-end
-part-tags-follow-end c = search rules
--}
+    rw (fit_parts _ _ c.if-tags-lt1.false, eq-eqb _ _ c.if-root-ne0.false, sym c.active_fits.ensures ∙ c.if-not-active_fits.true)
 
 pub returns : goal.returns
 returns c =
     rw (
       fit_parts _ _ c.if-tags-lt1.false,
       eq-eqb _ _ c.if-root-ne0.false,
-      told_yes c.active_fits.ensures c.if-not-active_fits.false,
+      sym c.active_fits.ensures ∙ c.if-not-active_fits.false,
     )
     (rw to_end at c.tags_follow.ensures)

@@ -1,10 +1,7 @@
 -- The tags behind the root's, by the laws of ChecksInTurn.
-use borrow.Author.Rules.{rules}
-use Prim.Native.Nat.{◌-◌}
+use mathlib.Core.Path.{sym, ◌∙◌}
 use native.Mathlib.Omega.{arith}
-use lib.ListN.{length}
-use Rattle.base.proofs.Tests.{told_no, told_yes}
-use Rattle.tree.proofs.ChecksInTurn.{TagsAhead, tags_start, tags_no_depth, tags_too_deep, tags_no_set, tags_next, tags_done}
+use Rattle.tree.proofs.ChecksInTurn.{tags_start, tags_no_depth, tags_too_deep, tags_no_set, tags_next, tags_done}
 use Rattle.tree.proofs.checks.tags_follow.Goals as goal
 
 pub loop-at-init : goal.loop-at-init
@@ -22,13 +19,13 @@ returns-then-depth-before c =
 pub returns-then-not-active_fits : goal.returns-then-not-active_fits
 returns-then-not-active_fits c =
     tags_no_set c.loop-at.invariant c.loop-at-test.true c.if-depth-lt1.false (omega arith)
-    (told_no c.active_fits.ensures c.if-not-active_fits.true)
+    (sym c.active_fits.ensures ∙ c.if-not-active_fits.true)
 
 pub loop-at-preserved : goal.loop-at-preserved
 loop-at-preserved c =
     tags_next c.loop-at.invariant c.loop-at-test.true c.if-depth-lt1.false (omega arith)
     (omega (arith, c.type_inv.tags c.loop-at.at))
-    (told_yes c.active_fits.ensures c.if-not-active_fits.false)
+    (sym c.active_fits.ensures ∙ c.if-not-active_fits.false)
 
 pub returns : goal.returns
 returns c =

@@ -1,8 +1,7 @@
 -- Deeper tags at the front, by the laws of ReadingInTurn.
-use borrow.Author.Rules.{rules}
 use Prim.Native.Nat.{◌-◌}
 use lib.ListN.{length}
-use Rattle.tree.proofs.ReadingInTurn.{DeeperSoFar, deeper_start, deeper_stop, deeper_next, deeper_done}
+use Rattle.tree.proofs.ReadingInTurn.{DeeperSoFar}
 use Rattle.tree.proofs.reading.deeper.Given as goal
 
 abbrev pub invariant-loop-count : goal.invariant-loop-count

@@ -1,14 +1,11 @@
 -- A node for each tag, by the laws of ReadingInTurn.
-use borrow.Author.Rules.{rules}
-use Prim.Native.Nat.{◌+◌, ◌-◌}
+use Prim.Native.Nat.{◌+◌}
 use mathlib.Core.Path.{refl}
 use native.Mathlib.Omega.{arith}
-use lib.ListN.{length}
 use Rattle.base.proofs.Flattening.{to_end}
-use Rattle.history.specs.Record.{hosted_in}
-use Rattle.tree.specs.Inner.PackedNodes.{unpacked, nodes_in}
+use Rattle.tree.specs.Inner.PackedNodes.{unpacked}
 use Rattle.tree.proofs.PackedWords.{node_written}
-use Rattle.tree.proofs.ReadingInTurn.{deeper_few, NodesSoFar, nodes_start, nodes_next, nodes_done}
+use Rattle.tree.proofs.ReadingInTurn.{deeper_few, nodes_start, nodes_next, nodes_done}
 use Rattle.tree.proofs.reading.record_nodes.Goals as goal
 
 pub loop-number-init : goal.loop-number-init

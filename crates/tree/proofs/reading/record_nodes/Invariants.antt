@@ -1,14 +1,9 @@
 -- A node for each tag, by the laws of ReadingInTurn.
-use borrow.Author.Rules.{rules}
-use Prim.Native.Nat.{◌+◌, ◌-◌}
-use mathlib.Core.Path.{refl}
-use native.Mathlib.Omega.{arith}
+use Prim.Native.Nat.{◌-◌}
 use lib.ListN.{length}
-use Rattle.base.proofs.Flattening.{to_end}
 use Rattle.history.specs.Record.{hosted_in}
-use Rattle.tree.specs.Inner.PackedNodes.{unpacked, nodes_in}
-use Rattle.tree.proofs.PackedWords.{node_written}
-use Rattle.tree.proofs.ReadingInTurn.{deeper_few, NodesSoFar, nodes_start, nodes_next, nodes_done}
+use Rattle.tree.specs.Inner.PackedNodes.{nodes_in}
+use Rattle.tree.proofs.ReadingInTurn.{NodesSoFar}
 use Rattle.tree.proofs.reading.record_nodes.Given as goal
 
 abbrev pub invariant-loop-number : goal.invariant-loop-number

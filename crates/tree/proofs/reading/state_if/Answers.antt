@@ -1,5 +1,4 @@
 -- The set of a state, by the number of its host.
-use borrow.Author.Rules.{rules}
 use borrow.Author.Tests.{lt-leb, le-leb, lt-ltb, le-ltb}
 use Rattle.base.proofs.BitSet.{one_shifted}
 use Rattle.tree.proofs.reading.state_if.Goals as goal

@@ -1,5 +1,4 @@
 -- Two bits.
-use borrow.Author.Rules.{rules}
 use borrow.Author.Tests.{eq-eqb, ne_eqb}
 use Rattle.base.specs.BitSet.{member}
 use Rattle.tree.proofs.writing.hosts_state.Goals as goal

@@ -1,11 +1,8 @@
 -- The hosts of a map's states, by the laws of WritingInTurn.
-use borrow.Author.Rules.{rules}
 use Prim.Native.Nat.{◌-◌}
-use native.Mathlib.Omega.{arith}
-use Rattle.base.proofs.Storing.{pieces_size}
 use Rattle.tree.specs.Inner.PackedNodes.{counted_nodes}
 use Rattle.tree.specs.Inner.Sides.{tree_on}
-use Rattle.tree.proofs.WritingInTurn.{HostsStored, hosts_start, hosts_skip, hosts_fits, hosts_put, hosts_done}
+use Rattle.tree.proofs.WritingInTurn.{HostsStored}
 use Rattle.tree.proofs.writing.put_hosts.Given as goal
 
 abbrev pub invariant-loop-state : goal.invariant-loop-state

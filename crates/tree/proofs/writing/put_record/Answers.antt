@@ -1,7 +1,7 @@
 -- The record of a tree in place: the map, the hosts and the tags.
 use borrow.Author.Rules.{rules}
 use mathlib.Core.List.{[]}
-use mathlib.Core.Path.{◌≡◌, ◌∙◌}
+use mathlib.Core.Path.{◌≡◌}
 use native.Mathlib.Omega.{arith}
 use lib.ListN.{get_or, length-set}
 use Rattle.tree.specs.Inner.PackedNodes.{nodes_in}
@@ -32,16 +32,12 @@ put_hosts-at-requires c =
 
 pub put_tags-requires : goal.put_tags-requires
 put_tags-requires c =
-    let then = c.put_hosts-at.new.1.1.1.1.0 in (
+    let then = c.put_hosts-at.new.out in (
       c.requires.0,
       c.requires.1,
       tags_room_left _ _ c.args.out.now c.requires.0 c.requires.2 _ (root (goal.at.put_tags-requires c).After-unpack-root) _ then c.put_hosts-at.ensures.0
-          c.out-1.given,
+          c.put_hosts-at.auto.out,
     )
-
-pub shape_of-out : goal.shape_of-out
-shape_of-out c =
-    c.out-2-1.given ∙ c.out-1.given ∙ simp length-set
 
 pub returns : goal.returns
 returns c =

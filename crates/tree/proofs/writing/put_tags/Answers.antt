@@ -1,20 +1,14 @@
 -- The tags, by the laws of WritingInTurn.
-use borrow.Author.Rules.{rules}
-use mathlib.Core.List.{List, []}
-use Prim.Native.Nat.{ℕ, ◌+◌, ◌-◌, ◌*◌, ◌<◌}
+use mathlib.Core.List.{[]}
+use Prim.Native.Nat.{◌+◌, ◌*◌, ◌<◌}
 use native.Mathlib.Omega.{arith}
 use lib.ListN.{get_or}
 use Rattle.base.proofs.Storing.{pieces_size}
-use Rattle.tree.specs.Inner.Sides.{tree_on}
 use Rattle.tree.proofs.PackedWords.{node_read}
 use Rattle.tree.proofs.TreeNodes.{side_nodes}
-use Rattle.tree.proofs.WritingInTurn.{TagsStored, tags_start, tag_small, tags_fits, tags_put, tags_done}
+use Rattle.tree.proofs.WritingInTurn.{tags_start, tag_small, tags_fits, tags_put, tags_done}
 use Rattle.tree.proofs.writing.put_tags.Goals as goal
 use Rattle.tree.proofs.writing.put_tags.Goals.{After-unpack-node}
-
--- the tree's words
-abbrev words : tie.Start invariant-loop decreases-loop → List ℕ
-words c = get_or c.args.sides.now c.args.on.side []
 
 pub loop-number-init : goal.loop-number-init
 loop-number-init c =
@@ -24,7 +18,7 @@ loop-number-init c =
 small : (c : After-unpack-node) → 16 * c.unpack-node.result.depth + c.unpack-node.result.active < 256
 small c =
     tag_small c.loop-number.invariant c.loop-number-test.true _
-    (node_read (words turn.before.before.before) c.loop-number.number c.unpack-node.ensures)
+    (node_read (get_or c.args.sides.now c.args.on.side []) c.loop-number.number c.unpack-node.ensures)
 
 pub overflow_mul-out : goal.overflow_mul-out
 overflow_mul-out c =
@@ -49,7 +43,7 @@ overflow_add-at c =
 pub loop-number-preserved : goal.loop-number-preserved
 loop-number-preserved c =
     tags_put c.loop-number.invariant c.loop-number-test.true _
-    (node_read (words c) c.loop-number.number c.unpack-node.ensures)
+    (node_read (get_or c.args.sides.now c.args.on.side []) c.loop-number.number c.unpack-node.ensures)
     (side_nodes c.requires.1)
 
 pub shape_of-out : goal.shape_of-out

@@ -1,13 +1,12 @@
 -- `find_cycle` meets its contract, by the laws of CycleSearch. The loop ends, since power + lam grows and there are few trees.
-use borrow.Author.Rules.{rules}
 use native.Mathlib.Omega.{arith}
 use mathlib.Core.Path.{refl, sym, ◌∙◌}
 use mathlib.Core.List.{List}
-use Prim.Native.Nat.{ℕ, ◌+◌, ◌-◌, ◌^◌}
+use Prim.Native.Nat.{ℕ}
 use Rattle.rule.specs.Rule.{Rule}
-use Rattle.tree.specs.Inner.Sides.{tree_on, Stands}
+use Rattle.tree.specs.Inner.Sides.{tree_on}
 use Rattle.letters.specs.Inner.Names.{Followable}
-use Rattle.treejudge.specs.Inner.Cycles.{AtRound, FirstRound, CycleFound}
+use Rattle.treejudge.specs.Inner.Cycles.{FirstRound, CycleFound}
 use Rattle.letters.proofs.LettersRead.{laid_first}
 use Rattle.treejudge.proofs.RoundsRead.{both_small}
 use Rattle.treejudge.proofs.CycleSearch.{Searching, search_start, search_follows, lam_fits, search_measure, search_small, search_next, search_found, search_more, power_fits, search_reset}
@@ -42,7 +41,7 @@ overflow_add-lam c =
 
 pub same_tree-requires : goal.same_tree-requires
 same_tree-requires c =
-    let (R, u, S) = search-known (goal.at.same_tree-requires c).After-sides-1 in
+    let (R, u, S) = search-known (goal.at.same_tree-requires c).At-loop-sides in
     let (on, to) = c.follow_round-next.ensures in
     (search_small S _ _ to, on)
 
@@ -54,13 +53,13 @@ returns-then-same_tree c R u entry period A F =
 
 pub taken-saved-requires : goal.taken-saved-requires
 taken-saved-requires c =
-    let (R, u, S) = search-known (goal.at.taken-saved-requires c).After-root_first-1 in
+    let (R, u, S) = search-known (goal.at.taken-saved-requires c).At-loop-sides in
     let (on, to) = c.follow_round-next.ensures in
     record { stands = on; rule = R; tree = _; holds = (search_next S _ _ to).tree }
 
 pub overflow_add-power : goal.overflow_add-power
 overflow_add-power c =
-    let (R, u, S) = search-known (goal.at.overflow_add-power c).After-root_first-1 in
+    let (R, u, S) = search-known (goal.at.overflow_add-power c).At-loop-sides in
     omega (
       arith,
       power_fits S _ _ c.follow_round-next.ensures.1 (sym c.same_tree.ensures ∙ c.if-same_tree.false) c.if-lam-power.true,
@@ -68,12 +67,12 @@ overflow_add-power c =
 
 pub begin-now-requires-then-lam-power : goal.begin-now-requires-then-lam-power
 begin-now-requires-then-lam-power c =
-    let (R, u, S) = search-known (goal.at.begin-now-requires-then-lam-power c).After-follow_round-next in
+    let (R, u, S) = search-known (goal.at.begin-now-requires-then-lam-power c).At-loop-sides in
     (search_small S _ _ c.follow_round-next.ensures.1).1
 
 pub loop-sides-smaller-then-lam-power : goal.loop-sides-smaller-then-lam-power
 loop-sides-smaller-then-lam-power c =
-    let (R, u, S) = search-known (goal.at.loop-sides-smaller-then-lam-power c).After-follow_round-next in
+    let (R, u, S) = search-known (goal.at.loop-sides-smaller-then-lam-power c).At-loop-sides in
     omega (arith, search_measure S)
 
 pub loop-sides-preserved-then-lam-power : goal.loop-sides-preserved-then-lam-power
@@ -87,7 +86,7 @@ loop-sides-preserved-then-lam-power c =
 
 pub loop-sides-smaller : goal.loop-sides-smaller
 loop-sides-smaller c =
-    let (R, u, S) = search-known (goal.at.loop-sides-smaller c).After-sides-1 in
+    let (R, u, S) = search-known (goal.at.loop-sides-smaller c).At-loop-sides in
     omega (arith, search_measure S)
 
 pub loop-sides-preserved : goal.loop-sides-preserved

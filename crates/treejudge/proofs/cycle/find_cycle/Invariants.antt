@@ -1,16 +1,10 @@
 -- `find_cycle` meets its contract, by the laws of CycleSearch. The loop ends, since power + lam grows and there are few trees.
-use borrow.Author.Rules.{rules}
-use native.Mathlib.Omega.{arith}
-use mathlib.Core.Path.{refl, sym, ◌∙◌}
 use mathlib.Core.List.{List}
 use Prim.Native.Nat.{ℕ, ◌+◌, ◌-◌, ◌^◌}
 use Rattle.rule.specs.Rule.{Rule}
 use Rattle.tree.specs.Inner.Sides.{tree_on, Stands}
-use Rattle.letters.specs.Inner.Names.{Followable}
-use Rattle.treejudge.specs.Inner.Cycles.{AtRound, FirstRound, CycleFound}
-use Rattle.letters.proofs.LettersRead.{laid_first}
-use Rattle.treejudge.proofs.RoundsRead.{both_small}
-use Rattle.treejudge.proofs.CycleSearch.{Searching, search_start, search_follows, lam_fits, search_measure, search_small, search_next, search_found, search_more, power_fits, search_reset}
+use Rattle.treejudge.specs.Inner.Cycles.{AtRound}
+use Rattle.treejudge.proofs.CycleSearch.{Searching}
 use Rattle.treejudge.proofs.cycle.find_cycle.Given as goal
 
 abbrev pub invariant-loop-sides : goal.invariant-loop-sides

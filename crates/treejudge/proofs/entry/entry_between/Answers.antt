@@ -1,12 +1,11 @@
 -- `entry_between` meets its contract. The entry is from `place` to `high`; where the trees at `place` and a period further are
 -- the same, it is `place`.
-use borrow.Author.Rules.{rules}
 use native.Mathlib.Omega.{arith}
 use mathlib.Core.Path.{sym, ◌∙◌}
 use mathlib.Core.List.{List}
-use Prim.Native.Nat.{ℕ, ◌-◌}
+use Prim.Native.Nat.{ℕ}
 use Rattle.rule.specs.Rule.{Rule}
-use Rattle.tree.specs.Inner.Sides.{tree_on, Stands}
+use Rattle.tree.specs.Inner.Sides.{tree_on}
 use Rattle.letters.specs.Inner.Reading.{Readable}
 use Rattle.treejudge.specs.Inner.Cycles.{Bracket, Bracketed, EntryBetween}
 use Rattle.letters.proofs.LettersRead.{laid_first}
@@ -38,14 +37,13 @@ known c =
     (R, u, entry, period, at-hand c R u entry period B)
 
 pub loop-place-init : goal.loop-place-init
-loop-place-init c =
-    (
-      (
-        (laid_first c.laid-here.ensures c.on_first_side-now.ensures).0,
-        (laid_first c.laid-there.ensures c.on_first_side-ahead.ensures).0,
-      ),
-      λ R u entry period B. B,
-    )
+loop-place-init c = (
+  (
+    (laid_first c.laid-here.ensures c.on_first_side-now.ensures).0,
+    (laid_first c.laid-there.ensures c.on_first_side-ahead.ensures).0,
+  ),
+  λ R u entry period B. B,
+)
 
 pub same_on-requires : goal.same_on-requires
 same_on-requires c =

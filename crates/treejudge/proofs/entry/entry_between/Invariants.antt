@@ -1,17 +1,10 @@
 -- `entry_between` meets its contract. The entry is from `place` to `high`; where the trees at `place` and a period further are
 -- the same, it is `place`.
-use borrow.Author.Rules.{rules}
-use native.Mathlib.Omega.{arith}
-use mathlib.Core.Path.{sym, ◌∙◌}
 use mathlib.Core.List.{List}
 use Prim.Native.Nat.{ℕ, ◌-◌}
 use Rattle.rule.specs.Rule.{Rule}
 use Rattle.tree.specs.Inner.Sides.{tree_on, Stands}
-use Rattle.letters.specs.Inner.Reading.{Readable}
-use Rattle.treejudge.specs.Inner.Cycles.{Bracket, Bracketed, EntryBetween}
-use Rattle.letters.proofs.LettersRead.{laid_first}
-use Rattle.treejudge.proofs.RoundsRead.{round_reads, both_small}
-use Rattle.treejudge.proofs.EntrySearch.{entry_here, entry_later, bracket_more}
+use Rattle.treejudge.specs.Inner.Cycles.{Bracket}
 use Rattle.treejudge.proofs.entry.entry_between.Given as goal
 
 abbrev pub invariant-loop-place : goal.invariant-loop-place

@@ -1,11 +1,10 @@
 -- `read_rounds` meets its contract. From t(r) on, the tree at hand is t(r + round).
-use borrow.Author.Rules.{rules}
 use native.Mathlib.Omega.{arith}
 use mathlib.Core.Path.{◌≡◌}
 use mathlib.Core.List.{List}
-use Prim.Native.Nat.{ℕ, ◌+◌, ◌-◌, ◌≤◌}
+use Prim.Native.Nat.{ℕ, ◌+◌}
 use Rattle.rule.specs.Rule.{Rule}
-use Rattle.tree.specs.Inner.Sides.{tree_on, Stands}
+use Rattle.tree.specs.Inner.Sides.{tree_on}
 use Rattle.letters.specs.Inner.Reading.{Readable}
 use Rattle.treejudge.specs.Inner.Cycles.{AtRound, SomeRound, Ahead}
 use Rattle.letters.proofs.LettersRead.{laid_first}
@@ -21,8 +20,7 @@ at-hand c R u r A =
     c.loop-round.invariant.1 R u r (rw (laid_first c.laid-sides.ensures c.on_first_side-now.ensures).1 A)
 
 pub loop-round-init : goal.loop-round-init
-loop-round-init c =
-    (
+loop-round-init c = (
   (omega arith, (laid_first c.laid-sides.ensures c.on_first_side-now.ensures).0),
   λ R u r A. let e : r + 0 ≡ r = omega arith in rw e A,
 )
@@ -39,7 +37,7 @@ loop-round-preserved c =
       (omega arith, on),
       λ R u r A.
           let e : r + c.loop-round.round + 1 ≡ r + (c.loop-round.round + 1) = omega arith in
-          rw e (goal.at.loop-round-preserved c).At-loop-round (round_read (c.loop-round.invariant.1 R u r A) to),
+          rw (← e) (round_read (c.loop-round.invariant.1 R u r A) to),
     )
 
 pub taken-requires : goal.taken-requires

@@ -1,15 +1,9 @@
 -- `read_rounds` meets its contract. From t(r) on, the tree at hand is t(r + round).
-use borrow.Author.Rules.{rules}
-use native.Mathlib.Omega.{arith}
-use mathlib.Core.Path.{◌≡◌}
 use mathlib.Core.List.{List}
 use Prim.Native.Nat.{ℕ, ◌+◌, ◌-◌, ◌≤◌}
 use Rattle.rule.specs.Rule.{Rule}
 use Rattle.tree.specs.Inner.Sides.{tree_on, Stands}
-use Rattle.letters.specs.Inner.Reading.{Readable}
-use Rattle.treejudge.specs.Inner.Cycles.{AtRound, SomeRound, Ahead}
-use Rattle.letters.proofs.LettersRead.{laid_first}
-use Rattle.treejudge.proofs.RoundsRead.{round_reads, round_read}
+use Rattle.treejudge.specs.Inner.Cycles.{AtRound}
 use Rattle.treejudge.proofs.entry.read_rounds.Given as goal
 
 abbrev pub invariant-loop-round : goal.invariant-loop-round

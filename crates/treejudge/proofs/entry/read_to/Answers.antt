@@ -1,5 +1,4 @@
 -- `read_to` meets its contract: the place is as many rounds further as are read.
-use borrow.Author.Rules.{rules}
 use native.Mathlib.Omega.{arith}
 use Rattle.treejudge.specs.Inner.Cycles.{SomeRound, TwoRounds, ReadTo}
 use Rattle.treejudge.proofs.RoundsRead.{rounds_read}

@@ -1,5 +1,4 @@
 -- Question 10, then the answer to the walk.
-use borrow.Author.Rules.{rules}
 use borrow.Author.Tests.{le-leb, lt-leb}
 use mathlib.Core.Path.{refl}
 use Rattle.treejudge.proofs.judge.judge_prepared.Goals as goal

@@ -1,5 +1,4 @@
 -- `judge_walk` meets its contract, by the laws of Judging.
-use borrow.Author.Rules.{rules}
 use native.Mathlib.Omega.{arith}
 use mathlib.Core.List.{[]}
 use Rattle.rule.specs.Rule.{Rule}
@@ -14,17 +13,9 @@ use Rattle.treejudge.proofs.Judging.{sets_small, lead_reads, first_round, says_n
 use Rattle.treejudge.proofs.judge.judge_walk.Goals as goal
 use Rattle.treejudge.proofs.judge.judge_walk.Goals.{After-on_first_side, After-taken-first}
 
--- the beginning
-abbrev begun : tie.After-on-first-side → tie.Start
-begun c = c.before.before.before.before.before.before.before.before.before
-
--- and from where t(0) is taken up
-abbrev begun_first : tie.After-taken → tie.Start
-begun_first c = begun c.before.before.before
-
 -- u is read from the starting tree, over a rule that the look-ups are of
 lead-read : (c : After-on_first_side) →
-    let args = (begun c).args in
+    let args = c.args in
     (R : Rule) → Prepared R args.header args.lookups.now args.u.now args.v.now
     → Reads R (start_tree R) args.lookups.now args.header.sets c.letters_left.result.now
     (tree_on c.laid-sides.result c.on_first_side.result)
@@ -33,7 +24,7 @@ lead-read c R p =
 
 -- t(0) of the walk
 first_place : (c : After-taken-first) →
-    let args = (begun_first c).args in
+    let args = c.args in
     (R : Rule) → Prepared R args.header args.lookups.now args.u.now args.v.now
     → AtRound R args.u.now args.v.now args.lookups.now args.header.sets 0 c.taken-first.result
 first_place c R p =
@@ -47,20 +38,20 @@ overflow_cast-k c =
 pub read_letters-led-requires : goal.read_letters-led-requires
 unfolding Readable
 read_letters-led-requires c =
-    let (R, p) = (begun (goal.at.read_letters-led-requires c).After-on_first_side).requires.0 in
+    let (R, p) = c.requires.0 in
     ((laid_first c.laid-sides.ensures c.on_first_side.ensures).0, (R, start_tree R, lead-read (goal.at.read_letters-led-requires c).After-on_first_side R p))
 
 pub taken-first-requires : goal.taken-first-requires
 unfolding ReadsTo
 taken-first-requires c =
-    let (R, p) = (begun (goal.at.taken-first-requires c).After-on_first_side).requires.0 in
+    let (R, p) = c.requires.0 in
     let (on, to) = c.read_letters-led.ensures in
     record { stands = on; rule = R; tree = _; holds = to R (start_tree R) (lead-read (goal.at.taken-first-requires c).After-on_first_side R p) }
 
 pub find_repeat-found-requires : goal.find_repeat-found-requires
 unfolding FirstRound
 find_repeat-found-requires c =
-    let (R, p) = (begun_first (goal.at.find_repeat-found-requires c).After-taken-first).requires.0 in (R, _, first_place (goal.at.find_repeat-found-requires c).After-taken-first R p)
+    let (R, p) = c.requires.0 in (R, _, first_place (goal.at.find_repeat-found-requires c).After-taken-first R p)
 
 pub returns-then-found-eq0 : goal.returns-then-found-eq0
 unfolding RepeatFound
@@ -70,21 +61,16 @@ returns-then-found-eq0 c R p =
 pub node_name-name-requires : goal.node_name-name-requires
 unfolding RepeatFound
 node_name-name-requires c =
-    let (R, p) = (begun_first (goal.at.node_name-name-requires c).After-find_repeat-found).requires.0 in
-    some_node R _ _ _ (c.find_repeat-found.ensures R _ (first_place (goal.at.node_name-name-requires c).After-find_repeat-found R p)) [] p.limits.states
+    let (R, p) = c.requires.0 in
+    some_node R _ _ _ (c.find_repeat-found.ensures R _ (first_place (goal.at.node_name-name-requires c).After-taken-first R p)) [] p.limits.states
     c.if-found-eq0.false _ c.first_node.ensures
 
 pub store_name-requires : goal.store_name-requires
 store_name-requires c =
-    (c.node_name-name.ensures.short, (begun_first (goal.at.store_name-requires c).After-find_repeat-found).requires.1)
-
-{- LEFT
-cast-t23 : tie.Need-overflow-cast-t23
-cast-t23 c = search rules
--}
+    (c.node_name-name.ensures.short, c.requires.1)
 
 pub returns : goal.returns
 unfolding RepeatFound
 returns c R p =
-    says_yes R _ _ _ (c.find_repeat-found.ensures R _ (first_place (goal.at.returns c).After-find_repeat-found R p)) _ p.limits.states
+    says_yes R _ _ _ (c.find_repeat-found.ensures R _ (first_place (goal.at.returns c).After-taken-first R p)) _ p.limits.states
     c.if-found-eq0.false _ c.first_node.ensures _ c.node_name-name.ensures _ c.store_name.ensures

@@ -1,9 +1,5 @@
 -- The lowest node of a map, by the laws of NodeNames.
-use borrow.Author.Rules.{rules}
-use borrow.Author.Tests.{eqb-true, eqb-false}
-use Prim.Native.Nat.{◌-◌}
-use Rattle.rule.specs.Limits.{max_states}
-use Rattle.treejudge.proofs.NodeNames.{NoneBefore, none_start, none_next, lowest_here, lowest_none}
+use Rattle.treejudge.proofs.NodeNames.{none_start, none_next, lowest_here, lowest_none}
 use Rattle.treejudge.proofs.name.first_node.Goals as goal
 
 pub loop-j-init : goal.loop-j-init
@@ -12,11 +8,11 @@ loop-j-init c =
 
 pub loop-j-preserved : goal.loop-j-preserved
 loop-j-preserved c =
-    none_next c.loop-j.invariant c.loop-j-test.true (eqb-true _ _ c.if-map-j-eq0.true)
+    none_next c.loop-j.invariant c.loop-j-test.true c.if-map-j-eq0.true
 
 pub returns-else-map-j-eq0 : goal.returns-else-map-j-eq0
 returns-else-map-j-eq0 c =
-    lowest_here c.loop-j.invariant (eqb-false _ _ c.if-map-j-eq0.false)
+    lowest_here c.loop-j.invariant c.if-map-j-eq0.false
 
 pub returns-after-loop-j : goal.returns-after-loop-j
 returns-after-loop-j c =

@@ -1,9 +1,7 @@
 -- The lowest node of a map, by the laws of NodeNames.
-use borrow.Author.Rules.{rules}
-use borrow.Author.Tests.{eqb-true, eqb-false}
 use Prim.Native.Nat.{◌-◌}
 use Rattle.rule.specs.Limits.{max_states}
-use Rattle.treejudge.proofs.NodeNames.{NoneBefore, none_start, none_next, lowest_here, lowest_none}
+use Rattle.treejudge.proofs.NodeNames.{NoneBefore}
 use Rattle.treejudge.proofs.name.first_node.Given as goal
 
 abbrev pub invariant-loop-j : goal.invariant-loop-j

@@ -1,7 +1,6 @@
 -- The name of a node, by the laws of NodeNames.
-use borrow.Author.Rules.{rules}
 use mathlib.Core.Path.{◌≡◌, refl, ap}
-use Prim.Native.Nat.{◌+◌, ◌-◌}
+use Prim.Native.Nat.{◌+◌}
 use lib.ListN.{get_or}
 use Rattle.tree.specs.Inner.PackedNodes.{nodes_in}
 use Rattle.tree.specs.Inner.Nodes.{blank_node}

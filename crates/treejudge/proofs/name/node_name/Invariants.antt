@@ -1,14 +1,6 @@
 -- The name of a node, by the laws of NodeNames.
-use borrow.Author.Rules.{rules}
-use mathlib.Core.Path.{◌≡◌, refl, ap}
-use Prim.Native.Nat.{◌+◌, ◌-◌}
-use lib.ListN.{get_or}
-use Rattle.tree.specs.Inner.PackedNodes.{nodes_in}
-use Rattle.tree.specs.Inner.Nodes.{blank_node}
-use Rattle.tree.specs.declared.nodes.Node.{Node as CodeNode}
-use Rattle.tree.proofs.PackedWords.{node_read}
-use native.Mathlib.Omega.{arith}
-use Rattle.treejudge.proofs.NodeNames.{NamedSoFar, name_start, node_few, depth_low, depth_short, number_small, name_beside, name_deeper, name_done}
+use Prim.Native.Nat.{◌-◌}
+use Rattle.treejudge.proofs.NodeNames.{NamedSoFar}
 use Rattle.treejudge.proofs.name.node_name.Given as goal
 
 abbrev pub invariant-loop-i : goal.invariant-loop-i

@@ -1,11 +1,10 @@
 -- The numbers of a name, one behind the other.
 use borrow.Author.Rules.{rules}
 use mathlib.Core.Path.{◌≡◌, refl}
-use Prim.Native.Nat.{◌-◌}
 use native.Mathlib.Omega.{arith}
-use lib.ListN.{length, take}
+use lib.ListN.{length}
 use lib.Seq.{take-suc}
-use Rattle.base.proofs.Storing.{PiecesStored, pieces_start, pieces_byte, pieces_size, pieces_done}
+use Rattle.base.proofs.Storing.{pieces_start, pieces_byte, pieces_size, pieces_done}
 use Rattle.rule.specs.Limits.{max_states}
 use Rattle.treejudge.proofs.name.store_name.Goals as goal
 

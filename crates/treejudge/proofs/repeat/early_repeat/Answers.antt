@@ -1,9 +1,6 @@
 -- `early_repeat` meets its contract, by the laws of RepeatSearch.
-use borrow.Author.Rules.{rules}
-use mathlib.Core.Logic.{⊎_elim}
 use mathlib.Core.Path.{sym, ◌∙◌}
 use mathlib.Core.List.{[]}
-use Rattle.base.proofs.Tests.{told_yes}
 use Rattle.tree.specs.Inner.Sides.{tree_on}
 use Rattle.tree.proofs.TreeNodes.{tree_small}
 use Rattle.letters.specs.Inner.Reading.{Readable, ReadsTo}
@@ -13,7 +10,7 @@ use Rattle.treejudge.specs.Inner.Repeats.{RepeatFound}
 use Rattle.letters.proofs.LettersRead.{laid_first, reads_taken}
 use Rattle.treejudge.proofs.RepeatSearch.{head_reads, cut_holds, rest_follows, head_follows, second_holds, again_holds, repeat_still, repeat_moved}
 use Rattle.treejudge.proofs.repeat.early_repeat.Goals as goal
-use Rattle.treejudge.proofs.repeat.early_repeat.Goals.{After-follow_letters-second, After-taken-cut}
+use Rattle.treejudge.proofs.repeat.early_repeat.Goals.{After-follow_letters-second, After-taken-cut, then-same_tree, else-same_tree}
 
 -- the letters up to the cut lead from t(0) to the tree at the cut
 to-cut : (c : After-taken-cut) → let args = c.args in
@@ -25,7 +22,7 @@ to-cut c =
 -- the others lead from there to t(1), and its nodes are followed
 to-second : (c : After-follow_letters-second) → let args = c.args in
     FollowsTo args.lookups.now args.k args.rest.now c.taken-cut.result (all_kept c.taken-cut.result.count)
-    (tree_on c.follow_letters-second.new.1.1.1.0 c.follow_letters-second.result.tree) c.follow_letters-second.result.maps
+    (tree_on c.follow_letters-second.new.sides c.follow_letters-second.result.tree) c.follow_letters-second.result.maps
 to-second c = rw c.taken-cut.ensures (rw c.begin.ensures at c.follow_letters-second.ensures.1)
 
 pub read_letters-begun-requires : goal.read_letters-begun-requires
@@ -68,7 +65,7 @@ same_tree-requires c =
     let (R, u, A) = c.requires in (
       (
         tree_small A.holds.limits.states A.tree,
-        tree_small A.holds.limits.states (second_holds R u _ _ _ _ _ A _ (to-cut (goal.at.same_tree-requires c).After-sides-3-1) _ _ (to-second (goal.at.same_tree-requires c).After-sides-4-1)),
+        tree_small A.holds.limits.states (second_holds R u _ _ _ _ _ A _ (to-cut (goal.at.same_tree-requires c).After-taken-cut) _ _ (to-second (goal.at.same_tree-requires c).After-follow_letters-second)),
       ),
       c.follow_letters-second.ensures.0,
     )
@@ -77,7 +74,7 @@ pub follow_letters-again-requires : goal.follow_letters-again-requires
 unfolding FirstRound Followable
 follow_letters-again-requires c =
     let (R, u, A) = c.requires in
-    (c.follow_letters-second.ensures.0, (R, _, _, head_follows R u _ _ _ _ _ A _ (to-cut (goal.at.follow_letters-again-requires c).After-sides-3-1) _ _ (to-second (goal.at.follow_letters-again-requires c).After-sides-4-1)))
+    (c.follow_letters-second.ensures.0, (R, _, _, head_follows R u _ _ _ _ _ A _ (to-cut (goal.at.follow_letters-again-requires c).After-taken-cut) _ _ (to-second (goal.at.follow_letters-again-requires c).After-follow_letters-second)))
 
 pub same_tree-requires-2 : goal.same_tree-requires-2
 unfolding FirstRound
@@ -85,8 +82,8 @@ same_tree-requires-2 c =
     let (R, u, A) = c.requires in
     let (on, back) = c.follow_letters-again.ensures in (
       (
-        tree_small A.holds.limits.states (cut_holds R u _ _ _ _ _ A _ (to-cut (goal.at.same_tree-requires-2 c).After-begin)),
-        tree_small A.holds.limits.states (again_holds R u _ _ _ _ _ A _ (to-cut (goal.at.same_tree-requires-2 c).After-begin) _ _ (to-second (goal.at.same_tree-requires-2 c).After-same_tree-arg-1) _ _ back),
+        tree_small A.holds.limits.states (cut_holds R u _ _ _ _ _ A _ (to-cut (goal.at.same_tree-requires-2 c).After-taken-cut)),
+        tree_small A.holds.limits.states (again_holds R u _ _ _ _ _ A _ (to-cut (goal.at.same_tree-requires-2 c).After-taken-cut) _ _ (to-second (goal.at.same_tree-requires-2 c).After-follow_letters-second) _ _ back),
       ),
       on,
     )
@@ -95,11 +92,14 @@ pub returns : goal.returns
 unfolding RepeatFound
 returns c R u A =
     let still = sym c.same_tree.ensures in
-    let cut = to-cut (goal.at.returns c).After-begin in
+    let cut = to-cut (goal.at.returns c).After-taken-cut in
     let back = c.follow_letters-again.ensures.1 in
-    let same = told_yes c.same_tree-2.ensures c.if-not-same_tree.false in
-    ⊎_elim (λ w. rw w.1 (repeat_still R u _ _ _ _ _ A _ cut _ _ (to-second (goal.at.returns c).After-same_tree-arg-1) _ _ back same (still ∙ w.0.taken)))
-    (λ w. rw w.1 (repeat_moved R u _ _ _ _ _ A _ cut _ _ (to-second (goal.at.returns c).After-same_tree-arg-1) _ _ back same (still ∙ w.0.left))) c.if-same_tree.branch
+    let same = sym c.same_tree-2.ensures ∙ c.if-not-same_tree.false in
+    let second = to-second (goal.at.returns c).After-follow_letters-second in
+    elim c.if-same_tree.branch [
+      | then-same_tree w ↦ rw w.entry-is (repeat_still R u _ _ _ _ _ A _ cut _ _ second _ _ back same (still ∙ w.if-same_tree.true))
+      | else-same_tree w ↦ rw w.entry-is (repeat_moved R u _ _ _ _ _ A _ cut _ _ second _ _ back same (still ∙ w.if-same_tree.false))
+    ]
 
 pub returns-then-not-same_tree : goal.returns-then-not-same_tree
 returns-then-not-same_tree c =

@@ -1,21 +1,9 @@
 -- `find_repeat` meets its contract: the two parts of a cut tail are the tail.
-use borrow.Author.Rules.{rules}
-use native.Mathlib.Omega.{arith}
 use Rattle.word.specs.Walk.{letters_left}
 use Rattle.treejudge.specs.Inner.Cycles.{FirstRound, SearchDone}
 use Rattle.treejudge.specs.Inner.Repeats.{RepeatFound}
 use Rattle.treejudge.proofs.RepeatSearch.{two_parts, searched, repeat_searched}
 use Rattle.treejudge.proofs.repeat.find_repeat.Goals as goal
-
-{- LEFT
-part-early-repeat-start : tie.Need-slice-bounds-early-repeat-start
-part-early-repeat-start c = search rules
--}
-
-{- LEFT
-part-early-repeat-end : tie.Need-slice-bounds-early-repeat-end
-part-early-repeat-end c = omega (arith, c.before.before.cut_of.ensures)
--}
 
 pub early_repeat-at_cut-requires : goal.early_repeat-at_cut-requires
 early_repeat-at_cut-requires c =
@@ -25,7 +13,7 @@ early_repeat-at_cut-requires c =
 pub returns-in-Repeat : goal.returns-in-Repeat
 returns-in-Repeat c =
     rw (
-      c.early-1.given.1,
+      c.in-Repeat.is,
       two_parts c.cut_of-cut.result c.args.u.now c.args.v.now c.letters_left-rest.result.now c.letters_left-rest.ensures,
     )
     at c.early_repeat-at_cut.ensures

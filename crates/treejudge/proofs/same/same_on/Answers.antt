@@ -1,5 +1,4 @@
 -- Two counts that differ, or the nodes, by the laws of SameTrees.
-use borrow.Author.Rules.{rules}
 use Rattle.tree.proofs.TreeNodes.{side_nodes}
 use Rattle.treejudge.proofs.SameTrees.{counts_differ}
 use Rattle.treejudge.proofs.same.same_on.Goals as goal

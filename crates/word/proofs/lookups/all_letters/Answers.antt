@@ -1,5 +1,4 @@
 -- `all_letters` meets its contract: 2^m fits the word that it is made in.
-use borrow.Author.Rules.{rules}
 use mathlib.Core.Path.{◌≡◌}
 use Prim.Native.Nat.{◌*◌, ◌%◌, ◌^◌}
 use native.Mathlib.Omega.{arith}

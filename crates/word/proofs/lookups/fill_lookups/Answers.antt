@@ -1,41 +1,34 @@
 -- `fill_lookups` meets its contract. The loop fills the look-up of each letter of the map, the lowest first.
 use borrow.Author.Rules.{rules}
-use Prim.Native.Nat.{◌-◌, ◌<◌}
+use Prim.Native.Nat.{◌-◌}
 use native.Mathlib.Omega.{arith}
 use lib.Bits.{and_le_r}
-use lib.Count.{count_trailing_zeros}
-use Rattle.rule.specs.Limits.{max_letters}
-use Rattle.word.proofs.WalkLookups.{LookupsBut, lookups_none, letter_inside, lookups_more, lookups_end}
+use Rattle.word.proofs.WalkLookups.{lookups_none, letter_inside, lookups_more, lookups_end}
 use Rattle.word.proofs.lookups.fill_lookups.Goals as goal
-use Rattle.word.proofs.lookups.fill_lookups.Goals.{In-loop-rest}
 
 pub loop-rest-init : goal.loop-rest-init
 loop-rest-init c =
     lookups_none _ _ _ (search rules) c.requires
 
--- the letter is below the limit
-inside : (c : In-loop-rest) → count_trailing_zeros max_letters c.loop-rest.rest < max_letters
-inside c = letter_inside _ _ _ _ _ c.loop-rest.invariant c.loop-rest-test.true
-
 pub overflow_cast-letter : goal.overflow_cast-letter
 overflow_cast-letter c =
-    omega (arith, inside (goal.at.overflow_cast-letter c).In-loop-rest)
+    omega (arith, letter_inside _ _ _ _ _ c.loop-rest.invariant c.loop-rest-test.true)
 
 pub offset_bounds-words-letter : goal.offset_bounds-words-letter
 offset_bounds-words-letter c =
-    omega (arith, inside (goal.at.offset_bounds-words-letter c).In-loop-rest)
+    omega (arith, letter_inside _ _ _ _ _ c.loop-rest.invariant c.loop-rest-test.true)
 
 pub bounds-words-letter : goal.bounds-words-letter
 bounds-words-letter c =
-    inside (goal.at.bounds-words-letter c).In-loop-rest
+    letter_inside _ _ _ _ _ c.loop-rest.invariant c.loop-rest-test.true
 
 pub offset_bounds-lookups-letter : goal.offset_bounds-lookups-letter
 offset_bounds-lookups-letter c =
-    omega (arith, inside (goal.at.offset_bounds-lookups-letter c).At-loop-rest)
+    omega (arith, letter_inside _ _ _ _ _ c.loop-rest.invariant c.loop-rest-test.true)
 
 pub bounds-lookups-letter : goal.bounds-lookups-letter
 bounds-lookups-letter c =
-    inside (goal.at.bounds-lookups-letter c).At-loop-rest
+    letter_inside _ _ _ _ _ c.loop-rest.invariant c.loop-rest-test.true
 
 pub overflow_sub-rest : goal.overflow_sub-rest
 overflow_sub-rest c =

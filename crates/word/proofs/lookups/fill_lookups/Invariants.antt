@@ -1,11 +1,5 @@
 -- `fill_lookups` meets its contract. The loop fills the look-up of each letter of the map, the lowest first.
-use borrow.Author.Rules.{rules}
-use Prim.Native.Nat.{◌-◌, ◌<◌}
-use native.Mathlib.Omega.{arith}
-use lib.Bits.{and_le_r}
-use lib.Count.{count_trailing_zeros}
-use Rattle.rule.specs.Limits.{max_letters}
-use Rattle.word.proofs.WalkLookups.{LookupsBut, lookups_none, letter_inside, lookups_more, lookups_end}
+use Rattle.word.proofs.WalkLookups.{LookupsBut}
 use Rattle.word.proofs.lookups.fill_lookups.Given as goal
 
 abbrev pub invariant-loop-rest : goal.invariant-loop-rest

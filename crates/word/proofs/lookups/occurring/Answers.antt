@@ -1,12 +1,10 @@
 -- `occurring` meets its contract. The loop has the map of the letters that it has passed.
-use borrow.Author.Rules.{rules}
-use Prim.Native.Nat.{◌-◌, ◌%◌}
+use Prim.Native.Nat.{◌%◌}
 use native.Mathlib.Omega.{arith}
-use borrow.Author.Tests.{eqb-true, not-false}
-use lib.ListN.{length, get_or}
+use lib.ListN.{get_or}
 use Rattle.base.proofs.BitSet.{one_shifted}
 use Rattle.rule.specs.Limits.{max_letters}
-use Rattle.word.proofs.WalkLookups.{LettersUpTo, letters_none, letters_next, letters_end, letters_all}
+use Rattle.word.proofs.WalkLookups.{letters_none, letters_next, letters_end, letters_all}
 use Rattle.word.proofs.lookups.occurring.Goals as goal
 
 pub loop-at-init : goal.loop-at-init
@@ -20,7 +18,7 @@ loop-at-preserved c =
 
 pub returns-else-letters-all : goal.returns-else-letters-all
 returns-else-letters-all c =
-    letters_all _ _ _ _ c.loop-at.invariant _ c.requires (eqb-true _ _ (not-false _ c.if-letters-all.false))
+    letters_all _ _ _ _ c.loop-at.invariant _ c.requires c.if-letters-all.false
 
 pub returns-after-loop-at : goal.returns-after-loop-at
 returns-after-loop-at c =

@@ -1,5 +1,4 @@
 -- `walk_lookups` meets its contract, by the laws of WalkLookups.
-use borrow.Author.Rules.{rules}
 use mathlib.Core.Path.{◌∙◌}
 use Rattle.word.proofs.WalkLookups.{lead_among, walk_among, lookups_walk}
 use Rattle.word.proofs.lookups.walk_lookups.Goals as goal

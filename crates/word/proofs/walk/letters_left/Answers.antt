@@ -1,5 +1,4 @@
 -- The letters left: by the list that is being read.
-use borrow.Author.Rules.{rules}
 use Rattle.word.specs.Walk.{letters_left}
 use Rattle.word.proofs.walk.letters_left.Goals as goal
 

@@ -1,29 +1,27 @@
 -- Questions 7 and 8 in order: u before v.
-use borrow.Author.Rules.{rules}
 use mathlib.Core.Path.{sym, ◌∙◌}
-use Rattle.base.proofs.Tests.{told_no, told_yes}
 use Rattle.word.specs.Walk.{walk_outcome, ask_walk}
 use Rattle.word.proofs.walk.walk_number.Goals as goal
 
 pub returns-then-not-lengths_fit : goal.returns-then-not-lengths_fit
 unfolding walk_outcome ask_walk
 returns-then-not-lengths_fit c =
-    rw (told_no c.lengths_fit.ensures c.if-not-lengths_fit.true)
+    rw (sym c.lengths_fit.ensures ∙ c.if-not-lengths_fit.true)
 
 pub returns-then-not-all_below : goal.returns-then-not-all_below
 unfolding walk_outcome ask_walk
 returns-then-not-all_below c =
     rw (
-      told_yes c.lengths_fit.ensures c.if-not-lengths_fit.false,
-      told_no c.all_below.ensures c.if-not-all_below.true,
+      sym c.lengths_fit.ensures ∙ c.if-not-lengths_fit.false,
+      sym c.all_below.ensures ∙ c.if-not-all_below.true,
     )
 
 pub returns-then-all_below : goal.returns-then-all_below
 unfolding walk_outcome ask_walk
 returns-then-all_below c =
     rw (
-      told_yes c.lengths_fit.ensures c.if-not-lengths_fit.false,
-      told_yes c.all_below.ensures c.if-not-all_below.false,
+      sym c.lengths_fit.ensures ∙ c.if-not-lengths_fit.false,
+      sym c.all_below.ensures ∙ c.if-not-all_below.false,
       sym c.all_below-2.ensures ∙ c.if-all_below.true,
     )
 
@@ -31,7 +29,7 @@ pub returns-else-all_below : goal.returns-else-all_below
 unfolding walk_outcome ask_walk
 returns-else-all_below c =
     rw (
-      told_yes c.lengths_fit.ensures c.if-not-lengths_fit.false,
-      told_yes c.all_below.ensures c.if-not-all_below.false,
+      sym c.lengths_fit.ensures ∙ c.if-not-lengths_fit.false,
+      sym c.all_below.ensures ∙ c.if-not-all_below.false,
       sym c.all_below-2.ensures ∙ c.if-all_below.false,
     )

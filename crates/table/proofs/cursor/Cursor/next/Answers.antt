@@ -1,5 +1,4 @@
 -- The cursor tells the byte at its place, or the end.
-use borrow.Author.Rules.{rules}
 use borrow.Author.Tests.{lt-ltb, le-ltb}
 use Rattle.table.specs.Inner.Cursor.{byte_at}
 use Rattle.table.proofs.cursor.Cursor.next.Goals as goal

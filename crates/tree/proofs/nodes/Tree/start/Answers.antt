@@ -1,5 +1,4 @@
 -- The starting tree: one node in front of blank ones.
-use borrow.Author.Rules.{rules}
 use mathlib.Core.Path.{refl}
 use Rattle.base.specs.Lists.{pad}
 use Rattle.tree.specs.Inner.PackedNodes.{unpacked}

@@ -1,0 +1,9 @@
+-- A call on a lent buffer: its numbers and its bytes.
+use borrow.Author.Rules.{rules}
+use Rattle.stored.proofs.RightLines.{answered}
+use Rattle.stored.proofs.calls.lent_right.Goals as goal
+
+pub returns : goal.returns
+returns c =
+    answered _ _ _ _ _ _ _ _ _ c.arguments_of-arguments.ensures.0 c.field.ensures c.field-2.ensures
+    c.numbers_right-right.ensures c.bytes_are.ensures
