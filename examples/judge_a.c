@@ -1,6 +1,6 @@
 /* Judges table A of the specification, lead-in empty, tail 1, with both judges.
  *
- *     rt staticlib suthreldo
+ *     tools/staticlib.sh
  *     cc -Iinclude examples/judge_a.c target/staticlib/libsuthreldo.a -o target/judge_a && target/judge_a
  */
 #include <stdio.h>

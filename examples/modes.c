@@ -1,6 +1,6 @@
 /* Which accepting sets can each mode of a rule serve? The rule's table in hexadecimal digits.
  *
- *     rt staticlib suthreldo
+ *     tools/staticlib.sh
  *     cc -Iinclude examples/modes.c target/staticlib/libsuthreldo.a -o target/modes && target/modes 0102020101010102
  *
  * That is the specification's table B. It prints:

@@ -1,6 +1,6 @@
 /* Are two stored walks one? Lead-in and tail of each, a hexadecimal digit for a letter, - for no letters.
  *
- *     rt staticlib suthreldo
+ *     tools/staticlib.sh
  *     cc -Iinclude examples/same_walk.c target/staticlib/libsuthreldo.a -o target/same_walk && target/same_walk - 01 0 10
  *
  * The lead-in 0 and the tail 1 0 is the tail 0 1 with a letter moved: it prints "one walk". */

@@ -1,6 +1,6 @@
 /* How many bytes of stack each call takes on a job: table, lead-in and tail of a file as docs/JOBS.md describes it.
  *
- *     rt staticlib suthreldo
+ *     tools/staticlib.sh
  *     cc -O2 -Iinclude examples/stack.c target/staticlib/libsuthreldo.a -o target/stack && target/stack crates/judge_longest/stdin
  *
  * Each call runs on a stack of its own that was filled with one byte; what is no longer that byte was used. A call that does nothing

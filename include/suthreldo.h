@@ -1,4 +1,4 @@
-/* Suthreldo for C: the public calls of the rule judge (libsuthreldo.a, made by `rt staticlib suthreldo`).
+/* Suthreldo for C: the public calls of the rule judge (libsuthreldo.a, made by `tools/staticlib.sh`).
  *
  * What a call promises. It ends, reads and writes nothing but what it is lent, and answers for all inputs as its comment says.
  * `number` is 0 (SUTHRELDO_ACCEPTED) where the call is accepted. Else it is the number of the first question of the specification that
@@ -9,8 +9,8 @@
  * may be read there, and written where the parameter is not const; a buffer that is written overlaps no other argument.
  *
  * What memory a call needs: what it is lent, and the stack. A call works on the stack, and on nothing of its own besides. Each comment
- * says how many bytes of stack the call was seen to take at most (measured on x86-64 with the largest tables and the longest walks, as
- * docs/PERFORMANCE.md says; nothing is proved of it). A board that lends 256 scratch bytes must have the stack of the plain judge, too.
+ * says how many bytes of stack the call was seen to take at most (measured on x86-64 with the largest tables and the longest walks, with an
+ * older kit and not again since, as docs/PERFORMANCE.md says; nothing is proved of it). A board that lends 256 scratch bytes must have the stack of the plain judge, too.
  * Two calls of the library are there from Rattle only: `judge_both` takes 7,152 bytes of stack, `judge_job` 7,632. */
 #ifndef SUTHRELDO_H
 #define SUTHRELDO_H

@@ -1,4 +1,4 @@
--- The largest of some numbers (specs/inner/Largest.antt): of those from a place on, and against a limit.
+-- The largest of some numbers (specs/Inner/Largest.antt): of those from a place on, and against a limit.
 use mathlib.Core.Path.{◌≡◌, refl, ◌∙◌, ap}
 use mathlib.Core.Bool.{Bool, ◌&&◌, ◌||◌, and-true}
 use mathlib.Core.List.{List, [], ◌∷◌}

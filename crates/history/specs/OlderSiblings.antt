@@ -19,7 +19,7 @@ apart_above above older (node x below younger) =
     (apart_above above (bit_or older x.label) younger)
 
 -- siblings that lose states to one another, with the union of the older ones' labels kept as "a running set while passing from the oldest
--- to the youngest": from `apart_above` on this is step 3 (`step_three_by_sets` in proofs/step/OlderSiblingLaws.antt)
+-- to the youngest": from `apart_above` on this is step 3 (`step_three_by_sets` in proofs/Step/OlderSiblingLaws.antt)
 unfoldable pub without_older : ℕ → Forest Grown → Forest Grown
 without_older set nil = nil
 without_older set (node x below younger) =

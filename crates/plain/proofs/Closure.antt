@@ -1,4 +1,4 @@
--- The ways that may pass states between two of the ways W (specs/inner/Rounds.antt): they are ways of W one behind the other, and
+-- The ways that may pass states between two of the ways W (specs/Inner/Rounds.antt): they are ways of W one behind the other, and
 -- two of them one behind the other are among them, if the state between them may be passed.
 use mathlib.Core.Path.{◌≡◌}
 use mathlib.Core.Logic.{◌⊎◌, inl, inr, ⊎_elim}

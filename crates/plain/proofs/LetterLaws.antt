@@ -1,4 +1,4 @@
--- Letters read by their look-ups (specs/inner/Letters.antt), as the code's loops read them.
+-- Letters read by their look-ups (specs/Inner/Letters.antt), as the code's loops read them.
 use mathlib.Core.Path.{◌≡◌, refl, sym, ◌∙◌, ap, ap₂}
 use mathlib.Core.Bool.{Bool, true, false, cond}
 use mathlib.Core.List.{List, []}

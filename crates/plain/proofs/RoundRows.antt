@@ -1,4 +1,4 @@
--- The rows of one or more tails (specs/inner/Rounds.antt), as the code makes them: products keep maps or drop them, and the rows have
+-- The rows of one or more tails (specs/Inner/Rounds.antt), as the code makes them: products keep maps or drop them, and the rows have
 -- the ways that may pass one state after the other.
 use mathlib.Core.Path.{◌≡◌, ◌∙◌, ap, ap₂}
 use mathlib.Core.Bool.{Bool, ◌&&◌, ◌||◌}

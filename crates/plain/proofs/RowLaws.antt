@@ -1,4 +1,4 @@
--- Rows changed one after the other (specs/inner/Ways.antt).
+-- Rows changed one after the other (specs/Inner/Ways.antt).
 use mathlib.Core.Path.{◌≡◌, refl, ◌∙◌, ap}
 use mathlib.Core.List.{List}
 use Prim.Native.Nat.{ℕ, ◌+◌, ◌<◌}

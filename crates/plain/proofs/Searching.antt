@@ -1,4 +1,4 @@
--- The search for a loop (specs/inner/Search.antt), as the code makes it.
+-- The search for a loop (specs/Inner/Search.antt), as the code makes it.
 use mathlib.Core.Path.{◌≡◌, sym, ◌∙◌, ap}
 use mathlib.Core.Logic.{inl, inr, ⊎_elim}
 use mathlib.Core.Bool.{true, ◌&&◌, ◌||◌}

@@ -11,7 +11,7 @@ use rule::limits::SETS;
 use rule::lookup::{Lookup, look_up};
 use word::lookups::Lookups;
 
-// A row for each state that the ways come from; specs/inner/Ways.antt says what stands in a row.
+// A row for each state that the ways come from; specs/Inner/Ways.antt says what stands in a row.
 pub type Matrix = [u64; LANE_WIDTH];
 
 // Where any transition of a letter leads to from some states; from none nowhere.

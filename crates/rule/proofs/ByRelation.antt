@@ -1,4 +1,4 @@
--- The laws of one map of states for each relation, in one number (specs/inner/Lanes.antt): unions, the map for one relation, and maps put into
+-- The laws of one map of states for each relation, in one number (specs/Inner/Lanes.antt): unions, the map for one relation, and maps put into
 -- lanes.
 use mathlib.Core.Path.{◌≡◌, refl, sym, ◌∙◌}
 use mathlib.Core.Bool.{Bool, true, false, ◌&&◌, ◌||◌, cond}

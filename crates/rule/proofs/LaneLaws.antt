@@ -1,4 +1,4 @@
--- The laws of words of lanes (specs/inner/Lanes.antt): the map in a lane, words made of maps, lanes chosen, and maps put into them.
+-- The laws of words of lanes (specs/Inner/Lanes.antt): the map in a lane, words made of maps, lanes chosen, and maps put into them.
 use mathlib.Core.Path.{◌≡◌, refl, sym, ◌∙◌, ap, ap₂}
 use mathlib.Core.Bool.{Bool, true, false, ◌&&◌, cond}
 use Prim.Native.Nat.{ℕ, zero, suc, ◌+◌, ◌*◌, ◌/◌, ◌%◌, ◌^◌, ◌≤◌, ◌<◌}

@@ -1,5 +1,5 @@
--- The look-up that the code makes from the words of a letter's states is the letter's look-up (specs/inner/Lookup.antt), and the steps by
--- which it makes it (specs/inner/LookupSteps.antt).
+-- The look-up that the code makes from the words of a letter's states is the letter's look-up (specs/Inner/Lookup.antt), and the steps by
+-- which it makes it (specs/Inner/LookupSteps.antt).
 use mathlib.Core.Path.{◌≡◌, refl, sym, ◌∙◌, ap, ap₂}
 use mathlib.Core.Logic.{◌⊎◌, inl, inr, ⊎_elim}
 use mathlib.Core.Bool.{Bool, true, false, not, ◌&&◌, cond, and-false}

@@ -1,4 +1,4 @@
--- The word of a row (specs/inner/Lookup.antt): each transition that is read adds its relations, and the words of the rows are held
+-- The word of a row (specs/Inner/Lookup.antt): each transition that is read adds its relations, and the words of the rows are held
 -- beside the rows.
 use mathlib.Core.Path.{◌≡◌, refl, sym, ◌∙◌, ap, ap₂}
 use mathlib.Core.Bool.{Bool, true, false, ◌&&◌, ◌||◌, and-false, and-true, or-false}

@@ -1,5 +1,5 @@
 -- The limits of document 01, "The rule table", in one place: statements use these names. Made for these numbers is the number of a
--- tree (crates/history/proofs/repeat/TreeCode.antt). The look-up has room for so many states, and for more sets (inner/Lanes.antt).
+-- tree (crates/history/proofs/Repeat/TreeCode.antt). The look-up has room for so many states, and for more sets (Inner/Lanes.antt).
 use Rattle.std.specs.Prelude.{ℕ}
 
 -- "n states (1 to 8, numbered from 0)"

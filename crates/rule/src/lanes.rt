@@ -1,4 +1,4 @@
-// A word of lanes: some maps of states in one number, each in a lane of its own. This module and specs/inner/Lanes.antt, which has the same
+// A word of lanes: some maps of states in one number, each in a lane of its own. This module and specs/Inner/Lanes.antt, which has the same
 // numbers, alone say where a lane lies.
 ghost use Rattle.std.specs.Prelude.{◌≡◌, suc, ◌*◌, ◌^◌, ◌<◌, ◌≤◌};
 ghost use Rattle.rule.specs.Inner.Lanes.{each_lane, in_lane, in_lanes, lane_width, lanes, lanes_with, map_of, set_lanes, spread, with_state};

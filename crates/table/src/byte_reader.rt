@@ -1,5 +1,4 @@
-// "The cells are read once, from front to back": a reader over the lent table bytes and a place in them. What is proved of
-// a struct that holds a loan is proved by hand, so its functions are few and thin.
+// "The cells are read once, from front to back": a reader over the lent table bytes and a place in them.
 ghost use Rattle.std.specs.Prelude.{◌≡◌};
 ghost use Rattle.table.specs.Inner.Cursor.{byte_at, next_as};
 

@@ -1,4 +1,4 @@
--- The name of a node follows from its depth and from the name of the node before it (specs/inner/NamesByDepth.antt), so the depths in
+-- The name of a node follows from its depth and from the name of the node before it (specs/Inner/NamesByDepth.antt), so the depths in
 -- number order give all names. A name is as long as its node is deep; its numbers are smaller than the number of nodes, since
 -- each child number counts older siblings.
 use mathlib.Core.Path.{◌≡◌, refl, sym, ◌∙◌, ap, subst}

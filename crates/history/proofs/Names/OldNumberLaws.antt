@@ -1,4 +1,4 @@
--- The old numbers of the nodes after a letter (specs/inner/OldNumbers.antt): one for each node, the number of an old node or of none.
+-- The old numbers of the nodes after a letter (specs/Inner/OldNumbers.antt): one for each node, the number of an old node or of none.
 -- A node whose old node is stable has that node's name; and a node whose name is a stable one has the old number of that name,
 -- since no two nodes have the same name and no two come from the same old node.
 use mathlib.Core.Path.{◌≡◌, refl, sym, ◌∙◌, ap}

@@ -1,4 +1,4 @@
--- The checks of specs/inner/RecordChecks.antt are question 9: bytes pass them exactly where they are the record of some tree.
+-- The checks of specs/Inner/RecordChecks.antt are question 9: bytes pass them exactly where they are the record of some tree.
 use mathlib.Core.Path.{◌≡◌, refl, sym, ◌∙◌, ap, ap₂}
 use mathlib.Core.Bool.{Bool, true, false, ◌&&◌, cond}
 use mathlib.Core.List.{List, [], ◌∷◌, ◌++◌, map}

@@ -1,4 +1,4 @@
--- Following names letter by letter (specs/inner/Following.antt): the maps of the nodes that kept their names, and of those of them
+-- Following names letter by letter (specs/Inner/Following.antt): the maps of the nodes that kept their names, and of those of them
 -- that were accepting once, go from each letter to the next by the old numbers and the maps of that letter.
 use mathlib.Core.Path.{◌≡◌, refl, sym, ◌∙◌, ap, ap₂, fun_ext}
 use mathlib.Core.Bool.{Bool, true, false, ◌&&◌, ◌||◌, and-true, and-false, and_assoc, or-false, or_assoc}

@@ -1,4 +1,4 @@
--- Question 9 as checks that are made byte by byte (document 01, "Trees"). proofs/records/RecordChecks.antt shows that they say yes exactly
+-- Question 9 as checks that are made byte by byte (document 01, "Trees"). proofs/Records/RecordChecks.antt shows that they say yes exactly
 -- where `is_record` does.
 use Rattle.std.specs.Prelude.{Bool, true, false, ◌&&◌, cond, List, [], ◌∷◌, ℕ, zero, suc, ◌-◌, ◌/◌, ◌%◌, ◌^◌, eqb, leb, ltb, length, take, drop}
 use Rattle.std.specs.Int.Count.{ones}

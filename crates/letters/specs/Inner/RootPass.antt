@@ -1,5 +1,5 @@
 -- Letters read for the root alone: what the contracts of the tree judge's own functions say of it. The definitions are those of the root
--- by itself (crates/history/specs/inner/Root.antt), here by look-ups.
+-- by itself (crates/history/specs/Inner/Root.antt), here by look-ups.
 use Rattle.std.specs.Prelude.{◌≡◌, Bool, false, cond, List, [], ◌∷◌, ℕ, ◌/◌, ◌%◌, ◌^◌, ◌≤◌, ◌<◌, eqb, length, get_or, take}
 use Rattle.std.specs.Int.Bits.{bit_and, bit_or}
 use Rattle.base.specs.Lists.{Every}

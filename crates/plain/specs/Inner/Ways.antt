@@ -1,6 +1,6 @@
 -- Ways between two states, inside the plain judge. Relation 0 has the pairs of states with a way from the one to the other,
 -- relation i those with a way that takes a transition of set i. A row has the ways from one state. It is a word of lanes with the
--- layout of a look-up's word (crates/rule/specs/inner/Lanes.antt): lane i has the map of the states that they lead to by relation i.
+-- layout of a look-up's word (crates/rule/specs/Inner/Lanes.antt): lane i has the map of the states that they lead to by relation i.
 use Rattle.std.specs.Prelude.{◌≡◌, Bool, ◌&&◌, ◌||◌, List, ℕ, ◌≤◌, ◌<◌, length, get_or}
 use Rattle.base.specs.BitSet.{member}
 use Rattle.rule.specs.Inner.Lanes.{map_of}

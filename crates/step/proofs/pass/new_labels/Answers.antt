@@ -1,4 +1,4 @@
--- `new-labels` meets its contract: two look-ups and two differences.
+-- `new_labels` meets its contract: two look-ups and two differences.
 use Rattle.rule.specs.Inner.Lookup.{look_up}
 use Rattle.step.specs.Inner.Pass.{new_labels}
 use Rattle.step.proofs.pass.new_labels.Goals as goal

@@ -1,5 +1,4 @@
 -- The plain judge's answer compared.
-use borrow.Author.Rules.{rules}
 use mathlib.Core.Path.{refl}
 use lib.ListN.{take}
 use Rattle.notation.proofs.ByteAnswers.{bytes_hold}

@@ -1,5 +1,4 @@
 -- The comparison of two walks, its answer compared.
-use borrow.Author.Rules.{rules}
 use mathlib.Core.Path.{refl}
 use lib.ListN.{take}
 use Rattle.notation.proofs.ByteAnswers.{bytes_hold}

@@ -1,5 +1,4 @@
 -- The starting record's answer compared.
-use borrow.Author.Rules.{rules}
 use mathlib.Core.Path.{ap}
 use lib.ListN.{take}
 use Rattle.notation.proofs.ByteAnswers.{bytes_hold}

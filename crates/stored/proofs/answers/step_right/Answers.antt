@@ -1,5 +1,4 @@
 -- The step's answer compared.
-use borrow.Author.Rules.{rules}
 use mathlib.Core.Path.{ap}
 use lib.ListN.{take}
 use native.Mathlib.Omega.{arith}

@@ -1,5 +1,4 @@
 -- The look-up of a set's successors, its answer compared.
-use borrow.Author.Rules.{rules}
 use mathlib.Core.Path.{refl, ◌∙◌, ap}
 use lib.ListN.{take}
 use native.Mathlib.Omega.{arith}

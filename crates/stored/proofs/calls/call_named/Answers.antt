@@ -1,6 +1,4 @@
 -- The call of a name.
-use borrow.Author.Rules.{rules}
-use mathlib.Core.Path.{refl}
 use Rattle.notation.proofs.Testing.{tests_not}
 use Rattle.stored.specs.Calls.{name_of}
 use Rattle.stored.proofs.CallNames.{no_name_lem}

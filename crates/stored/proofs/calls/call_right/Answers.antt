@@ -1,5 +1,4 @@
 -- A stored call: its line.
-use borrow.Author.Rules.{rules}
 use Rattle.notation.proofs.ByteAnswers.{bytes_hold}
 use Rattle.notation.proofs.Testing.{tests_no}
 use Rattle.stored.proofs.RightLines.{not_named, is_named, not_whole, line_tests}

@@ -1,5 +1,4 @@
 -- A call on a lent buffer: its numbers and its bytes.
-use borrow.Author.Rules.{rules}
 use Rattle.stored.proofs.RightLines.{answered}
 use Rattle.stored.proofs.calls.lent_right.Goals as goal
 

@@ -1,5 +1,4 @@
 -- The byte string of a field.
-use borrow.Author.Rules.{rules}
 use mathlib.Core.Path.{◌∙◌, ap}
 use Rattle.notation.specs.Hexadecimal.{byte_string, bytes_answer}
 use Rattle.stored.proofs.fields.field_bytes.Goals as goal

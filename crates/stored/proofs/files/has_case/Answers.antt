@@ -1,5 +1,4 @@
 -- Does a line have a case?
-use borrow.Author.Rules.{rules}
 use mathlib.Core.Path.{sym}
 use Rattle.stored.proofs.Tallying.{case_empty, case_first}
 use Rattle.stored.proofs.files.has_case.Goals as goal

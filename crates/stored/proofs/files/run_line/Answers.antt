@@ -1,5 +1,4 @@
 -- One line counted.
-use borrow.Author.Rules.{rules}
 use mathlib.Core.Path.{refl, sym, ◌∙◌}
 use Rattle.notation.proofs.Testing.{tests_not}
 use Rattle.stored.specs.Inner.Comparing.{not_counted, found_right, found_different}

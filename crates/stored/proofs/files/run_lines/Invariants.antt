@@ -1,11 +1,7 @@
 -- All lines. There are no more differences than cases, cases than lines, lines than letters passed.
-use borrow.Author.Rules.{rules}
 use Prim.Native.Nat.{◌≤◌, ◌-◌}
-use native.Mathlib.Omega.{arith}
 use lib.ListN.{length}
-use Rattle.notation.specs.Parts.{newline}
-use Rattle.notation.proofs.TextParts.{end_within}
-use Rattle.stored.proofs.Tallying.{Counting, counting_start, counted_few, counting_next, counting_last, counting_done}
+use Rattle.stored.proofs.Tallying.{Counting}
 use Rattle.stored.proofs.files.run_lines.Given as goal
 
 abbrev pub invariant-loop-at : goal.invariant-loop-at

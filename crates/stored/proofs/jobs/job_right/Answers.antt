@@ -1,5 +1,4 @@
 -- A stored job: its line.
-use borrow.Author.Rules.{rules}
 use native.Mathlib.Omega.{arith}
 use Rattle.notation.proofs.ByteAnswers.{bytes_hold}
 use Rattle.notation.proofs.Testing.{tests_no}

@@ -1,5 +1,4 @@
 -- The four numbers of a text.
-use borrow.Author.Rules.{rules}
 use native.Mathlib.Omega.{arith}
 use Rattle.notation.proofs.DecimalDigits.{number_within}
 use Rattle.stored.proofs.Comparing.{rule_is}

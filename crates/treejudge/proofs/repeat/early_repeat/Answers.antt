@@ -100,7 +100,3 @@ returns c R u A =
       | then-same_tree w ↦ rw w.entry-is (repeat_still R u _ _ _ _ _ A _ cut _ _ second _ _ back same (still ∙ w.if-same_tree.true))
       | else-same_tree w ↦ rw w.entry-is (repeat_moved R u _ _ _ _ _ A _ cut _ _ second _ _ back same (still ∙ w.if-same_tree.false))
     ]
-
-pub returns-then-not-same_tree : goal.returns-then-not-same_tree
-returns-then-not-same_tree c =
-    tt
