@@ -8,7 +8,7 @@ use crate::calls::call_right;
 use crate::jobs::job_right;
 use notation::lines::{NEWLINE, end_of};
 use program::console::read_full;
-use std::io::Print;
+use std::io::{Eprint, Print};
 use std::rt::Files;
 use std::{fs, str};
 
@@ -134,14 +134,18 @@ fn room() -> [u8; ROOM]
 }
 
 // Runs the cases of a file. None is run of a file that is missing, or for which there is no room.
-pub fn run_file<R: Files + Print>(rt: &R, name: &[u8], kind: Kind) {
+pub fn run_file<R: Files + Print + Eprint>(rt: &R, name: &[u8], kind: Kind) {
     let Ok(path) = str::from_utf8(name) else {
         say_not_run(rt, name, b": missing\n");
         return;
     };
-    let Ok(mut file) = fs::open(rt, path) else {
-        say_not_run(rt, name, b": missing\n");
-        return;
+    let mut file = match fs::open(rt, path) {
+        Ok(file) => file,
+        Err(error) => {
+            let _ = eprintln!(rt; "{path}: {error}");
+            say_not_run(rt, name, b": missing\n");
+            return;
+        }
     };
     let mut text = room();
     let Ok(length) = read_full(&mut file, &mut text) else {
