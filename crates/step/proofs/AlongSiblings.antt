@@ -1,6 +1,6 @@
 -- The pass along the siblings of a tree, in the order in which it reaches them: at each of them that it reaches, the running set is the union
 -- of the older siblings' labels.
-use mathlib.Core.Path.{◌≡◌, refl, sym, ◌∙◌, ap}
+use mathlib.Core.Path.{◌≡◌, refl, ◌∙◌, ap}
 use mathlib.Core.Bool.{Bool, true, false}
 use mathlib.Core.List.{List, [], ◌∷◌, ◌++◌}
 use Prim.Native.Nat.{ℕ, zero, suc, ◌+◌, ◌≤◌, ◌<◌}
@@ -11,27 +11,25 @@ use Rattle.base.proofs.BitSet.{union_assoc}
 use Rattle.rule.specs.Rule.{Rule, successors, successors_in}
 use Rattle.history.specs.Forest.{nil, node, size}
 use Rattle.history.specs.Tree.{Node, Tree}
-use Rattle.history.specs.Letter.{Origin, sprouted, two_steps, three_steps}
+use Rattle.history.specs.Letter.{Origin, sprouted}
 use Rattle.history.specs.Inner.OldNumbers.{no_node}
 use Rattle.history.proofs.Step.LocalStep.{new_label}
-use Rattle.history.proofs.Step.OlderSiblingLaws.{older_labels_same}
 use Rattle.history.proofs.Step.StepsJoined.{old_node}
 use Rattle.history.proofs.Tree.Conditions.{Fits}
-use Rattle.tree.specs.Inner.Nodes.{nodes_from, nodes_of}
+use Rattle.tree.specs.Inner.Nodes.{nodes_from}
 use Rattle.tree.specs.declared.nodes.Node.{Node as CodeNode}
 use Rattle.tree.proofs.TreeNodes.{size_from}
-use Rattle.step.specs.RunningSet.{RunningSet}
 use Rattle.step.specs.declared.pass.NewLabels.{NewLabels}
-use Rattle.step.specs.Inner.Pass.{Level, deepest, Pass, closed_to, passed_node, read_node, read_nodes, at_start}
+use Rattle.step.specs.Inner.Pass.{Level, deepest, Pass, closed_to, passed_node, read_node, read_nodes}
 use Rattle.step.proofs.PassSteps.{level, pass, none_closed, closed_again, read_skips, read_cons_lem, passed_removed, passed_accepting, passed_kept}
 use Rattle.step.proofs.PassNode.{node_at, reads_none, gone, full, made, node_read, pass_branch}
 use Rattle.step.proofs.PassTree.{Numbered, pass_siblings}
-use Rattle.step.proofs.SiblingsInTurn.{Sibling, old, new, depth_of, set_of, old_nodes, siblings_from, siblings_of, old_from, siblings_many, sibling_behind, sibling_depth, sibling_set}
+use Rattle.step.proofs.SiblingsInTurn.{Sibling, old, new, depth_of, set_of, old_nodes, siblings_from, old_from}
 
 -- SIBLINGS IN TURN
 
 -- where the level at depth d is open, its running set is `set`
-abbrev Carries : Pass → ℕ → ℕ → Type 0
+abbrev pub Carries : Pass → ℕ → ℕ → Type 0
 Carries p d set = length (closed_to d p).levels ≡ suc d → (deepest (closed_to d p).levels).running ≡ set
 
 unreached : (p : Pass) (d set : ℕ) → length p.levels ≤ d → Carries p d set
@@ -39,7 +37,7 @@ unreached p d set h deep = let same = ap (λ (q : Pass). length q.levels) (none_
 
 module _ (E : ℕ → ℕ → ℕ) (k : ℕ) where
   -- it is so at each of some siblings in turn; old nodes are read on the way
-  abbrev CarriesInTurn : ℕ → Pass → List Sibling → Type 0
+  abbrev pub CarriesInTurn : ℕ → Pass → List Sibling → Type 0
   CarriesInTurn i p [] = Unit {0}
   CarriesInTurn i p (old x set ∷ siblings) = Carries p x.depth set × CarriesInTurn (suc i) (read_node E k i x (closed_to x.depth p)) siblings
   CarriesInTurn i p (new d set ∷ siblings) = Carries p d set × CarriesInTurn i p siblings
@@ -55,7 +53,7 @@ module _ (E : ℕ → ℕ → ℕ) (k : ℕ) where
   along_append i p (new d set ∷ l) r (here, h) more = (here, along_append i p l r h more)
 
   -- at the one numbered n, once the old nodes before it are read
-  along_at : (i : ℕ) (p : Pass) (l : List Sibling) → CarriesInTurn i p l → (n : ℕ) → n < length l
+  pub along_at : (i : ℕ) (p : Pass) (l : List Sibling) → CarriesInTurn i p l → (n : ℕ) → n < length l
       → Carries (read_nodes E k i p (old_nodes (take n l))) (depth_of (get_or l n (new 0 0))) (set_of (get_or l n (new 0 0)))
   unfolding old_nodes read_nodes depth_of set_of
   along_at i p [] h n less = absurd (omega arith)
@@ -91,7 +89,7 @@ module _ (E : ℕ → ℕ → ℕ) (k : ℕ) where
 -- THE SIBLINGS OF A TREE
 
 -- where the pass stands at siblings, the running set is that of their level
-at_level : (d above running sprout : ℕ) (b : Bool) (levels : List Level) (nodes : List CodeNode) (accepting stable : ℕ)
+pub at_level : (d above running sprout : ℕ) (b : Bool) (levels : List Level) (nodes : List CodeNode) (accepting stable : ℕ)
     → length levels ≡ d → Carries (pass (level above running sprout b ∷ levels) nodes accepting stable) d running
 unfolding deepest
 at_level d above running sprout b levels nodes accepting stable deep _ =
@@ -101,7 +99,7 @@ module _ (R : Rule) (a : ℕ) (E : ℕ → ℕ → ℕ) (number : Origin → ℕ
     (all : (s : ℕ) → E 0 s ≡ successors R a s)
     (of : (i s : ℕ) → 1 ≤ i → i ≤ R.sets → E i s ≡ successors_in R i a s) where
   -- below a node, given its children
-  along_below : (v : List ℕ) (x : Node) (below : Tree) → 1 ≤ x.active → x.active ≤ R.sets
+  pub along_below : (v : List ℕ) (x : Node) (below : Tree) → 1 ≤ x.active → x.active ≤ R.sets
       → (held above running : ℕ) → bit_or above running ≡ held → (i d sprout : ℕ) (b : Bool) (levels : List Level) (nodes : List CodeNode)
       (accepting stable : ℕ) → length levels ≡ d
       → ((inner : List Level) (nodes : List CodeNode) (accepting stable : ℕ) → length inner ≡ suc d
@@ -130,7 +128,7 @@ module _ (R : Rule) (a : ℕ) (E : ℕ → ℕ → ℕ) (number : Origin → ℕ
       go false false e e' = rw (passed_kept R.sets i (node_at d x below) m l levels nodes accepting stable e e')
           (ih _ _ accepting _ (ap suc deep))
 
-  along_siblings : (F : Tree) (p : List ℕ) (c i d held above running : ℕ) → bit_or above running ≡ held → (sprout : ℕ) (b : Bool)
+  pub along_siblings : (F : Tree) (p : List ℕ) (c i d held above running : ℕ) → bit_or above running ≡ held → (sprout : ℕ) (b : Bool)
       (levels : List Level) (nodes : List CodeNode) (accepting stable : ℕ)
       → Fits R.sets F → Numbered number p c i F → length levels ≡ suc d
       → CarriesInTurn E R.sets i (pass (level above running sprout b ∷ levels) nodes accepting stable) (siblings_from R a (suc d) held running F)
@@ -158,26 +156,3 @@ module _ (R : Rule) (a : ℕ) (E : ℕ → ℕ → ℕ) (number : Origin → ℕ
             )
             (along_siblings younger p (suc c) (suc i + size below) d _ above _ both sprout _ levels _ _ _ on after deep)))),
       )
-
-  -- one root with all below it: at each node after steps 1 and 2
-  along_root : (x : Node) (below : Tree) → Fits R.sets (node x below nil) → Numbered number [] 0 1 below
-      → CarriesInTurn E R.sets 0 at_start (siblings_of R a (node x below nil))
-  unfolding siblings_of
-  along_root x below (own, down, on) inner = (
-    at_level 0 0 0 0 true [] [] 0 0 refl,
-    along_below [] x below own.from_one own.up_to 0 0 0 refl 0 0 0 true [] [] 0 0 refl
-        (λ inside nodes accepting stable deeper. along_siblings below [] 0 1 0 0 0 0 refl _ true inside nodes accepting stable down inner deeper),
-  )
-
-  -- so the running set is the union of the older siblings' labels after step 3, and before these lose states to one another
-  pub running_set_root : (x : Node) (below : Tree) → Fits R.sets (node x below nil) → Numbered number [] 0 1 below → (i d : ℕ)
-      → length (closed_to d (read_nodes E R.sets 0 at_start (take i (nodes_of (node x below nil))))).levels ≡ suc d
-      → RunningSet R a (node x below nil) i d
-      (deepest (closed_to d (read_nodes E R.sets 0 at_start (take i (nodes_of (node x below nil))))).levels).running
-  unfolding three_steps
-  running_set_root x below fits inner i d deep n r =
-      let T : Tree = node x below nil in
-      let here = along_at E R.sets 0 at_start (siblings_of R a T) (along_root x below fits inner) n
-      (omega (arith, r.there, siblings_many R a x below)) in
-      let after = (rw (sibling_behind R a x below n, r.behind, sibling_depth R a x below n, r.deep) at here) deep ∙ sibling_set R a x below n in
-      record { before = after ∙ ap (λ (l : List ℕ). get_or l n 0) (sym (older_labels_same (two_steps R a T))); after = after }

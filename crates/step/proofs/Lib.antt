@@ -12,6 +12,7 @@ pub mod PassTree
 -- The running set: the siblings in the order in which the pass reaches them.
 pub mod SiblingsInTurn
 pub mod AlongSiblings
+pub mod AlongRoot
 pub mod RunningSet
 pub mod GrownNodes
 pub mod Renamed

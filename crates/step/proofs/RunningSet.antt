@@ -31,7 +31,7 @@ use Rattle.step.proofs.PassLoop.{OnSides, read_next}
 use Rattle.step.proofs.OldNumbers.{tree_numbered}
 use Rattle.step.proofs.StepOfNodes.{read_without_old, images, images_all, images_in}
 use Rattle.step.proofs.SiblingsInTurn.{old_reached, new_reached}
-use Rattle.step.proofs.AlongSiblings.{running_set_root}
+use Rattle.step.proofs.AlongRoot.{running_set_root}
 
 -- THE CODE
 

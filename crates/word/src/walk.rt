@@ -10,6 +10,7 @@ use base::bytes::all_below;
 pub const MAX_LENGTH: usize = 4096;
 
 // "Are u and v of allowed length?"
+#[tactic(auto, unfolding(crate::specs::Walk::lengths_fit))]
 pub fn lengths_fit(u: &[u8], v: &[u8]) -> bool
     ensures { result ≡ lengths_fit u.now v.now }
 {
