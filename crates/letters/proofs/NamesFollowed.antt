@@ -5,7 +5,6 @@ use mathlib.Core.List.{List, [], ◌∷◌, ◌++◌, append-nil, append_assoc}
 use Prim.Native.Nat.{ℕ, ◌+◌, ◌-◌, ◌^◌, ◌≤◌, ◌<◌}
 use native.Mathlib.Numerals.{add-one}
 use native.Mathlib.Omega.{arith}
-use lib.Bits.{bit_and, bit_or}
 use lib.ListN.{length, get_or, take, drop, take-append-drop}
 use lib.Seq.{take-suc, take_all}
 use Rattle.base.proofs.Every.{every_at, append_every}
@@ -30,14 +29,7 @@ use Rattle.letters.specs.Inner.Reading.{Readable}
 use Rattle.letters.specs.Inner.Names.{all_kept, carried_maps, Follows, FollowsOn, Followable, FollowsTo}
 use Rattle.letters.specs.Inner.RootPass.{root_maps, SkipsTo}
 use Rattle.letters.specs.declared.follow.Maps.{Maps}
-
--- the nodes of both maps that are stable at a letter; one that is accepting is a witness from there on
-abbrev pub staying : Stepped → Maps → Maps
-staying next m =
-    record {
-      kept = bit_and m.kept next.stable;
-      witnesses = bit_and (bit_or m.witnesses (bit_and m.kept next.accepting)) next.stable;
-    }
+use Rattle.letters.proofs.Staying.{staying}
 
 -- BEFORE THE FIRST LETTER
 
