@@ -16,16 +16,6 @@ pub overflow_add-to : goal.overflow_add-to
 overflow_add-to c =
     omega (arith, row_end c.loop-row.invariant c.loop-row-test.true)
 
-{- LEFT
-part-put-cell-start : tie.Need-slice-bounds-put-cell-start invariant-loop decreases-loop
-part-put-cell-start c = search rules
--}
-
-{- LEFT
-part-put-cell-end : tie.Need-slice-bounds-put-cell-end invariant-loop decreases-loop
-part-put-cell-end c = omega (arith, row_end c.before.loop.invariant c.loop-test.true)
--}
-
 pub put_cell-at-requires : goal.put_cell-at-requires
 put_cell-at-requires c =
     let v = c.loop-row.invariant in

@@ -16,16 +16,6 @@ pub overflow_cast-map : goal.overflow_cast-map
 overflow_cast-map c =
     omega (arith, c.type_inv.bytes 0)
 
-{- LEFT
-part-left-start : tie.Need-slice-bounds-left-start
-part-left-start c = search rules
--}
-
-{- LEFT
-part-left-end : tie.Need-slice-bounds-left-end
-part-left-end c = search rules
--}
-
 pub returns-then-map-eq0 : goal.returns-then-map-eq0
 returns-then-map-eq0 c =
     checks_dead _ _ _ _ c.if-bytes-lt1.false (to_end 1 c.args.bytes.now) c.if-map-eq0.true

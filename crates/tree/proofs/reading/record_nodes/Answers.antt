@@ -17,16 +17,6 @@ pub overflow_cast-depth : goal.overflow_cast-depth
 overflow_cast-depth c =
     omega (arith, c.type_inv.tags c.loop-number.number)
 
-{- LEFT
-part-deeper-start : tie.Need-slice-bounds-deeper-start invariant-loop decreases-loop
-part-deeper-start c = search rules
--}
-
-{- LEFT
-part-deeper-end : tie.Need-slice-bounds-deeper-end invariant-loop decreases-loop
-part-deeper-end c = search rules
--}
-
 pub overflow_add-end : goal.overflow_add-end
 overflow_add-end c =
     let number = c.loop-number.number in
