@@ -1,11 +1,10 @@
 // Both judges on one table and one walk.
 ghost use Rattle.agree.specs.BothCall.{BothAnswer};
 
-use plain::judge::{PlainAnswer, plain_refusal};
+use plain::judge::PlainAnswer;
 use rule::limits::LETTERS;
 use rule::lookup::ENTRIES;
-use table::reader::Reading;
-use treejudge::judge::{TreeAnswer, tree_refusal};
+use treejudge::judge::TreeAnswer;
 use word::questions::walk_questions;
 
 // The answers of the two judges.
@@ -29,21 +28,13 @@ pub fn judge_both<'a>(
 {
     let mut lookups = [[0u64; ENTRIES]; LETTERS];
     match walk_questions(table, u, v, &mut lookups) {
-        Reading::Refused(number) => {
-            let tree = tree_refusal(number);
-            let plain = plain_refusal(number);
-            BothAnswers {
-                tree: tree,
-                plain: plain,
-            }
-        }
-        Reading::Rule(header) => {
-            let tree = treejudge::judge::judge_prepared(&lookups, header, u, v, names);
-            let plain = plain::judge::judge_prepared(&lookups, header, u, v, scratch);
-            BothAnswers {
-                tree: tree,
-                plain: plain,
-            }
-        }
+        Err(refusal) => BothAnswers {
+            tree: refusal.into(),
+            plain: refusal.into(),
+        },
+        Ok(header) => BothAnswers {
+            tree: treejudge::judge::judge_prepared(&lookups, header, u, v, names),
+            plain: plain::judge::judge_prepared(&lookups, header, u, v, scratch),
+        },
     }
 }

@@ -1,17 +1,19 @@
 -- A part that stands behind its length: where it ends, and what it is. The number that refuses it is any.
-use mathlib.Core.Path.{◌≡◌, refl, ◌∙◌, ap, ap₂}
+use mathlib.Core.Path.{◌≡◌, refl, sym, ◌∙◌, ap, ap₂}
 use mathlib.Core.List.{List, [], ◌∷◌}
-use Prim.Native.Nat.{ℕ, suc, ◌+◌, ◌-◌, ◌*◌, ◌≤◌, ◌<◌}
+use Prim.Native.Nat.{ℕ, ◌+◌, ◌-◌, ◌*◌, ◌≤◌, ◌<◌}
 use native.Mathlib.Omega.{arith}
 use borrow.Author.Tests.{leb-true, le-leb, lt-leb}
 use lib.Dec.{leb}
 use lib.ListN.{length, get_or, take, drop, length-drop}
-use lib.Seq.{drop-cons, drop-drop, length-take-le}
+use lib.Seq.{drop-drop, length-take-le}
+use Rattle.std.specs.List.{slice_range}
+use Rattle.std.specs.Prelude.{None, Some}
 use Rattle.base.specs.Outcome.{refused, accepted, ask, ◌then◌}
 use Rattle.base.specs.Reading.{Read, read_part}
 use Rattle.base.specs.Inner.PartEnds.{end_as, part_end, between}
-use Rattle.base.specs.declared.part.End.TheVariants.{Past, At}
 use Rattle.base.proofs.Accepted.{IfAccepted, asked}
+use Rattle.base.proofs.Flattening.{to_end}
 use Rattle.base.proofs.Numbers.{IfRefused, ask_number}
 
 module _ (number : ℕ) where
@@ -24,34 +26,42 @@ module _ (number : ℕ) where
   no_length (low ∷ []) h = refl
   no_length (low ∷ high ∷ rest) h = absurd (omega arith)
 
-  module _ (bytes : List ℕ) (at : ℕ) where
-    -- the length that stands at a place
-    abbrev size_at : ℕ
-    size_at = get_or bytes at 0 + 256 * get_or bytes (at + 1) 0
+  -- the length that stands in front
+  abbrev size_of : List ℕ → ℕ
+  size_of bytes = get_or bytes 0 0 + 256 * get_or bytes 1 0
 
-    pub end_none : length bytes < at + 2 → end_as number Past ≡ part_end number at bytes
+  -- what is behind it is read if it is long enough
+  sized : (bytes : List ℕ) → 2 ≤ length bytes → read_part number bytes
+      ≡ ask (leb (size_of bytes) (length (drop 2 bytes))) number (accepted (take (size_of bytes) (drop 2 bytes), drop (size_of bytes) (drop 2 bytes)))
+  unfolding read_part
+  sized [] h = absurd (omega arith)
+  sized (low ∷ []) h = absurd (omega arith)
+  sized (low ∷ high ∷ rest) h = refl
+
+  module _ (bytes : List ℕ) (at : ℕ) where
+    pub end_none : length bytes < at + 2 → end_as number None ≡ part_end number at bytes
     unfolding part_end
     end_none h = rw (no_length (drop at bytes) (omega (arith, length-drop at bytes)))
 
-    module _ (h : at + 2 ≤ length bytes) where
-      -- the length, and what is behind it
-      sized : read_part number (drop at bytes)
-          ≡ ask (leb size_at (length (drop (at + 2) bytes))) number (accepted (take size_at (drop (at + 2) bytes), drop size_at (drop (at + 2) bytes)))
-      unfolding read_part
-      sized =
-          let one : suc at ≡ at + 1 = omega arith in
-          let two : suc (at + 1) ≡ at + 2 = omega arith in
-          rw (drop-cons bytes at 0 (omega arith), one, drop-cons bytes (at + 1) 0 (omega arith), two)
+    -- the bytes from there on, of which there are at least two
+    module _ (from : List ℕ) (is : from ≡ slice_range bytes at (length bytes)) (two : 2 ≤ length from) where
+      here : drop at bytes ≡ from
+      here = sym (is ∙ to_end at bytes)
 
-      pub end_past : length bytes - (at + 2) < size_at → end_as number Past ≡ part_end number at bytes
+      -- those behind the length
+      abbrev rest : List ℕ
+      rest = take (length from - 2) (drop 2 from)
+
+      pub end_past : length rest < size_of from → end_as number None ≡ part_end number at bytes
       unfolding part_end
-      end_past less = rw (sized, lt-leb size_at (length (drop (at + 2) bytes)) (omega (arith, length-drop (at + 2) bytes)))
+      end_past less =
+          rw (here, sized from two, lt-leb (size_of from) (length (drop 2 from)) (omega (arith, length-take-le (length from - 2) (drop 2 from), length-drop 2 from)))
 
-      pub end_at : size_at ≤ length bytes - (at + 2) → end_as number (At (at + 2 + size_at)) ≡ part_end number at bytes
+      pub end_at : size_of from ≤ length rest → end_as number (Some (at + 2 + size_of from)) ≡ part_end number at bytes
       unfolding part_end
       end_at fits =
-          let room : size_at ≤ length (drop (at + 2) bytes) = omega (arith, length-drop (at + 2) bytes) in
-          rw (sized, le-leb size_at (length (drop (at + 2) bytes)) room, length-take-le size_at (drop (at + 2) bytes) room)
+          let room : size_of from ≤ length (drop 2 from) = omega (arith, length-take-le (length from - 2) (drop 2 from), length-drop 2 from) in
+          rw (here, sized from two, le-leb (size_of from) (length (drop 2 from)) room, length-take-le (size_of from) (drop 2 from) room)
 
   -- WHAT A PART IS
 

@@ -3,6 +3,7 @@ pub mod Outcome
 pub mod BitSet
 pub mod Lists
 pub mod Reading
+pub mod Refusals
 pub mod LentBuffer
 -- Inside: what the contracts of inner functions cite.
 pub mod Inner

@@ -1,13 +1,14 @@
 -- Texts that grow at their end: one piece after another, from no text on.
 use mathlib.Core.Path.{◌≡◌, sym, ◌∙◌, ap}
-use mathlib.Core.List.{List, [], ◌++◌, append_assoc}
+use mathlib.Core.List.{List, ◌++◌, append_assoc}
 use Prim.Native.Nat.{ℕ, ◌+◌, ◌-◌, ◌≤◌}
-use native.Mathlib.Nat.{zero-add, add-zero}
+use native.Mathlib.Nat.{zero-add}
 use native.Mathlib.Omega.{arith}
-use lib.ListN.{length, take, drop, replicate, length-append, length-replicate, replicate-append-replicate}
-use lib.Seq.{drop_at, length-take-le}
+use borrow.Rule.Slice.PartMut.{put_mid}
+use lib.ListN.{length, drop, replicate, length-append, length-replicate, replicate-append-replicate}
+use lib.Seq.{drop_at, drop-drop}
 use Rattle.base.specs.LentBuffer.{stored}
-use Rattle.base.proofs.Storing.{PiecesStored, stored_start, stored_next}
+use Rattle.base.proofs.Storing.{stored_start, stored_next}
 use Rattle.job.specs.JobCall.{text_room, text_of}
 use Rattle.job.specs.Inner.TextCode.{appended, Appends}
 use Rattle.job.specs.declared.call.Text.{Text}
@@ -24,38 +25,41 @@ appended_twice text a b room =
     λ i. record { bytes = bytes i; length = long i }
 
 -- the length of what was appended to
-pub appended_length : (text : Text) (more : List ℕ) {r : Text} → r ≡ appended text more → r.length ≡ text.length + length more
+appended_length : (text : Text) (more : List ℕ) {r : Text} → r ≡ appended text more → r.length ≡ text.length + length more
 unfolding appended
 appended_length text more e = ap (λ (t : Text). t.length) e
 
--- a piece, and at most how long it is
-pub appends : {text r : Text} {more : List ℕ} → r ≡ appended text more → (most : ℕ) → length more ≤ most → Appends text more most r
-appends e most h = record { same = e; short = h }
-
--- no piece
-pub appends_none : (text : Text) → text.length ≤ length text.bytes → Appends text [] 0 text
-unfolding appended
-appends_none text h =
-    let bytes = (stored_start text.bytes text.length h).same in
-    record { same = λ i. record { bytes = bytes i; length = sym (add-zero text.length) i }; short = omega arith }
+-- the bytes copied to the end of a text
+pub appends_copied : (text : Text) (more copied : List ℕ) → copied ≡ more → length text.bytes ≡ text_room
+    → Appends text more (length more)
+    (record { bytes = put_mid text.length (text.length + length more - text.length) text.bytes copied; length = text.length + length more })
+unfolding appended stored
+appends_copied text more copied e whole =
+    let size : text.length + length more - text.length ≡ length more = omega arith in
+    record { size = whole; same = rw (e, size, drop-drop (length more) text.length text.bytes); long = omega arith }
 
 module _ {text r : Text} {a : List ℕ} {m : ℕ} where
-  -- the text is that much longer at most
-  pub appends_length : Appends text a m r → r.length ≤ text.length + m
-  appends_length A = omega (arith, A.short, appended_length text a A.same)
+  -- how long the piece is
+  appends_short : Appends text a m r → length a ≤ m
+  appends_short A = omega (arith, A.long, appended_length text a A.same)
+
+  -- another bound
+  pub appends_most : Appends text a m r → (n : ℕ) → length a ≤ n → Appends text a n r
+  appends_most A n h = record { size = A.size; same = A.same; long = omega (arith, appended_length text a A.same) }
 
   -- one piece after another
   pub appends_both : {middle : Text} {b : List ℕ} {n : ℕ} → Appends text a m middle → Appends middle b n r
-      → length text.bytes ≡ text_room → text.length + (m + n) ≤ text_room → Appends text (a ++ b) (m + n) r
-  appends_both {b = b} A B size room = record {
+      → text.length + (m + n) ≤ text_room → Appends text (a ++ b) (m + n) r
+  appends_both {middle = middle} {b = b} A B room = record {
+    size = A.size;
     same = B.same ∙ ap (λ (t : Text). appended t b) A.same
-        ∙ appended_twice text a b (omega (arith, A.short, B.short));
-    short = omega (arith, length-append a b, A.short, B.short);
+        ∙ appended_twice text a b (omega (arith, A.size, appended_length text a A.same, A.long, B.long, appended_length middle b B.same));
+    long = omega (arith, A.long, B.long);
   }
 
 -- three pieces, the last two as one
 pub appends_regroup : {text r : Text} {m : ℕ} (a b d : List ℕ) → Appends text ((a ++ b) ++ d) m r → (n : ℕ) → m ≤ n → Appends text (a ++ (b ++ d)) n r
-appends_regroup a b d A n h = rw (← append_assoc a b d) (record { same = A.same; short = omega (arith, A.short) })
+appends_regroup a b d A n h = rw (← append_assoc a b d) (record { size = A.size; same = A.same; long = omega (arith, A.long) })
 
 -- no text
 abbrev pub nothing : Text
@@ -73,8 +77,4 @@ unfolding appended text_of stored
 from_nothing {r} {l} A room = A.same ∙ λ i. record { bytes = bytes i; length = zero-add (length l) i }
   where
     bytes : l ++ drop (0 + length l) (replicate text_room 0) ≡ l ++ replicate (text_room - length l) 0
-    bytes = ap (l ++◌) (ap (λ (c : ℕ). drop c (replicate text_room 0)) (zero-add (length l)) ∙ zeros_behind (length l) text_room (omega (arith, A.short)))
-
--- where the next byte goes
-pub piece_place : {more before buffer : List ℕ} {from at i : ℕ} → PiecesStored (λ c. take c more) (length more) before from buffer at i → at ≡ from + i
-piece_place {more} {i = i} v = v.stores.place ∙ ap (◌+◌ _) (length-take-le i more v.few)
+    bytes = ap (l ++◌) (ap (λ (c : ℕ). drop c (replicate text_room 0)) (zero-add (length l)) ∙ zeros_behind (length l) text_room (omega (arith, appends_short A)))

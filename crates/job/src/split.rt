@@ -3,7 +3,8 @@ ghost use Rattle.job.specs.JobCall.{job_parts};
 ghost use Rattle.job.specs.Inner.SplitCode.{Splits};
 
 use crate::limits::{LONGEST, SHORTEST};
-use base::part::{End, part_end};
+use base::part::part_end;
+use base::refusal::Refusal;
 
 // Where table and lead-in end. The tail ends with the job's last byte.
 #[derive(Clone, Copy)]
@@ -12,36 +13,18 @@ pub struct Ends {
     pub lead: usize,
 }
 
-#[derive(Clone, Copy)]
-pub enum Split {
-    Refused,
-    Parts(Ends),
-}
-
 // QUESTION 12: "has the job 6 to 9,354 bytes, and do its three parts end exactly with its last byte?"
-pub fn split_job(job: &[u8]) -> Split
+pub fn split_job(job: &[u8]) -> Result<Ends, Refusal>
     ensures { Splits (job_parts job.now) job.now result }
 {
-    if job.len() < SHORTEST {
-        return Split::Refused;
+    if job.len() < SHORTEST || LONGEST < job.len() {
+        return Err(Refusal::JobMisfit);
     }
-    if job.len() > LONGEST {
-        return Split::Refused;
-    }
-    let End::At(table) = part_end(job, 0) else {
-        return Split::Refused;
-    };
-    let End::At(lead) = part_end(job, table) else {
-        return Split::Refused;
-    };
-    let End::At(tail) = part_end(job, lead) else {
-        return Split::Refused;
-    };
+    let table = part_end(job, 0).ok_or(Refusal::JobMisfit)?;
+    let lead = part_end(job, table).ok_or(Refusal::JobMisfit)?;
+    let tail = part_end(job, lead).ok_or(Refusal::JobMisfit)?;
     if tail < job.len() {
-        return Split::Refused;
+        return Err(Refusal::JobMisfit);
     }
-    Split::Parts(Ends {
-        table: table,
-        lead: lead,
-    })
+    Ok(Ends { table, lead })
 }

@@ -1,4 +1,5 @@
 // THE PROGRAM: it reads a job from standard input and prints the answer.
+// A program is run once, on the `stdin` beside it: so the same text stands in a crate of its own for each input.
 #![tactic(auto)]
 
 use program::console::run;

@@ -1,5 +1,5 @@
 -- Maps of old numbers carried to the new ones node by node: one map, and two in one word, where a node takes its bit of each at once.
-use mathlib.Core.Path.{◌≡◌, sym, ◌∙◌, ap, ap₂}
+use mathlib.Core.Path.{◌≡◌, refl, sym, ◌∙◌, ap, ap₂}
 use mathlib.Core.Logic.{⊎_elim}
 use mathlib.Core.Bool.{Bool, true, false, cond}
 use mathlib.Core.List.{List, map}
@@ -10,17 +10,18 @@ use native.Mathlib.Omega.{arith}
 use borrow.Author.Tests.{eqb-true, eqb-false}
 use lib.Bits.{bit_and, bit_or, and_block, and_mask, or_block}
 use lib.Dec.{eqb}
-use lib.ListN.{length, get_or, take, length-map, get_or-map}
+use lib.ListN.{length, get_or, length-map, get_or-map}
 use lib.Pow.{pow_mono, shl_lt, shl_exact, shr-shr, split, high, low, mod-mod-pow}
-use lib.Seq.{length-take-le, get_or-take}
 use Rattle.base.specs.BitSet.{member, collect}
 use Rattle.base.proofs.BitSet.{member_lt, member_mod, collect_lt, collect_ext, collect_more}
 use Rattle.base.proofs.Logic.{look, bool_ext}
 use Rattle.history.specs.Inner.Following.{carried}
 use Rattle.tree.specs.Inner.Nodes.{blank_node}
-use Rattle.tree.specs.Inner.PackedNodes.{nodes_in}
+use Rattle.tree.specs.Inner.PackedNodes.{nodes_in, counted_nodes, counted_words}
 use Rattle.tree.specs.declared.nodes.Node.{Node as CodeNode}
 use Rattle.tree.specs.declared.nodes.Tree.{Tree as CodeTree}
+use Rattle.tree.proofs.PackedWords.{nodes_many}
+use Rattle.tree.proofs.TreeNodes.{counted_in}
 use Rattle.letters.specs.Inner.Names.{carried_maps}
 use Rattle.letters.specs.declared.follow.Maps.{Maps}
 
@@ -65,15 +66,12 @@ unfolding carried_to
 carried_small nodes chosen j h = lt_of_lt_of_le (collect_lt j _) (pow_mono h)
 
 -- all nodes
-carried_all : (nodes : List CodeNode) (chosen count : ℕ) → count ≤ length nodes
-    → carried_to nodes chosen count ≡ carried (map (λ x. x.old) (take count nodes)) chosen
+carried_all : (nodes : List CodeNode) (chosen : ℕ) → carried_to nodes chosen (length nodes) ≡ carried (map (λ x. x.old) nodes) chosen
 unfolding carried carried_to
-carried_all nodes chosen count h =
-    let olds : List ℕ = map (λ (x : CodeNode). x.old) (take count nodes) in
-    let many : length olds ≡ count = length-map (take count nodes) (λ (x : CodeNode). x.old) ∙ length-take-le count nodes h in
-    sym (ap (λ (n : ℕ). collect n (λ i. member chosen (get_or olds i 0))) many
-    ∙ collect_ext count _ _ (λ i l. ap (member chosen) (get_or-map (λ (x : CodeNode). x.old) (take count nodes) i blank_node
-    ∙ ap (λ (x : CodeNode). x.old) (get_or-take count nodes i blank_node l))))
+carried_all nodes chosen =
+    let olds : List ℕ = map (λ (x : CodeNode). x.old) nodes in
+    sym (ap (λ (n : ℕ). collect n (λ i. member chosen (get_or olds i 0))) (length-map nodes (λ (x : CodeNode). x.old))
+    ∙ collect_ext (length nodes) _ _ (λ i l. ap (member chosen) (get_or-map (λ (x : CodeNode). x.old) nodes i blank_node)))
 
 -- TWO MAPS IN ONE WORD
 
@@ -120,14 +118,17 @@ both_more nodes m j hk hw h x is shift e =
     ∙ rw (add-one, is, carried_more nodes kept j, carried_more nodes seen j))
 
 -- both after all nodes
-pub both_all : (x : CodeTree) (m : Maps) → x.count ≤ 16 → x.count ≤ length (nodes_in x.nodes)
-    → let word = both_to (nodes_in x.nodes) m x.count in record { kept = word % 2 ^ 16; witnesses = word / 2 ^ 32 % 2 ^ 16 } ≡ carried_maps x m
+pub both_all : (x : CodeTree) (m : Maps) (words : List ℕ) → length words ≤ 16 → words ≡ counted_words x
+    → let word = both_to (nodes_in words) m (length words) in record { kept = word % 2 ^ 16; witnesses = word / 2 ^ 32 % 2 ^ 16 } ≡ carried_maps x m
 unfolding carried_maps
-both_all x m few h =
-    let nodes = nodes_in x.nodes in
-    let kept = carried_to nodes m.kept x.count in
-    let seen = carried_to nodes m.witnesses x.count in
-    let small : kept < 2 ^ 16 = carried_small nodes m.kept x.count few in
+both_all x m words few are =
+    let nodes = nodes_in words in
+    let many : length nodes ≡ length words = nodes_many words refl in
+    let kept = carried_to nodes m.kept (length words) in
+    let seen = carried_to nodes m.witnesses (length words) in
+    let all : nodes ≡ counted_nodes x = ap nodes_in are ∙ counted_in x in
+    let carries : (chosen : ℕ) → carried_to nodes chosen (length words) ≡ carried (map (λ x. x.old) (counted_nodes x)) chosen =
+    λ chosen. rw (← many, ← all) (carried_all nodes chosen) in
     let parts : (both kept seen % 2 ^ 16 ≡ kept) × (both kept seen / 2 ^ 32 % 2 ^ 16 ≡ seen) =
-    (omega arith, omega (arith, carried_small nodes m.witnesses x.count few)) in
-    rw (← carried_all nodes m.kept x.count h, ← carried_all nodes m.witnesses x.count h, parts.0, parts.1)
+    (omega (arith, carried_small nodes m.kept (length words) (omega arith)), omega (arith, carried_small nodes m.kept (length words) (omega arith), carried_small nodes m.witnesses (length words) (omega arith))) in
+    rw (parts.0, parts.1, carries m.kept, carries m.witnesses)

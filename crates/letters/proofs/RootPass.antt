@@ -3,13 +3,14 @@ use mathlib.Core.Path.{◌≡◌, refl, sym, ◌∙◌, ap}
 use mathlib.Core.Bool.{Bool, true, false, cond}
 use mathlib.Core.List.{List, [], ◌∷◌, ◌++◌}
 use Prim.Native.Nat.{ℕ, suc, ◌+◌, ◌*◌, ◌/◌, ◌%◌, ◌^◌, ◌≤◌, ◌<◌}
-use native.Mathlib.Decide.{dec_le, dec_lt}
+use native.Mathlib.Decide.{dec_le}
 use native.Mathlib.Numerals.{add-one}
 use native.Mathlib.Omega.{arith}
-use borrow.Author.Tests.{eqb-true, eqb-false, ne_eqb}
+use borrow.Author.Tests.{eqb-true, eqb-false}
 use lib.Dec.{eqb}
 use lib.ListN.{length, get_or, take, drop, length-take, length-drop, take-append-drop}
 use lib.Seq.{take-suc, take-take, take-add}
+use Rattle.std.specs.Int.{from_bool}
 use Rattle.base.specs.Lists.{Every}
 use Rattle.base.proofs.Every.{append_every}
 use Rattle.rule.specs.Limits.{max_letters, max_sets}
@@ -17,17 +18,13 @@ use Rattle.rule.specs.Inner.Lookup.{Lookup}
 use Rattle.word.specs.Inner.WalkLookups.{Lookups}
 use Rattle.history.specs.Inner.Root.{Root}
 use Rattle.history.proofs.Root.RootLetter.{settled_active}
-use Rattle.letters.specs.Inner.RootPass.{root_by, roots_by, Passable, AloneAt, LastAlone, place_in, root_in, root_found}
+use Rattle.letters.specs.Inner.RootPass.{root_by, roots_by, Passable, AloneAt, place_in, root_in}
 
 -- A PLACE AND ITS ROOT IN ONE WORD
 
 -- the word that the code makes
 abbrev pub alone_word : ℕ → Root → ℕ
-alone_word place r = place * 4294967296 + cond r.accepted 1 0 * 16777216 + r.active * 65536 + r.label
-
-pub bit_small : (b : Bool) → cond b 1 0 ≤ 1
-bit_small true = omega arith
-bit_small false = omega arith
+alone_word place r = place * 4294967296 + from_bool r.accepted * 16777216 + r.active * 65536 + r.label
 
 -- a root as it stands where it is alone
 abbrev pub childless : Root → Root
@@ -74,21 +71,21 @@ pub record PassedUpTo (lookups : Lookups) (k : ℕ) (w : List ℕ) (first : Root
   pub upto : at ≤ length w
   pub root : r ≡ roots_by lookups k (take at w) first
   pub active : r.active ≤ max_sets
-  pub found : LastAlone lookups k w first at (place_in last) (root_found last first)
+  pub here : 0 < place_in last → AloneAt lookups k w first (place_in last) (root_in last)
+  pub within : place_in last ≤ at
+  pub latest : (i : ℕ) → place_in last < i → i ≤ at → (roots_by lookups k (take i w) first).kids ≡ 0 → ⊥
 
 module _ (lookups : Lookups) (k : ℕ) (w : List ℕ) (first : Root) (can : Passable k w first) where
   -- at the start
   pub passed_none : PassedUpTo lookups k w first 0 first 0
-  unfolding roots_by place_in root_found
+  unfolding roots_by place_in
   passed_none = record {
     upto = omega arith;
     root = refl;
     active = can.active;
-    found = record {
-      here = record { upto = omega arith; root = refl; alone = λ h. absurd (omega arith) };
-      within = omega arith;
-      last = λ i low high. absurd (omega arith);
-    };
+    here = λ some. absurd (omega arith);
+    within = omega arith;
+    latest = λ i low high. absurd (omega arith);
   }
 
   -- a letter more: the place behind it is the last one, or the one before
@@ -96,35 +93,37 @@ module _ (lookups : Lookups) (k : ℕ) (w : List ℕ) (first : Root) (can : Pass
       → (next : Root) → next ≡ root_by (get_or lookups (get_or w at 0) []) k r
       → (here : ℕ) → (place_in here ≡ at + 1) × (root_in here ≡ childless next)
       → PassedUpTo lookups k w first (at + 1) next (cond (eqb next.kids 0) here last)
-  unfolding root_found
-  passed_more at r last v h next is here (place, root) = record {
-    upto = omega arith;
-    root = reads;
-    active = rw is (root_fits (get_or lookups (get_or w at 0) []) k r can.sets v.active);
-    found = go (eqb next.kids 0) refl;
-  }
+  passed_more at r last v h next is here (place, root) = go (eqb next.kids 0) refl
     where
       reads : next ≡ roots_by lookups k (take (at + 1) w) first
       reads = is ∙ rw (v.root, add-one) (sym (roots_more lookups k w at first h))
 
-      go : (none : Bool) → eqb next.kids 0 ≡ none
-          → LastAlone lookups k w first (at + 1) (place_in (cond none here last)) (root_found (cond none here last) first)
+      fits : next.active ≤ max_sets
+      fits = rw is (root_fits (get_or lookups (get_or w at 0) []) k r can.sets v.active)
+
+      go : (none : Bool) → eqb next.kids 0 ≡ none → PassedUpTo lookups k w first (at + 1) next (cond none here last)
       go true e =
           let none : next.kids ≡ 0 = eqb-true next.kids 0 e in
-          let found : root_found here first ≡ next = rw (place, ne_eqb (at + 1) 0 (λ z. omega arith), root) (childless_is next none) in
-          rw (found, place) (record {
-            here = record { upto = omega arith; root = reads; alone = λ some. none };
-            within = omega arith;
-            last = λ i low high. absurd (omega arith);
-          })
+          let there : root_in here ≡ next = root ∙ childless_is next none in
+          record {
+            upto = omega arith;
+            root = reads;
+            active = fits;
+            here = λ some. rw (there, place) (record { some = omega arith; upto = omega arith; root = reads; alone = none });
+            within = omega (arith, place);
+            latest = λ i low high. absurd (omega (arith, place));
+          }
       go false e = record {
-        here = v.found.here;
-        within = omega (arith, v.found.within);
-        last = λ i low high none. later i low high none (dec_le i at);
+        upto = omega arith;
+        root = reads;
+        active = fits;
+        here = v.here;
+        within = omega (arith, v.within);
+        latest = λ i low high none. later i low high none (dec_le i at);
       }
         where
           later : (i : ℕ) → place_in last < i → i ≤ at + 1 → (roots_by lookups k (take i w) first).kids ≡ 0 → Dec (i ≤ at) → ⊥
-          later i low high none (yes before) = v.found.last i low before none
+          later i low high none (yes before) = v.latest i low before none
           later i low high none (no after) = let same : i ≡ at + 1 = omega arith in
               eqb-false next.kids 0 e (ap (λ (x : Root). x.kids) reads ∙ (rw same at none))
 
@@ -141,11 +140,7 @@ module _ (lookups : Lookups) (k : ℕ) (w : List ℕ) (first : Root) (can : Pass
   parts_small : Every (λ a. a < max_letters) (take n w) × Every (λ a. a < max_letters) (drop n w)
   parts_small = append_every (λ a. a < max_letters) (take n w) (drop n w) (rw (take-append-drop n w) can.letters)
 
-  -- a first part can be read, and what is behind it, from the root there
-  pub front_passable : Passable k (take n w) first
-  front_passable =
-      record { sets = can.sets; active = can.active; letters = parts_small.0; short = omega (arith, can.short, length-take n w) }
-
+  -- what is behind a first part can be read from the root there
   pub rest_passable : (place : ℕ) (r : Root) → r ≡ roots_by lookups k (take place w) first → Passable k (drop n w) r
   rest_passable place r is = record {
     sets = can.sets;
@@ -160,25 +155,20 @@ module _ (lookups : Lookups) (k : ℕ) (w : List ℕ) (first : Root) where
   alone_front n place r v =
       let low : place ≤ n = omega (arith, v.upto, length-take n w) in
       record {
+        some = v.some;
         upto = omega (arith, v.upto, length-take n w);
         root = v.root ∙ ap (λ (l : List ℕ). roots_by lookups k l first) (take-take place n w low);
         alone = v.alone;
       }
 
   -- a place behind a place
-  pub alone_behind : (n place : ℕ) (there r : Root) → AloneAt lookups k w first n there → 0 < n
+  pub alone_behind : (n place : ℕ) (there r : Root) → AloneAt lookups k w first n there
       → AloneAt lookups k (drop n w) there place r → AloneAt lookups k w first (n + place) r
   unfolding roots_by
-  alone_behind n place there r v some b = record {
+  alone_behind n place there r v b = record {
+    some = omega (arith, v.some);
     upto = omega (arith, v.upto, b.upto, length-drop n w);
     root = b.root ∙ rw v.root (sym (roots_append lookups k (take n w) (take place (drop n w)) first)
         ∙ ap (λ (l : List ℕ). roots_by lookups k l first) (sym (take-add n place w)));
-    alone = λ _. childless_there (dec_lt 0 place);
+    alone = b.alone;
   }
-    where
-      childless_there : Dec (0 < place) → r.kids ≡ 0
-      childless_there (yes further) = b.alone further
-      childless_there (no here) =
-          let none : place ≡ 0 = omega arith in
-          let same : roots_by lookups k (take place (drop n w)) there ≡ there = rw none in
-          ap (λ (x : Root). x.kids) (b.root ∙ same) ∙ v.alone some

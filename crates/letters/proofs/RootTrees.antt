@@ -1,13 +1,16 @@
 -- Letters read for the root alone, in terms of trees: the root in place is that of the tree, it goes on by look-ups as by the rule, and
 -- where it is alone it is the tree.
 use mathlib.Core.Path.{◌≡◌, refl, sym, ◌∙◌, ap}
-use mathlib.Core.Bool.{false}
+use mathlib.Core.Bool.{Bool, true, false, not}
 use mathlib.Core.List.{List, [], ◌∷◌, ◌++◌, map, append-nil}
 use Prim.Native.Nat.{ℕ, ◌≤◌, ◌<◌}
 use native.Mathlib.Omega.{arith}
 use borrow.Author.Tests.{eq-eqb, ne_eqb}
-use lib.ListN.{length, get_or, set, take, get_or-map}
-use lib.Seq.{take-suc-set, get_or-take}
+use lib.Dec.{eqb}
+use lib.ListN.{length, get_or, take, get_or-map}
+use lib.Seq.{get_or-take}
+use Rattle.std.specs.Int.{from_bool}
+use Rattle.std.specs.Prelude.{Some, None}
 use Rattle.base.specs.Lists.{Every}
 use Rattle.base.proofs.Every.{every_weaker}
 use Rattle.rule.specs.Limits.{max_letters}
@@ -26,12 +29,9 @@ use Rattle.history.proofs.Walk.TreesOfWalk.{read_append}
 use Rattle.history.proofs.Root.RootLetter.{settled_active}
 use Rattle.history.proofs.Root.RootLetters.{read_alone, root_maps_lem}
 use Rattle.tree.specs.Inner.Nodes.{nodes_from, nodes_of, without_old, AreNodes, HoldsTree, blank_node}
-use Rattle.tree.specs.Inner.PackedNodes.{unpacked, nodes_in, counted_nodes}
-use Rattle.tree.specs.Inner.Sides.{tree_on, TwoSides}
+use Rattle.tree.specs.Inner.PackedNodes.{nodes_in, counted_nodes}
 use Rattle.tree.specs.declared.nodes.Node.{Node as CodeNode}
 use Rattle.tree.specs.declared.nodes.Tree.{Tree as CodeTree}
-use Rattle.tree.proofs.PackedWords.{node_written}
-use Rattle.tree.proofs.TreeNodes.{side_nodes, side_written, sides_long}
 use Rattle.letters.specs.Inner.Reading.{HasSets, Readable, ReadsTo}
 use Rattle.letters.specs.Inner.Names.{Follows, FollowsOn, FollowsTo}
 use Rattle.letters.specs.Inner.RootPass.{root_as, root_by, roots_by, Passable, AloneAt, root_on, IsLone, root_maps, SkipsTo}
@@ -44,31 +44,15 @@ use Rattle.letters.specs.declared.root.Root.{Root as CodeRoot}
 abbrev pub lone_node : CodeRoot → CodeNode
 lone_node root = record { depth = 0; label = root.label; kids = 0; active = root.active; old = 0 }
 
-module _ (sides : List (List ℕ)) (side : ℕ) (arrays : TwoSides sides) (on : side < 2)
-    (root : CodeRoot) (word : ℕ) (is : unpacked word ≡ lone_node root) where
-  abbrev laid : List (List ℕ)
-  laid = set sides side (set (get_or sides side []) 0 word)
-
-  -- of a root without states
-  pub laid_dead : root.label ≡ 0 → TwoSides laid × IsLone (root_as root) (tree_on laid (record { side = side; count = 0 }))
-  unfolding lone_tree size nodes_of nodes_from
-  laid_dead none = (sides_long arrays side on 0 word, record { counts = rw (eq-eqb _ 0 none); are = rw (eq-eqb _ 0 none) })
-
-  -- and of another
-  pub laid_alive : (root.label ≡ 0 → ⊥) → TwoSides laid × IsLone (root_as root) (tree_on laid (record { side = side; count = 1 }))
-  unfolding lone_tree size nodes_of nodes_from labels
-  laid_alive some = (
-    sides_long arrays side on 0 word,
-    record {
-      counts = rw (ne_eqb _ 0 some);
-      are = rw (
-        ne_eqb _ 0 some,
-        side_written arrays side on 0 word,
-        node_written (get_or sides side []) 0 word is,
-        take-suc-set (nodes_in (get_or sides side [])) 0 (lone_node root) (omega (arith, side_nodes (arrays, on))),
-      ) refl;
-    },
-  )
+-- it is the root's, and there is none where the root has no states
+pub laid_alone : (root : CodeRoot) (x : CodeTree) (count : ℕ) → count ≡ from_bool (not (eqb root.label 0)) → x.count ≡ count
+    → counted_nodes x ≡ take count (lone_node root ∷ []) → IsLone (root_as root) x
+unfolding lone_tree size nodes_of nodes_from labels
+laid_alone root x count one counts nodes = go (eqb root.label 0) refl
+  where
+    go : (none : Bool) → eqb root.label 0 ≡ none → IsLone (root_as root) x
+    go true e = record { counts = counts ∙ one ∙ rw e refl; are = rw (nodes, one, e) refl }
+    go false e = record { counts = counts ∙ one ∙ rw e refl; are = rw (nodes, one, e) refl }
 
 -- THE ROOT OF A TREE IN PLACE
 
@@ -147,9 +131,9 @@ root_passable lookups k w x (R, T, reads) short r is =
       short = short;
     }
 
--- at place 0 nothing has changed
-pub skips_none : (lookups : Lookups) (k : ℕ) (w : List ℕ) (x : CodeTree) → SkipsTo lookups k w x x 0 false
-unfolding ReadsTo FollowsTo root_maps read_letters
+-- where nothing is skipped nothing has changed
+pub skips_none : (lookups : Lookups) (k : ℕ) (w : List ℕ) (x : CodeTree) → SkipsTo lookups k w x x None
+unfolding ReadsTo FollowsTo read_letters
 skips_none lookups k w x = record {
   upto = omega arith;
   reads = λ R T reads. reads.tree;
@@ -158,7 +142,7 @@ skips_none lookups k w x = record {
 
 -- where the root is alone, the tree is that root, and only it is left to follow
 module _ (lookups : Lookups) (k : ℕ) (w : List ℕ) (x y : CodeTree) (place : ℕ) (r : Root) (alone : AloneAt lookups k w (root_on x) place r)
-    (some : 0 < place) (lone : IsLone r y) where
+    (lone : IsLone r y) where
   module _ {R : Rule} {T : Tree} (holds : HasSets R k) (has : Every (HasLookup R lookups) (take place w)) (tree : HoldsTree R T x) where
     abbrev shown : Shows (root_on x) T × (1 ≤ (root_on x).active) × ((root_on x).active ≤ R.sets) × ((root_on x).accepted ≡ false)
     shown = root_shown holds.limits.some_set tree
@@ -167,7 +151,7 @@ module _ (lookups : Lookups) (k : ℕ) (w : List ℕ) (x y : CodeTree) (place : 
     root_there = alone.root ∙ roots_are R lookups k holds (take place w) has (root_on x) shown.1 shown.2
 
     none_there : (root_letters R (take place w) (root_on x)).kids ≡ 0
-    none_there = rw (← root_there) (alone.alone some)
+    none_there = rw (← root_there) alone.alone
 
     tree_there : HoldsTree R (read_letters R (take place w) T) y
     tree_there =
@@ -178,8 +162,8 @@ module _ (lookups : Lookups) (k : ℕ) (w : List ℕ) (x y : CodeTree) (place : 
           are = rw (read, ← root_there) lone.are;
         }
 
-  pub skips_alone : SkipsTo lookups k w x y place r.accepted
-  unfolding ReadsTo FollowsTo root_maps
+  pub skips_alone : SkipsTo lookups k w x y (Some (record { place = place; accepted = r.accepted }))
+  unfolding ReadsTo FollowsTo
   skips_alone = record {
     upto = alone.upto;
     reads = λ R T reads. tree_there reads.holds reads.has_lookups reads.tree;
@@ -187,7 +171,7 @@ module _ (lookups : Lookups) (k : ℕ) (w : List ℕ) (x y : CodeTree) (place : 
   }
     where
       followed : (m : Maps) (R : Rule) (T : Tree) (before : List ℕ) → FollowsOn R T before lookups k (take place w) x m
-          → Follows R T (before ++ take place w) y (root_maps place y.count r.accepted m)
+          → Follows R T (before ++ take place w) y (root_maps (Some (record { place = place; accepted = r.accepted })) y.count m)
       followed m R T before F =
           let limits = F.holds.limits in
           let tree = F.follows.tree in
@@ -195,9 +179,9 @@ module _ (lookups : Lookups) (k : ℕ) (w : List ℕ) (x y : CodeTree) (place : 
           let first = root_shown limits.some_set tree in
           let (kept, witnesses) = root_maps_lem R limits.well limits.some_set T F.follows.first before (take place w) (root_on x)
           first.0 first.3 (none_there F.holds F.has_lookups tree) in
-          rw (ne_eqb place 0 (λ e. omega arith)) (record {
+          record {
             first = F.follows.first;
             tree = rw read_append (tree_there F.holds F.has_lookups tree);
             kept = lone.counts ∙ rw there (sym kept);
             witnesses = rw (F.follows.witnesses, lone.counts, there) (sym witnesses);
-          })
+          }

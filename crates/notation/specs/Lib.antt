@@ -4,5 +4,3 @@ pub mod Decimal
 pub mod Hexadecimal
 pub mod OneLine
 pub mod Testing
--- Inside: what the contracts of inner functions cite.
-pub mod Inner

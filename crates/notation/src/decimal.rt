@@ -1,73 +1,38 @@
 // Digits, and numbers in decimal.
 ghost use Rattle.std.specs.Prelude.{◌≡◌};
-ghost use Rattle.std.proofs.Math.Option.{none};
-ghost use Rattle.notation.specs.Decimal.{decimal_within, digit_value, number_answer};
+ghost use Rattle.notation.specs.Decimal.{decimal_within, digit_value};
 ghost use Rattle.notation.specs.Testing.{HasNumbers, Tests};
 
 use crate::lines::{part, separators};
 
-// The largest number that is read.
-pub const LARGEST: u64 = 18446744073709551615;
-
-// A number, and whether the text was one.
-#[derive(Clone, Copy)]
-pub struct Number {
-    pub value: u64,
-    pub right: bool,
-}
-
-fn wrong() -> Number
-    ensures { result ≡ number_answer none }
-{
-    Number {
-        value: 0,
-        right: false,
-    }
-}
-
-// The value of a hexadecimal digit; 16 for any other letter.
-pub fn digit(letter: u8) -> u8
+// The value of a hexadecimal digit; nothing for any other letter.
+#[tactic(auto, unfolding(crate::specs::Decimal::digit_value))]
+pub fn digit(letter: u8) -> Option<u8>
     ensures { result ≡ digit_value letter }
 {
-    if letter < b'0' {
-        return 16;
+    match letter {
+        b'0'..=b'9' => Some(letter - b'0'),
+        b'a'..=b'f' => Some(10 + (letter - b'a')),
+        _ => None,
     }
-    if letter <= b'9' {
-        return letter - b'0';
-    }
-    if letter < b'a' {
-        return 16;
-    }
-    if letter <= b'f' {
-        return 10 + (letter - b'a');
-    }
-    16
 }
 
 // The number that a text has in decimal, if it is no larger than a limit.
-pub fn number_of(text: &[u8], limit: u64) -> Number
-    ensures { result ≡ number_answer (decimal_within limit text.now) }
+pub fn number_of(text: &[u8], limit: u64) -> Option<u64>
+    ensures { result ≡ decimal_within limit text.now }
 {
+    if text.is_empty() {
+        return None;
+    }
     let mut value = 0u64;
-    let mut at = 0usize;
-    while at < text.len() {
-        let units = digit(text[at]) as u64;
+    for letter in text {
+        let units = digit(*letter)?;
         if 9 < units {
-            return wrong();
+            return None;
         }
-        if limit < units {
-            return wrong();
-        }
-        if (limit - units) / 10 < value {
-            return wrong();
-        }
-        value = 10 * value + units;
-        at += 1;
+        value = value.checked_mul(10)?.checked_add(u64::from(units))?;
     }
-    Number {
-        value: value,
-        right: 0 < text.len(),
-    }
+    if limit < value { None } else { Some(value) }
 }
 
 // Does a text have just these numbers, with one space between two?
@@ -78,16 +43,10 @@ pub fn numbers_are(text: &[u8], numbers: &[u64]) -> bool
     if numbers.len() <= spaces {
         return false;
     }
-    let mut at = 0usize;
-    while at < numbers.len() {
-        let number = number_of(part(text, b' ', at), LARGEST);
-        if !number.right {
+    for (at, number) in numbers.iter().enumerate() {
+        if number_of(part(text, b' ', at), u64::MAX) != Some(*number) {
             return false;
         }
-        if number.value != numbers[at] {
-            return false;
-        }
-        at += 1;
     }
     true
 }

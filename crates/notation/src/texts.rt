@@ -1,28 +1,19 @@
 // Texts on one line: each newline is written as `\n`.
-ghost use Rattle.std.specs.Prelude.{◌≡◌};
+ghost use Rattle.std.specs.Prelude.{◌≡◌, ◌++◌, List, MatchOption, ℕ};
 ghost use Rattle.notation.specs.OneLine.{on_one_line, written};
-ghost use Rattle.notation.specs.Inner.LineFront.{Fronts};
 ghost use Rattle.notation.specs.Testing.{Tests};
 
 use crate::lines::NEWLINE;
 
-// How many letters at the front of a line stand for this one: two, `\n`, for a newline; 0 where others stand there.
-fn letters_for(letter: u8, line: &[u8]) -> usize
-    ensures { Fronts (written letter) line.now result }
+// What follows the letters that stand for this one at the front of a line: two, `\n`, for a newline; nothing where others stand there.
+fn behind(letter: u8, line: &[u8]) -> Option<&[u8]>
+    ensures { MatchOption result ((rest : List ℕ) → line.now ≡ written letter ++ rest → ⊥) (λ rest. line.now ≡ written letter ++ rest.now) }
 {
-    if line.len() == 0 {
-        return 0;
+    if letter == NEWLINE {
+        line.strip_prefix(b"\\n")
+    } else {
+        line.strip_prefix(&[letter])
     }
-    if letter != NEWLINE {
-        return if line[0] == letter { 1 } else { 0 };
-    }
-    if line.len() == 1 {
-        return 0;
-    }
-    if line[0] != b'\\' {
-        return 0;
-    }
-    if line[1] == b'n' { 2 } else { 0 }
 }
 
 // Is this the text that a line has?
@@ -30,14 +21,11 @@ pub fn text_is(line: &[u8], text: &[u8]) -> bool
     ensures { Tests result (line.now ≡ on_one_line text.now) }
 {
     let mut rest = line;
-    let mut at = 0usize;
-    while at < text.len() {
-        let count = letters_for(text[at], rest);
-        if count == 0 {
+    for letter in text {
+        let Some(more) = behind(*letter, rest) else {
             return false;
-        }
-        rest = &rest[count..];
-        at += 1;
+        };
+        rest = more;
     }
-    rest.len() == 0
+    rest.is_empty()
 }

@@ -1,38 +1,27 @@
 -- Letters read by their look-ups (specs/Inner/Letters.antt), as the code's loops read them.
 use mathlib.Core.Path.{◌≡◌, refl, sym, ◌∙◌, ap, ap₂}
 use mathlib.Core.Bool.{Bool, true, false, cond}
-use mathlib.Core.List.{List, []}
+use mathlib.Core.List.{List}
 use Prim.Native.Nat.{ℕ, suc, ◌+◌, ◌^◌, ◌≤◌, ◌<◌}
 use native.Mathlib.Decide.{ℕ_discrete}
-use native.Mathlib.Numerals.{add-one}
 use native.Mathlib.Omega.{arith}
 use borrow.Author.Tests.{ne_eqb}
 use lib.Bits.{bit_or, or_zero_r}
-use lib.ListN.{length, get_or, drop}
-use lib.Seq.{drop-cons, drop-length}
+use lib.ListN.{length, get_or}
 use Rattle.base.specs.BitSet.{member}
+use Rattle.base.specs.Lists.{Every}
 use Rattle.base.proofs.BitSet.{member_none, union_assoc}
+use Rattle.base.proofs.Every.{every_at}
 use Rattle.base.proofs.Logic.{clash}
-use Rattle.rule.specs.Limits.{max_sets}
+use Rattle.rule.specs.Limits.{max_letters, max_sets}
 use Rattle.rule.specs.Inner.Lanes.{lane_width, map_of, word_of, each_lane, lanes_with, in_lane, in_lanes}
 use Rattle.rule.specs.Inner.Lookup.{Lookup, images_by, look_up}
 use Rattle.rule.proofs.LaneLaws.{map_lt, map_union, lane_zero, word_of_ext, word_of_one, word_of_at, word_of_more, stands, stands_none, lanes_with_lem, in_lanes_lem, in_lanes_none, in_lanes_at}
-use Rattle.word.specs.Inner.WalkLookups.{Lookups}
-use Rattle.plain.specs.Inner.Letters.{over, onward, extended}
+use Rattle.plain.specs.Inner.Letters.{onward, extended}
 
--- LETTER BY LETTER
-
-module _ (f : Lookup → ℕ → ℕ) (lookups : Lookups) (w : List ℕ) (at x : ℕ) where
-  -- at the end of the letters
-  pub over_done : length w ≤ at → at ≤ length w → over f lookups (drop at w) x ≡ x
-  unfolding over
-  over_done all within = let e : at ≡ length w = omega arith in rw (e, drop-length w)
-
-  -- one letter more
-  pub over_more : (next : ℕ) → at < length w → next ≡ f (get_or lookups (get_or w at 0) []) x
-      → over f lookups (drop (at + 1) w) next ≡ over f lookups (drop at w) x
-  unfolding over
-  over_more next small e = rw (add-one, drop-cons w at 0 small, e)
+-- a letter of a word whose letters are within the limit
+pub letter_small : (w : List ℕ) (i : ℕ) → Every (λ a. a < max_letters) w → i < length w → get_or w i 0 < max_letters
+letter_small w i small inside = every_at (λ a. a < max_letters) w i 0 small inside
 
 -- A LETTER BEHIND A ROW
 

@@ -1,4 +1,3 @@
-pub mod RowLaws
 pub mod LetterLaws
 pub mod RoundRows
 pub mod WayLaws

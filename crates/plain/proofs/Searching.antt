@@ -1,19 +1,25 @@
 -- The search for a loop (specs/Inner/Search.antt), as the code makes it.
-use mathlib.Core.Path.{◌≡◌, sym, ◌∙◌, ap}
+use mathlib.Core.Path.{◌≡◌, refl, sym, ◌∙◌, ap}
 use mathlib.Core.Logic.{inl, inr, ⊎_elim}
-use mathlib.Core.Bool.{true, ◌&&◌, ◌||◌}
+use mathlib.Core.Bool.{Bool, true, false, ◌&&◌, ◌||◌}
 use mathlib.Core.List.{List}
-use Prim.Native.Nat.{ℕ, zero, suc, ◌*◌, ◌/◌, ◌%◌, ◌^◌, ◌<◌}
+use Prim.Native.Nat.{ℕ, zero, suc, ◌*◌, ◌/◌, ◌%◌, ◌^◌, ◌≤◌, ◌<◌}
 use native.Mathlib.Decide.{ℕ_discrete}
 use native.Mathlib.Omega.{arith}
-use lib.ListN.{get_or}
+use borrow.Author.Tests.{eqb-true, eq-eqb}
+use lib.ListN.{length, get_or}
+use Rattle.std.specs.Bool.{MatchBool}
+use Rattle.std.specs.List.{AllWithin, HoldsAt, range_with_len}
+use Rattle.std.specs.Prelude.{◌↔◌}
+use Rattle.std.proofs.lemmas.List.FromFn.{length-range_with_len, get_or-range_with_len}
 use Rattle.base.specs.BitSet.{member}
 use Rattle.base.proofs.BitSet.{bit_member, member_none, member_union}
-use Rattle.base.proofs.Logic.{and_both, and_in, or_l, or_r, or_in}
-use Rattle.rule.specs.Inner.Lanes.{map_of}
-use Rattle.rule.proofs.LaneLaws.{kept, kept_in}
+use Rattle.base.proofs.Logic.{clash, and_both, and_in, or_l, or_r, or_in}
+use Rattle.rule.specs.Inner.Lanes.{lane_width, map_of, each_lane, lanes_with}
+use Rattle.rule.specs.Limits.{max_sets}
+use Rattle.rule.proofs.LaneLaws.{kept, kept_in, each_out, each_in}
 use Rattle.plain.specs.Inner.Ways.{ways}
-use Rattle.plain.specs.Inner.Search.{reached, Reaches}
+use Rattle.plain.specs.Inner.Search.{reached, Reaches, SomeLasso}
 
 -- THE STATES REACHED
 
@@ -47,3 +53,37 @@ module _ (rows : List ℕ) (from t : ℕ) where
       go (yes e) below = or_r (member (reached n rows from) t) _
           (next_at n ∙ and_both (member from n) (ways rows n t 0) (rw e at m) (rw e at w))
       go (no other) below = or_l (member (reached n rows from) t) _ (below (omega arith))
+
+-- THE SEARCH
+
+-- what the search among the states below n answers, where each of them is tested for P
+pub some_below : (n : ℕ) (P : ℕ → Type 0) (found : Bool)
+    → MatchBool found ((k : ℕ) × (k < length (range_with_len 0 n)) × HoldsAt P (range_with_len 0 n) k)
+    (AllWithin (λ t. P t → ⊥) (range_with_len 0 n) 0 (length (range_with_len 0 n)))
+    → (found ≡ true) ↔ ((t : ℕ) × (t < n) × P t)
+some_below n P true (k, k-lt, h) =
+    let small : k < n = omega (arith, length-range_with_len 0 n) in
+    let at : get_or (range_with_len 0 n) k 0 ≡ k = get_or-range_with_len 0 n k 0 small ∙ omega arith in
+    (λ _. (k, small, rw at at (h 0)), λ _. refl)
+some_below n P false none = (
+  λ no. clash refl no,
+  λ (t, t-lt, h).
+      let at : get_or (range_with_len 0 n) t 0 ≡ t = get_or-range_with_len 0 n t 0 t-lt ∙ omega arith in
+      absurd (none t 0 (omega arith) (omega (arith, length-range_with_len 0 n)) (rw at h)),
+)
+
+-- the test of a state: all lanes of its row have it, and it is reached
+abbrev pub Tested : List ℕ → ℕ → ℕ → ℕ → Type 0
+Tested rows full all t = (lanes_with (get_or rows t 0) t full ≡ full) × (all / 2 ^ t % 2 ≡ 1)
+
+-- a state that is tested so has a loop, and one that has a loop is tested so
+pub tested_lasso : (n k from : ℕ) (rows : List ℕ) (full all : ℕ) → n ≤ lane_width → k ≤ max_sets → full ≡ each_lane (suc k) → all ≡ reached n rows from
+    → ((t : ℕ) × (t < n) × Tested rows full all t) ↔ SomeLasso (ways rows) n k from
+unfolding ways member
+tested_lasso n k from rows full all few sets lanes states = (
+  λ (t, t-lt, (own, here)).
+      let stands = each_out _ _ _ (omega arith) (rw lanes at own) in
+      (t, t-lt, (reached_out rows from t n (rw states at (eq-eqb _ _ here)), λ i h. stands i (omega arith))),
+  λ (t, t-lt, (reaches, stands)).
+      (t, t-lt, (rw lanes (each_in _ _ _ (omega arith) (λ i h. stands i (omega arith))), eqb-true _ _ (rw states (reached_in rows from t n reaches)))),
+)

@@ -1,27 +1,25 @@
 // The plain judge. It knows the table and nothing of trees.
-ghost use Rattle.std.specs.Prelude.{◌≡◌};
+ghost use Rattle.std.specs.Prelude.{◌≡◌, ◌↔◌, IsTrue};
+ghost use Rattle.base.specs.Refusals.{refusal_number};
 ghost use Rattle.rule.specs.Rule.{Rule};
 ghost use Rattle.word.specs.Judging.{ask_room};
 ghost use Rattle.word.specs.Keeps.{KeepsByLasso};
 ghost use Rattle.word.specs.Inner.Prepared.{Prepared};
-ghost use Rattle.word.specs.Verdict.{Decides};
 ghost use Rattle.plain.specs.PlainCall.{PlainCall, PlainDone, scratch_length};
 
 use crate::lead::states_after;
 use crate::limits::SCRATCH_LENGTH;
-use crate::rounds::transitive_closure;
+use crate::matrix::Matrix;
 use crate::scratch::clear;
-use crate::search::some_lasso;
-use crate::tail::tail_matrix;
+use base::refusal::Refusal;
 use rule::limits::LETTERS;
 use rule::lookup::ENTRIES;
 use table::header::Header;
-use table::reader::Reading;
 use word::lookups::Lookups;
 use word::questions::walk_questions;
 use word::walk::letters_left;
 
-// The plain judge's answer: 0 and the verdict (1 yes, 0 no), or the number of the question that failed and zero.
+// The plain judge's answer: 0 and the verdict (1 yes, 0 no), or the number of the question that failed and zero. Numbers, since C reads it.
 #[repr(C)]
 #[derive(Clone, Copy)]
 pub struct PlainAnswer {
@@ -29,37 +27,42 @@ pub struct PlainAnswer {
     pub verdict: u8,
 }
 
-// A refusal: its number and zero.
+// A refusal: its number and zero. It is promised for every number, so it stands beside the `From`.
 pub fn plain_refusal(number: u8) -> PlainAnswer
     ensures { result ≡ record { number = number; verdict = 0 } }
 {
-    PlainAnswer {
-        number: number,
-        verdict: 0,
+    PlainAnswer { number, verdict: 0 }
+}
+
+impl From<Refusal> for PlainAnswer {
+    ghost from_gives = { λ refusal answer. answer ≡ record { number = refusal_number refusal; verdict = 0 } };
+
+    fn from(refusal: Refusal) -> PlainAnswer {
+        plain_refusal(refusal.into())
     }
 }
 
 // The verdict on a walk, right for every rule with these numbers and these look-ups of the walk's letters.
-fn walk_verdict<'a>(lookups: &Lookups, header: Header, u: &'a [u8], v: &'a [u8]) -> u8
+fn walk_verdict<'a>(lookups: &Lookups, header: Header, u: &'a [u8], v: &'a [u8]) -> bool
     requires { (R : Rule) × Prepared R header lookups.now u.now v.now }
     ensures { (R : Rule) → Prepared R header lookups.now u.now v.now
-        → Decides result (KeepsByLasso R u.now v.now) }
+        → (IsTrue result ↔ KeepsByLasso R u.now v.now) }
 {
-    let n = header.states;
     // the states that "u" leads to from a starting state
     let lead = letters_left(u, v, false, 0);
     let from = states_after(lookups, header.start, lead);
     // the ways that one tail opens between any two states, then those of one or more tails
     let tail = letters_left(u, v, true, 0);
-    let mut rows = tail_matrix(lookups, tail, n);
-    transitive_closure(&mut rows, n);
+    let mut ways = Matrix::of_tail(lookups, tail, header.states);
+    ways.close();
     // a state s such that "u and i tails lead from a starting state to s, and j further tails lead from s back to s
     // taking at least one transition of each set"
-    some_lasso(&rows, from, n, header.sets)
+    ways.has_lasso(from, header.sets)
 }
 
 // The judge on look-ups that are ready for a walk: question 10 to the scratch bytes, then the verdict. It is right for every rule that the
 // look-ups are of.
+#[tactic(auto, using(crate::proofs::Judging::decides_byte), unfolding(crate::specs::PlainCall::scratch_length, crate::specs::PlainCall::scratch_after))]
 pub fn judge_prepared<'a>(
     lookups: &Lookups,
     header: Header,
@@ -73,24 +76,25 @@ pub fn judge_prepared<'a>(
         result scratch.new }
 {
     if scratch.len() < SCRATCH_LENGTH {
-        return plain_refusal(10);
+        return Refusal::NoRoom.into();
     }
     let verdict = walk_verdict(lookups, header, u, v);
     // "leaves them zero"
     clear(scratch);
     PlainAnswer {
         number: 0,
-        verdict: verdict,
+        verdict: u8::from(verdict),
     }
 }
 
 // THE PLAIN JUDGE: questions 1 to 6 to the table, 7 and 8 to the walk, 10 to the scratch bytes, then the verdict.
+#[tactic(auto, unfolding(crate::specs::PlainCall::plain_outcome, crate::specs::PlainCall::scratch_after, word::specs::Judging::judge_questions))]
 pub fn plain_judge<'a>(table: &[u8], u: &'a [u8], v: &'a [u8], scratch: &mut [u8]) -> PlainAnswer
     ensures { PlainCall table.now u.now v.now scratch.old result scratch.new }
 {
     let mut lookups = [[0u64; ENTRIES]; LETTERS];
     match walk_questions(table, u, v, &mut lookups) {
-        Reading::Refused(number) => plain_refusal(number),
-        Reading::Rule(header) => judge_prepared(&lookups, header, u, v, scratch),
+        Err(refusal) => refusal.into(),
+        Ok(header) => judge_prepared(&lookups, header, u, v, scratch),
     }
 }

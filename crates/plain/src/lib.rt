@@ -4,6 +4,7 @@
 pub mod judge;
 mod lead;
 pub mod limits;
+mod matrix;
 mod rounds;
 mod scratch;
 mod search;

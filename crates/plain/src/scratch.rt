@@ -6,13 +6,10 @@ ghost use Rattle.plain.specs.PlainCall.{scratch_length};
 use crate::limits::SCRATCH_LENGTH;
 
 // "the bytes it wants are still left zero, those past them unchanged".
+#[tactic(auto, unfolding(crate::specs::PlainCall::scratch_length))]
 pub fn clear(scratch: &mut [u8])
     requires { scratch_length ≤ length scratch.old }
     ensures { scratch.new ≡ stored 0 (replicate scratch_length 0) scratch.old }
 {
-    let mut at = 0usize;
-    while at < SCRATCH_LENGTH {
-        scratch[at] = 0;
-        at += 1;
-    }
+    scratch[..SCRATCH_LENGTH].fill(0);
 }

@@ -9,7 +9,7 @@ use lib.Seq.{take_all}
 use Rattle.job.specs.JobCall.{longest_job, text_room, JobAnswer}
 use Rattle.job.specs.declared.call.Text.{Text}
 use Rattle.job.proofs.JobVerdict.{job_determined, job_fits}
-use Rattle.job.proofs.Splitting.{long_refused}
+use Rattle.job.proofs.Splitting.{too_long}
 use Rattle.program.specs.Input.{read_room, InputAnswer}
 
 -- no more than all are taken
@@ -24,7 +24,7 @@ take_least count bytes = go (dec_lt (length bytes) count)
 too_long_alike : (job other : List ℕ) (text : Text) → longest_job < length job → longest_job < length other
     → JobAnswer job text → JobAnswer other text
 unfolding JobAnswer
-too_long_alike job other text long longer A = rw (long_refused other longer) (rw (long_refused job long) at A)
+too_long_alike job other text long longer A = rw (too_long other longer) (rw (too_long job long) at A)
 
 pub input_answered : (read : List ℕ) (text : Text) → JobAnswer read text → InputAnswer read text
 unfolding InputAnswer

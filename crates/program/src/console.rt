@@ -6,7 +6,8 @@ use crate::input::{answer, room};
 use std::io;
 use std::io::{Input, Print, Read, Write};
 
-// Reads until there is no more room or the input ends, and says how many bytes were read.
+// Reads until there is no more room or the input ends, and says how many bytes were read. Of the reader's own methods none does this:
+// `read_exact` fails where the input ends before the room, `read_to_end` needs the heap.
 pub fn read_full<R: Read>(input: &mut R, bytes: &mut [u8]) -> io::Result<usize>
     ensures { IfOk result (λ count. count ≤ length bytes.new) }
 {
@@ -25,8 +26,5 @@ pub fn read_full<R: Read>(input: &mut R, bytes: &mut [u8]) -> io::Result<usize>
 pub fn run<R: Input + Print>(rt: &R) -> io::Result<()> {
     let mut bytes = room();
     let count = read_full(&mut rt.reader(), &mut bytes)?;
-    let text = answer(&bytes, count);
-    let printed = text.bytes;
-    let length = text.length;
-    io::writer(rt).write_all(&printed[..length])
+    io::writer(rt).write_all(answer(&bytes, count).as_bytes())
 }

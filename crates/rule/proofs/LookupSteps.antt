@@ -11,9 +11,9 @@ use native.Mathlib.Omega.{arith}
 use borrow.Author.Tests.{eqb-true, eq-eqb, lt-ltb}
 use lib.Bits.{bit_or, or_zero_l, or_zero_r}
 use lib.Dec.{eqb, ltb}
-use lib.ListN.{length, get_or, set, length-append, length-set, get_or-append}
-use lib.Pow.{pow-add, pow_mono}
-use lib.Seq.{ext_get_or, get_or-append-add, get_or-set_same, get_or-set_other}
+use lib.ListN.{length, get_or, set, take, drop, length-set}
+use lib.Pow.{pow_mono}
+use lib.Seq.{ext_get_or, get_or-set_same, get_or-set_other}
 use Rattle.base.specs.BitSet.{member, collect, some, image}
 use Rattle.base.specs.Lists.{tabulate}
 use Rattle.base.proofs.BitSet.{member_zero, member_suc, member_none, member_single, member_below, union_assoc, union_above, member_collect, collect_ext, some_in, some_out, image_none}
@@ -131,20 +131,14 @@ lookup_made cells are a made = made ∙ ap joined_lookup (rw are (words_at cells
 -- ONE MORE STATE
 
 -- before the first set
-pub added_none : (words : List ℕ) (q : ℕ) (lookup : Lookup) → length lookup ≡ 32 → StateAdded words q 0 lookup lookup
-added_none words q lookup size = record {
-  entries = size;
-  low = λ j h. absurd (omega arith);
-  high = λ j h. absurd (omega arith);
-  others = λ i out. refl;
-}
+pub added_none : (word q : ℕ) (half : List ℕ) → length half ≡ 16 → StateAdded word q 0 half half
+added_none word q half size = record { entries = size; joined = λ j h. absurd (omega arith); others = λ i out. refl }
 
--- one more set: the entries of both halves
-pub added_more : (words : List ℕ) (q made j : ℕ) (before lookup : Lookup) → StateAdded words q j before lookup → made ≡ 2 ^ q → q < 4 → j < made
-    → let first = set lookup (made + j) (bit_or (get_or lookup j 0) (get_or words q 0)) in
-    StateAdded words q (j + 1) before (set first (16 + (made + j)) (bit_or (get_or first (16 + j) 0) (get_or words (4 + q) 0)))
-added_more words q made j before lookup v em hq hj = rw em
-    (record { entries = simp length-set v.entries; low = more_low; high = more_high; others = stay })
+-- one more set
+pub added_more : (word q made j : ℕ) (before half : List ℕ) → StateAdded word q j before half → made ≡ 2 ^ q → q < 4 → j < made
+    → StateAdded word q (j + 1) before (set half (made + j) (bit_or (get_or half j 0) word))
+added_more word q made j before half v em hq hj = rw em
+    (record { entries = length-set half c x ∙ v.entries; joined = more; others = stay })
   where
     c : ℕ
     c = 2 ^ q + j
@@ -153,115 +147,74 @@ added_more words q made j before lookup v em hq hj = rw em
     small = omega (arith, pow-suc 2 q, pow_mono {i = suc q} {j = 4} (omega arith))
 
     x : ℕ
-    x = bit_or (get_or lookup j 0) (get_or words q 0)
+    x = bit_or (get_or half j 0) word
 
-    first : Lookup
-    first = set lookup c x
-
-    y : ℕ
-    y = bit_or (get_or first (16 + j) 0) (get_or words (4 + q) 0)
-
-    last : Lookup
-    last = set first (16 + c) y
-
-    more_low : (i : ℕ) → i < j + 1 → get_or last (2 ^ q + i) 0 ≡ bit_or (get_or before i 0) (get_or words q 0)
-    more_low i h = get_or-set_other first (16 + c) (2 ^ q + i) y 0 (λ e. omega (arith, small)) ∙ go (ℕ_discrete i j)
+    more : (i : ℕ) → i < j + 1 → get_or (set half c x) (2 ^ q + i) 0 ≡ bit_or (get_or before i 0) word
+    more i h = go (ℕ_discrete i j)
       where
-        go : Dec (i ≡ j) → get_or first (2 ^ q + i) 0 ≡ bit_or (get_or before i 0) (get_or words q 0)
-        go (yes e) = rw e (get_or-set_same lookup c x 0 (omega (arith, small, v.entries))
-            ∙ ap (λ (z : ℕ). bit_or z (get_or words q 0)) (v.others j (inl (omega arith))))
-        go (no e) = get_or-set_other lookup c (2 ^ q + i) x 0 (λ z. e (omega arith)) ∙ v.low i (omega arith)
+        go : Dec (i ≡ j) → get_or (set half c x) (2 ^ q + i) 0 ≡ bit_or (get_or before i 0) word
+        go (yes e) = rw e (get_or-set_same half c x 0 (omega (arith, small, v.entries))
+            ∙ ap (λ (z : ℕ). bit_or z word) (v.others j (inl (omega arith))))
+        go (no e) = get_or-set_other half c (2 ^ q + i) x 0 (λ z. e (omega arith)) ∙ v.joined i (omega arith)
 
-    more_high : (i : ℕ) → i < j + 1 → get_or last (16 + (2 ^ q + i)) 0 ≡ bit_or (get_or before (16 + i) 0) (get_or words (4 + q) 0)
-    more_high i h = go (ℕ_discrete i j)
-      where
-        go : Dec (i ≡ j) → get_or last (16 + (2 ^ q + i)) 0 ≡ bit_or (get_or before (16 + i) 0) (get_or words (4 + q) 0)
-        go (yes e) = rw e (get_or-set_same first (16 + c) y 0 (omega (arith, small, length-set lookup c x, v.entries))
-            ∙ ap (λ (z : ℕ). bit_or z (get_or words (4 + q) 0))
-            (get_or-set_other lookup c (16 + j) x 0 (λ z. omega (arith, small)) ∙ v.others (16 + j) (inl (omega arith))))
-        go (no e) = get_or-set_other first (16 + c) (16 + (2 ^ q + i)) y 0 (λ z. e (omega arith))
-            ∙ get_or-set_other lookup c (16 + (2 ^ q + i)) x 0 (λ z. omega (arith, small)) ∙ v.high i (omega arith)
-
-    stay : (i : ℕ) → (i % 16 < 2 ^ q) ⊎ (2 ^ q + (j + 1) ≤ i % 16) → get_or last i 0 ≡ get_or before i 0
-    stay i out = get_or-set_other first (16 + c) i y 0 (λ e. ⊎_elim (λ l. omega (arith, small)) (λ l. omega (arith, small)) out)
-        ∙ get_or-set_other lookup c i x 0 (λ e. ⊎_elim (λ l. omega (arith, small)) (λ l. omega (arith, small)) out)
+    stay : (i : ℕ) → (i < 2 ^ q) ⊎ (2 ^ q + (j + 1) ≤ i) → get_or (set half c x) i 0 ≡ get_or before i 0
+    stay i out = get_or-set_other half c i x 0 (λ e. ⊎_elim (λ l. omega arith) (λ l. omega arith) out)
         ∙ v.others i (⊎_elim inl (λ l. inr (omega arith)) out)
 
 -- ALL STATES
 
--- the first c entries of each half of a letter's look-up are made
-pub record Filled (words : List ℕ) (c : ℕ) (lookup : Lookup) : Type 0 where
-  pub entries : length lookup ≡ 32
-  pub low : (j : ℕ) → j < c → get_or lookup j 0 ≡ joined_word words j
-  pub high : (j : ℕ) → j < c → get_or lookup (16 + j) 0 ≡ joined_word words (16 * j)
+-- the first c entries of a half are made from its states' words
+pub record Filled (words : List ℕ) (c : ℕ) (half : List ℕ) : Type 0 where
+  pub entries : length half ≡ 16
+  pub made : (j : ℕ) → j < c → get_or half j 0 ≡ joined_word words j
 
--- before the first state: the empty set, in both halves
-pub filled_none : (words : List ℕ) (lookup : Lookup) → length lookup ≡ 32 → Filled words (2 ^ 0) (set (set lookup 0 0) 16 0)
-filled_none words lookup size = record { entries = simp length-set size; low = none_low; high = none_high }
-  where
-    none_low : (j : ℕ) → j < 1 → get_or (set (set lookup 0 0) 16 0) j 0 ≡ joined_word words j
-    none_low j h = let e : j ≡ 0 = omega arith in
-        rw e (get_or-set_other (set lookup 0 0) 16 0 0 0 (λ z. omega arith) ∙ get_or-set_same lookup 0 0 0 (omega arith)
-        ∙ sym (joined_none words))
-
-    none_high : (j : ℕ) → j < 1 → get_or (set (set lookup 0 0) 16 0) (16 + j) 0 ≡ joined_word words (16 * j)
-    none_high j h = let e : j ≡ 0 = omega arith in
-        rw e (get_or-set_same (set lookup 0 0) 16 0 0 (omega (arith, length-set lookup 0 0)) ∙ sym (joined_none words))
+-- before the first state: the empty set
+pub filled_none : (words half : List ℕ) → length half ≡ 16 → Filled words (2 ^ 0) (set half 0 0)
+filled_none words half size = record {
+  entries = length-set half 0 0 ∙ size;
+  made = λ j h. let e : j ≡ 0 = omega arith in rw e (get_or-set_same half 0 0 0 (omega arith) ∙ sym (joined_none words));
+}
 
 -- with one more state there are twice as many
-pub filled_more : (words : List ℕ) (q : ℕ) (before after : Lookup) → Filled words (2 ^ q) before → q < 4
-    → StateAdded words q (2 ^ q) before after → Filled words (2 ^ suc q) after
-filled_more words q before after v hq add = record {
-  entries = add.entries;
-  low = λ i h. more_low i h (dec_lt i (2 ^ q));
-  high = λ i h. more_high i h (dec_lt i (2 ^ q));
-}
+pub filled_more : (words : List ℕ) (q : ℕ) (before after : List ℕ) → Filled words (2 ^ q) before
+    → StateAdded (get_or words q 0) q (2 ^ q) before after → Filled words (2 ^ suc q) after
+filled_more words q before after v add = record { entries = add.entries; made = λ i h. more i h (dec_lt i (2 ^ q)) }
   where
-    small : 2 ^ suc q ≤ 16
-    small = pow_mono {i = suc q} {j = 4} (omega arith)
-
-    more_low : (i : ℕ) → i < 2 ^ suc q → Dec (i < 2 ^ q) → get_or after i 0 ≡ joined_word words i
-    more_low i h (yes l) = add.others i (inl (omega (arith, small))) ∙ v.low i l
-    more_low i h (no l) =
+    more : (i : ℕ) → i < 2 ^ suc q → Dec (i < 2 ^ q) → get_or after i 0 ≡ joined_word words i
+    more i h (yes l) = add.others i (inl l) ∙ v.made i l
+    more i h (no l) =
         let j : ℕ = i - 2 ^ q in
         let few : j < 2 ^ q = omega (arith, pow-suc 2 q) in
         let e : i ≡ 2 ^ q + j = omega arith in
-        rw e (add.low j few ∙ ap (λ (z : ℕ). bit_or z (get_or words q 0)) (v.low j few) ∙ sym (joined_more words q j few))
+        rw e (add.joined j few ∙ ap (λ (z : ℕ). bit_or z (get_or words q 0)) (v.made j few) ∙ sym (joined_more words q j few))
 
-    more_high : (i : ℕ) → i < 2 ^ suc q → Dec (i < 2 ^ q) → get_or after (16 + i) 0 ≡ joined_word words (16 * i)
-    more_high i h (yes l) = add.others (16 + i) (inl (omega (arith, small))) ∙ v.high i l
-    more_high i h (no l) =
-        let j : ℕ = i - 2 ^ q in
-        let few : j < 2 ^ q = omega (arith, pow-suc 2 q) in
-        let e : i ≡ 2 ^ q + j = omega arith in
-        let w : 2 ^ (4 + q) ≡ 16 * 2 ^ q = pow-add 2 4 q in
-        let s : 16 * (2 ^ q + j) ≡ 2 ^ (4 + q) + 16 * j = omega arith in
-        rw (e, s) (add.high j few ∙ ap (λ (z : ℕ). bit_or z (get_or words (4 + q) 0)) (v.high j few)
-        ∙ sym (joined_more words (4 + q) (16 * j) (omega arith)))
+-- all sixteen entries
+pub filled_all : (words half : List ℕ) → Filled words 16 half → half ≡ tabulate 16 (joined_word words)
+filled_all words half v = ext_get_or 0 half (tabulate 16 (joined_word words)) (v.entries ∙ sym (length_tabulate 16 (joined_word words)))
+    (λ i h. let few : i < 16 = omega (arith, v.entries) in v.made i few ∙ sym (get_d_tabulate 16 (joined_word words) i 0 few))
 
--- all sixteen entries of each half
-pub filled_all : (words : List ℕ) (lookup : Lookup) → Filled words 16 lookup → lookup ≡ joined_lookup words
+-- BOTH HALVES
+
+-- sets of the first k states, and sets without these
+joined_front : (k : ℕ) (words : List ℕ) (s : ℕ) → s < 2 ^ k → joined_word (take k words) s ≡ joined_word words s
+unfolding joined_word
+joined_front zero words s h = let e : s ≡ 0 = omega arith in rw e (sym (joined_none words))
+joined_front (suc k) [] s h = refl
+joined_front (suc k) (word ∷ words) s h =
+    ap (bit_or (cond (eqb (s % 2) 1) word 0)) (joined_front k words (s / 2) (omega (arith, pow-suc 2 k)))
+
+joined_behind : (k : ℕ) (words : List ℕ) (s : ℕ) → joined_word words (2 ^ k * s) ≡ joined_word (drop k words) s
+unfolding joined_word
+joined_behind zero words s = let e : 2 ^ 0 * s ≡ s = omega arith in rw e
+joined_behind (suc k) [] s = refl
+joined_behind (suc k) (word ∷ words) s =
+    let twice : 2 ^ suc k * s ≡ 2 * (2 ^ k * s) = rw (pow-suc 2 k) (omega arith) in
+    let low : 2 ^ suc k * s % 2 ≡ 0 = omega (arith, twice) in
+    let half : 2 ^ suc k * s / 2 ≡ 2 ^ k * s = omega (arith, twice) in
+    rw (low, half) (or_zero_l (joined_word words (2 ^ k * s)) ∙ joined_behind k words s)
+
+-- the look-up, half by half
+pub halves_joined : (words : List ℕ) → tabulate 16 (joined_word (take 4 words)) ++ tabulate 16 (joined_word (drop 4 words)) ≡ joined_lookup words
 unfolding joined_lookup
-filled_all words lookup v = ext_get_or 0 lookup (lows ++ highs)
-    (v.entries ∙ sym (length-append lows highs ∙ ap₂ ◌+◌ (length_tabulate 16 low) (length_tabulate 16 high))) (λ i h. go i h (dec_lt i 16))
-  where
-    low : ℕ → ℕ
-    low j = joined_word words j
-
-    high : ℕ → ℕ
-    high j = joined_word words (16 * j)
-
-    lows : Lookup
-    lows = tabulate 16 low
-
-    highs : Lookup
-    highs = tabulate 16 high
-
-    go : (i : ℕ) → i < length lookup → Dec (i < 16) → get_or lookup i 0 ≡ get_or (lows ++ highs) i 0
-    go i h (yes k) = v.low i k ∙ sym (get_or-append lows highs 0 i (omega (arith, length_tabulate 16 low))
-        ∙ get_d_tabulate 16 low i 0 k)
-    go i h (no k) =
-        let e : i ≡ 16 + (i - 16) = omega arith in
-        let l : i - 16 < 16 = omega (arith, v.entries) in
-        rw e (v.high (i - 16) l ∙ sym (ap (λ (n : ℕ). get_or (lows ++ highs) (n + (i - 16)) 0) (sym (length_tabulate 16 low))
-        ∙ get_or-append-add lows highs (i - 16) 0 ∙ get_d_tabulate 16 high (i - 16) 0 l))
+halves_joined words = ap₂ (λ (l r : Lookup). l ++ r) (tabulate_ext 16 _ _ (λ j h. joined_front 4 words j h))
+    (tabulate_ext 16 _ _ (λ j h. sym (joined_behind 4 words j)))

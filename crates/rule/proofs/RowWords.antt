@@ -2,7 +2,7 @@
 -- beside the rows.
 use mathlib.Core.Path.{◌≡◌, refl, sym, ◌∙◌, ap, ap₂}
 use mathlib.Core.Bool.{Bool, true, false, ◌&&◌, ◌||◌, and-false, and-true, or-false}
-use mathlib.Core.List.{List, [], ◌∷◌, map}
+use mathlib.Core.List.{List, [], map}
 use Prim.Native.Nat.{ℕ, zero, suc, ◌+◌, ◌*◌, ◌-◌, ◌/◌, ◌%◌, ◌^◌, ◌≤◌, ◌<◌}
 use native.Mathlib.Decide.{ℕ_discrete}
 use native.Mathlib.Omega.{arith}
@@ -12,6 +12,7 @@ use lib.Count.{count_trailing_zeros}
 use lib.Dec.{eqb, eqb-suc-zero}
 use lib.ListN.{length, get_or, set, replicate, get_or-map}
 use lib.Pow.{pow-lt}
+use Rattle.std.proofs.lemmas.List.{map-set}
 use lib.Seq.{get_or-set_same, get_or-set_other}
 use Rattle.base.specs.BitSet.{member}
 use Rattle.base.proofs.BitSet.{member_none, member_zero, member_suc, member_single}
@@ -122,22 +123,16 @@ pub words_at : (cells : Grid) (a : ℕ) → get_or (grid_words cells) a [] ≡ s
 unfolding grid_words square_words
 words_at cells a = get_or-map square_words cells a []
 
--- an element stored in a list, and its image in the list of images
-image_stored : {A B : Type 0} (f : A → B) (l : List A) (i : ℕ) (x : A) → set (map f l) i (f x) ≡ map f (set l i x)
-image_stored f [] i x = refl
-image_stored f (y ∷ l) zero x = refl
-image_stored {B = B} f (y ∷ l) (suc i) x = ap (λ (zs : List B). f y ∷ zs) (image_stored f l i x)
-
 -- a row is stored with its word, and a letter's square with its words
 pub word_stored : (square : List (List ℕ)) {words : List ℕ} → words ≡ square_words square → (q : ℕ) (row : List ℕ) {word : ℕ}
     → word ≡ row_word row → set words q word ≡ square_words (set square q row)
 unfolding square_words
-word_stored square are q row is = rw (are, is) (image_stored row_word square q row)
+word_stored square are q row is = rw (are, is) (sym (map-set row_word square q row))
 
 pub words_stored : (cells : Grid) {words : List (List ℕ)} → words ≡ grid_words cells → (a : ℕ) (square : List (List ℕ)) {more : List ℕ}
     → more ≡ square_words square → set words a more ≡ grid_words (set cells a square)
 unfolding grid_words
-words_stored cells are a square is = rw (are, is) (image_stored square_words cells a square)
+words_stored cells are a square is = rw (are, is) (sym (map-set square_words cells a square))
 
 -- blank cells lead nowhere
 pub words_blank : replicate max_letters (replicate max_states 0) ≡ grid_words blank_cells

@@ -19,6 +19,7 @@ pub fn map_of(word: u64, lane: usize) -> u16
     requires { lane < lanes }
     ensures { result ≡ map_of word lane }
 {
+    // The remainder fits.
     ((word >> (LANE_WIDTH * lane)) % LANE_MAPS) as u16
 }
 
@@ -27,7 +28,7 @@ pub fn in_lane(map: u16, lane: usize) -> u64
     requires { (map < 2 ^ lane_width) × (lane < lanes) }
     ensures { result ≡ in_lane map lane }
 {
-    (map as u64) << (LANE_WIDTH * lane)
+    u64::from(map) << (LANE_WIDTH * lane)
 }
 
 // A map put into each of the chosen lanes, by one product.
@@ -35,7 +36,7 @@ pub fn in_lanes(map: u16, chosen: u64) -> u64
     requires { (map < 2 ^ lane_width) × (chosen ≤ each_lane lanes) }
     ensures { result ≡ in_lanes map chosen }
 {
-    map as u64 * chosen
+    u64::from(map) * chosen
 }
 
 // A word with a state more in each of the chosen lanes.
@@ -68,5 +69,5 @@ pub fn spread(relations: u16) -> u64
     requires { relations < 2 ^ suc set_lanes }
     ensures { result ≡ spread relations }
 {
-    (relations as u64 * 0x408_1020_4081) & 0x0001_0101_0101_0101
+    (u64::from(relations) * 0x408_1020_4081) & 0x0001_0101_0101_0101
 }

@@ -5,10 +5,10 @@ pub const LETTERS: usize = 16;
 
 pub const SETS: usize = 4;
 
-// A grid's byte for "no transition".
+// A grid's byte for "no transition": a byte of the format, which the arrays of a read table keep.
 pub const NO_TRANSITION: u8 = 255;
 
-// The read table: arrays of arrays by letter, state and next state.
+// The read table: arrays of arrays by letter, state and next state, as document 01 asks.
 pub type Row = [u8; STATES];
 
 pub type Square = [Row; STATES];

@@ -1,8 +1,8 @@
 -- Letters compared one after the other: how the positions before the end of the first tail go round, and how many letters tell two
 -- walks apart.
 use mathlib.Core.Path.{◌≡◌, refl, sym, ◌∙◌, ap}
-use mathlib.Core.Logic.{inl, inr}
-use mathlib.Core.Bool.{true}
+use mathlib.Core.Logic.{◌↔◌}
+use mathlib.Core.Bool.{true, false}
 use mathlib.Core.List.{List}
 use Prim.Native.Nat.{ℕ, suc, ◌+◌, ◌-◌, ◌≤◌, ◌<◌, max}
 use native.Mathlib.Omega.{arith}
@@ -10,7 +10,8 @@ use native.Mathlib.Nat.{add-zero}
 use native.Mathlib.Decide.{dec_lt}
 use lib.ListN.{length}
 use borrow.Author.Tests.{lt-ltb, le-ltb}
-use Rattle.word.specs.Verdict.{Decides}
+use Rattle.std.specs.Prelude.{IsTrue}
+use Rattle.base.proofs.Logic.{clash}
 use Rattle.word.specs.Walk.{lengths_fit, letter_at, SameLetters}
 use Rattle.word.proofs.Periods.{Periodic}
 use Rattle.word.proofs.Positions.{letter_again}
@@ -70,16 +71,13 @@ same_further u v u' v' count same here p h = go (dec_lt p count)
     go (no l) = let e : p ≡ count = omega arith in rw e here
 
 -- a position where they differ
-pub differ_at : (u v u' v' : List ℕ) (p : ℕ) → (letter_at u v p ≡ letter_at u' v' p → ⊥) → Decides 0 (SameLetters u v u' v')
-differ_at u v u' v' p other = inr (refl, differ)
-  where
-    differ : SameLetters u v u' v' → ⊥
-    differ same = other (same p)
+pub differ_at : (u v u' v' : List ℕ) (p : ℕ) → (letter_at u v p ≡ letter_at u' v' p → ⊥) → IsTrue false ↔ SameLetters u v u' v'
+differ_at u v u' v' p other = (clash refl, λ same. absurd (other (same p)))
 
 -- behind both lead-ins the letters have the tails' lengths as periods, so these letters tell
 pub agree_up_to : (u v u' v' : List ℕ) → lengths_fit u v ≡ true → lengths_fit u' v' ≡ true
-    → SameUpTo u v u' v' (max (length u) (length u') + length v + length v' - 1) → Decides 1 (SameLetters u v u' v')
-agree_up_to u v u' v' fit fit' same = inl (refl, λ p. go p (dec_lt p from))
+    → SameUpTo u v u' v' (max (length u) (length u') + length v + length v' - 1) → IsTrue true ↔ SameLetters u v u' v'
+agree_up_to u v u' v' fit fit' same = (λ _ p. go p (dec_lt p from), λ _. refl)
   where
     from : ℕ
     from = max (length u) (length u')

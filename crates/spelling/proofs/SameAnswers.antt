@@ -1,35 +1,15 @@
 -- The public call: what the contract says of a refusal and of an answer, that its number tells whether the call is accepted, and that
 -- the contract leaves no choice.
-use mathlib.Core.Path.{◌≡◌, refl, sym, ◌∙◌, ap}
-use mathlib.Core.Bool.{true, false}
+use mathlib.Core.Path.{◌≡◌, sym, ◌∙◌, ap}
 use mathlib.Core.List.{List}
 use Prim.Native.Nat.{ℕ}
 use native.Mathlib.Omega.{arith}
 use Rattle.base.specs.Outcome.{Outcome, refused, accepted, number_of}
 use Rattle.base.proofs.Numbers.{NotZero, ask_number, tells}
-use Rattle.word.specs.Verdict.{Decides}
-use Rattle.word.specs.Walk.{lengths_fit, SameLetters}
+use Rattle.word.specs.Walk.{lengths_fit}
 use Rattle.word.proofs.Verdicts.{decides_one}
-use Rattle.spelling.specs.SameCall.{same_outcome, SameAnswers, SameCall, SameNumber}
+use Rattle.spelling.specs.SameCall.{same_outcome, SameAnswers, SameNumber}
 use Rattle.spelling.specs.declared.same.SameAnswer.{SameAnswer}
-
-module _ (u v u' v' : List ℕ) where
-  -- the first walk has no allowed length
-  pub first_refused : lengths_fit u v ≡ false → SameCall u v u' v' (record { number = 7; same = 0 })
-  unfolding same_outcome
-  first_refused e = rw e refl
-
-  module _ (fit : lengths_fit u v ≡ true) where
-    -- the second has none
-    pub second_refused : lengths_fit u' v' ≡ false → SameCall u v u' v' (record { number = 7; same = 0 })
-    unfolding same_outcome
-    second_refused e = rw (fit, e) refl
-
-    -- both have
-    pub walks_compared : lengths_fit u' v' ≡ true → (same : ℕ) → Decides same (SameLetters u v u' v')
-        → SameCall u v u' v' (record { number = 0; same = same })
-    unfolding same_outcome
-    walks_compared fit' same d = rw (fit, fit') (refl, d)
 
 -- the number of an answer that the contract allows
 answer_number : (o : Outcome (Unit {0})) (u v u' v' : List ℕ) (answer : SameAnswer) → SameAnswers o u v u' v' answer

@@ -11,18 +11,19 @@ use lib.ListN.{length, get_or, set, length-set}
 use lib.Seq.{get_or-set_same, get_or-set_other}
 use Rattle.rule.specs.Limits.{max_states}
 use Rattle.step.specs.Inner.Pass.{Level, entered}
-use Rattle.step.specs.Inner.LevelArrays.{LevelArrays, level_arrays, EachDepth, level_at, waiting_levels, Entered}
+use Rattle.step.specs.Inner.LevelArrays.{EachDepth, level_at, waiting_levels, Entered}
+use Rattle.step.specs.declared.pass.Levels.{Levels}
 use Rattle.step.specs.declared.pass.NewLabels.{NewLabels}
 use Rattle.step.specs.declared.pass.Standing.{Standing}
 
 -- as many levels as asked for
-pub waiting_length : (A : LevelArrays) (c : ℕ) → length (waiting_levels A c) ≡ c
+pub waiting_length : (A : Levels) (c : ℕ) → length (waiting_levels A c) ≡ c
 unfolding waiting_levels
 waiting_length A zero = refl
 waiting_length A (suc c) = let e = waiting_length A c in omega arith
 
 -- arrays that are the same up to a depth have the same levels there
-waiting_same : (A B : LevelArrays) (c : ℕ)
+waiting_same : (A B : Levels) (c : ℕ)
     → ((d : ℕ) → d < c → level_at A d (get_or A.waiting d 0) ≡ level_at B d (get_or B.waiting d 0)) → waiting_levels A c ≡ waiting_levels B c
 unfolding waiting_levels
 waiting_same A B zero same = refl
@@ -30,7 +31,7 @@ waiting_same A B (suc c) same =
     ap₂ (λ (l : Level) (levels : List Level). l ∷ levels) (same c (omega arith)) (waiting_same A B c (λ d h. same d (omega arith)))
 
 -- what `enter` leaves in the arrays
-module _ (m : NewLabels) (at : Standing) (A : LevelArrays) (room : at.top < max_states) (sizes : EachDepth A) where
+module _ (m : NewLabels) (at : Standing) (A : Levels) (room : at.top < max_states) (sizes : EachDepth A) where
   abbrev top : ℕ
   top = at.top
 
@@ -38,8 +39,8 @@ module _ (m : NewLabels) (at : Standing) (A : LevelArrays) (room : at.top < max_
   joined = bit_or at.running m.label
 
   -- where the node is removed: the names at its depth are lost
-  abbrev unnamed : LevelArrays
-  unnamed = level_arrays A.above A.waiting A.sprout (set A.named top false)
+  abbrev unnamed : Levels
+  unnamed = record { above = A.above; waiting = A.waiting; sprout = A.sprout; named = set A.named top false }
 
   pub enter_removed : m.label ≡ 0 → Entered m at A at unnamed
   unfolding entered
@@ -62,9 +63,13 @@ module _ (m : NewLabels) (at : Standing) (A : LevelArrays) (room : at.top < max_
       record { deeper = omega arith; written = refl; sizes = sizes; levels = rw (ne_eqb _ _ stays, eq-eqb _ _ full) }
 
   -- where it keeps its children: their level is opened besides, one deeper
-  abbrev opened : ℕ → LevelArrays
-  opened below = level_arrays (set A.above below (bit_or (get_or A.above top 0) at.running)) (set A.waiting top joined)
-      (set A.sprout below m.sprout) (set A.named below (get_or A.named top false))
+  abbrev opened : ℕ → Levels
+  opened below = record {
+    above = set A.above below (bit_or (get_or A.above top 0) at.running);
+    waiting = set A.waiting top joined;
+    sprout = set A.sprout below m.sprout;
+    named = set A.named below (get_or A.named top false);
+  }
 
   waiting_still : waiting_levels (opened (suc top)) top ≡ waiting_levels A top
   waiting_still = waiting_same (opened (suc top)) A top (λ d h. rw (

@@ -16,18 +16,22 @@ use Rattle.history.specs.Inner.OldNumbers.{no_node, old_number}
 use Rattle.history.proofs.Tree.Conditions.{Fits, OneRoot}
 use Rattle.history.proofs.Step.TreesOf.{of_out, of_few}
 use Rattle.tree.specs.Inner.Nodes.{blank_node, nodes_of, without_old, AreNodes}
+use Rattle.tree.specs.Inner.PackedNodes.{counted_nodes}
+use Rattle.tree.specs.Inner.Sides.{tree_in}
 use Rattle.tree.specs.declared.nodes.Node.{Node as CodeNode}
+use Rattle.tree.specs.declared.sides.DoubleBuffer.{DoubleBuffer}
+use Rattle.tree.specs.declared.sides.Side.{Side}
 use Rattle.tree.proofs.TreeNodes.{nodes_size, are_nodes_size}
 use Rattle.step.specs.RunningSet.{ReachedSibling, RunningSet}
 use Rattle.step.specs.Inner.Pass.{deepest, Pass, closed_to, read_node, read_nodes, at_start}
-use Rattle.step.specs.Inner.LevelArrays.{LevelArrays, Closing}
+use Rattle.step.specs.Inner.LevelArrays.{Closing}
 use Rattle.step.specs.Inner.AtSibling.{AtSibling, CarriedAlong}
-use Rattle.step.specs.Inner.Stepping.{nodes_on}
+use Rattle.step.specs.declared.pass.Levels.{Levels}
 use Rattle.step.specs.declared.pass.Standing.{Standing}
 use Rattle.step.proofs.Levels.{waiting_length}
 use Rattle.step.proofs.PassSteps.{levels_left, levels_open}
 use Rattle.step.proofs.ClosingLoop.{ClosedSoFar}
-use Rattle.step.proofs.PassLoop.{OnSides, read_next}
+use Rattle.step.proofs.PassLoop.{side_words, OnSides, read_next}
 use Rattle.step.proofs.OldNumbers.{tree_numbered}
 use Rattle.step.proofs.StepOfNodes.{read_without_old, images, images_all, images_in}
 use Rattle.step.proofs.SiblingsInTurn.{old_reached, new_reached}
@@ -35,36 +39,36 @@ use Rattle.step.proofs.AlongRoot.{running_set_root}
 
 -- THE CODE
 
-module _ {lookup : Lookup} {k count from : ℕ} {before sides : List (List ℕ)} {A : LevelArrays} {accepting stable : ℕ} {at : Standing} {i : ℕ}
-    (v : OnSides lookup k count from before sides A accepting stable at i) where
+module _ {lookup : Lookup} {k : ℕ} {before : DoubleBuffer} {sides : List Side} {A : Levels} {accepting stable : ℕ} {at : Standing} {i : ℕ}
+    (v : OnSides lookup k before sides A accepting stable at i) where
   -- `close_levels`, called by `step_nodes`, is at the child that the parent of the deepest level sprouts
-  pub closing_at_sibling : {depth top running written : ℕ} {now : List (List ℕ)}
-      → ClosedSoFar A.above A.waiting A.sprout (1 - from) depth at sides now top running written
-      → AtSibling lookup k (nodes_on before from count) i (record { top = top; running = running; written = written })
+  pub closing_at_sibling : {depth top running written : ℕ} {now : List ℕ}
+      → ClosedSoFar A depth at (side_words sides (1 - before.side)) now top running written
+      → AtSibling lookup k (counted_nodes (tree_in before)) i (record { top = top; running = running; written = written })
   closing_at_sibling {depth} {top} {running} {written} {now} w = record {
-    side = get_or now (1 - from) [];
-    arrays = A;
+    side = now;
+    levels = A;
     accepting = accepting;
     stable = stable;
-    pass = w.pass A.named accepting stable ∙ ap (closed_to top) v.pass;
+    pass = w.pass accepting stable ∙ ap (closed_to top) v.pass;
   }
 
   -- `step_nodes` is at a node of the deepest level
-  pub reading_at_sibling : {depth : ℕ} {next : Standing} {after : List (List ℕ)}
-      → Closing A.above A.waiting A.sprout (1 - from) depth at sides next after → depth ≡ next.top
-      → AtSibling lookup k (nodes_on before from count) i next
+  pub reading_at_sibling : {depth : ℕ} {next : Standing} {after : List ℕ}
+      → Closing A depth at (side_words sides (1 - before.side)) next after → depth ≡ next.top
+      → AtSibling lookup k (counted_nodes (tree_in before)) i next
   reading_at_sibling {depth} {next} {after} closing here = record {
-    side = get_or after (1 - from) [];
-    arrays = A;
+    side = after;
+    levels = A;
     accepting = accepting;
     stable = stable;
-    pass = rw here at (closing.pass A.named accepting stable ∙ ap (closed_to depth) v.pass);
+    pass = rw here at (closing.pass accepting stable ∙ ap (closed_to depth) v.pass);
   }
 
 -- the level at `top` is open there
 level_open : {lookup : Lookup} {k : ℕ} {nodes : List CodeNode} {i : ℕ} {at : Standing} → AtSibling lookup k nodes i at
     → length (closed_to at.top (read_nodes (look_up lookup) k 0 at_start (take i nodes))).levels ≡ suc at.top
-level_open {at = at} r = ap (λ (q : Pass). length q.levels) (sym r.pass) ∙ ap suc (waiting_length r.arrays at.top)
+level_open {at = at} r = ap (λ (q : Pass). length q.levels) (sym r.pass) ∙ ap suc (waiting_length r.levels at.top)
 
 -- THE SENTENCE
 

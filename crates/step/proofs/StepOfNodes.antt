@@ -1,9 +1,9 @@
 -- The pass over the nodes of a tree is the letter's step: it gives the nodes of the next tree, the old numbers of its nodes
--- and the two maps. So it leads from a tree in place to the next one, on the other side.
+-- and the two maps. So it leads from a tree in a double buffer to the next one.
 use mathlib.Core.Path.{◌≡◌, refl, sym, ◌∙◌, ap, subst}
 use mathlib.Core.Bool.{Bool, true, false, cond}
 use mathlib.Core.List.{List, [], ◌∷◌, ◌++◌, map}
-use Prim.Native.Nat.{ℕ, zero, suc, ◌+◌, ◌-◌, ◌^◌, ◌≤◌, ◌<◌}
+use Prim.Native.Nat.{ℕ, zero, suc, ◌+◌, ◌^◌, ◌≤◌, ◌<◌}
 use native.Mathlib.Omega.{arith}
 use native.Mathlib.Decide.{dec_lt}
 use native.Mathlib.Nat.{pow-suc}
@@ -26,12 +26,12 @@ use Rattle.history.proofs.Step.TreesOf.{of_out, of_root, of_few, of_nested, next
 use Rattle.history.proofs.Step.StepsJoined.{plain_node, survivors_steps}
 use Rattle.tree.specs.Inner.PackedNodes.{counted_nodes}
 use Rattle.tree.specs.Inner.Nodes.{nodes_from, nodes_of, without_old, AreNodes, HoldsTree, blank_node}
-use Rattle.tree.specs.Inner.Sides.{tree_on, Stands}
+use Rattle.tree.specs.Inner.Sides.{tree_in}
 use Rattle.tree.specs.declared.nodes.Node.{Node as CodeNode}
 use Rattle.tree.specs.declared.nodes.Tree.{Tree as CodeTree}
-use Rattle.tree.specs.declared.sides.OnSide.{OnSide}
+use Rattle.tree.specs.declared.sides.DoubleBuffer.{DoubleBuffer}
 use Rattle.tree.proofs.TreeNodes.{nodes_size, are_nodes_size, tree_small}
-use Rattle.step.specs.Inner.Stepping.{StepsTo, nodes_on, Steppable, Stepping}
+use Rattle.step.specs.Inner.Stepping.{StepsTo, Steppable, Stepping}
 use Rattle.step.specs.Inner.Pass.{new_labels, held, joined_if, settled_node, deepest, Pass, closed_to, passed_node, read_node, read_nodes, at_start, SetsFit, stepped_nodes}
 use Rattle.step.specs.declared.pass.Stepped.{Stepped}
 use Rattle.step.proofs.GrownNodes.{Gives, grown_nodes_lem, grown_olds}
@@ -174,29 +174,27 @@ module _ {R : Rule} (limits : WithinLimits R) (a : ℕ) (T : Tree) (tree : is_tr
         stable = keeps ∙ gives.stable ∙ stable_map_lem R a T one few (rw gives.stable at maps_below.1);
       }
 
--- A TREE IN PLACE
+-- A TREE IN A DOUBLE BUFFER
 
-module _ {R : Rule} (limits : WithinLimits R) {T : Tree} (sides : List (List ℕ)) (x : OnSide) (here : HoldsTree R T (tree_on sides x)) where
+module _ {R : Rule} (limits : WithinLimits R) {T : Tree} (buffer : DoubleBuffer) (here : HoldsTree R T (tree_in buffer)) where
   abbrev nodes : List CodeNode
-  nodes = nodes_on sides x.side x.count
+  nodes = counted_nodes (tree_in buffer)
 
   -- a letter can be read from it
-  pub place_ready : Stands sides x → Steppable sides x.side x.count
-  place_ready (arrays, side) = record {
-    arrays = arrays;
-    side = side;
+  pub place_ready : Steppable buffer
+  place_ready = record {
     few = tree_small limits.states here;
     fits = sets_fit R nodes T limits.sets here.fits here.are;
   }
 
   module _ (lookup : Lookup) (k a : ℕ) (sets : R.sets ≡ k) (by : lookup ≡ letter_lookup (get_or (padded R.grid) a []))
-      (r : Stepped) (after : List (List ℕ)) (step : Stepping (stepped_nodes lookup k nodes) x.side sides r after) where
+      (r : Stepped) (after : DoubleBuffer) (step : Stepping (stepped_nodes lookup k nodes) buffer r after) where
     -- the pass over its nodes
     over_tree : stepped_nodes lookup k nodes
         ≡ closed_to 0 (read_nodes (look_up (letter_lookup (get_or (padded R.grid) a []))) R.sets 0 at_start (nodes_of T))
     unfolding stepped_nodes
     over_tree = rw (← sets, by, ← here.are) (ap (closed_to 0) (sym (read_without_old _ R.sets 0 at_start nodes)))
 
-    -- is the letter's step, to the next tree on the other side
-    pub place_steps : StepsTo R a T (tree_on after (record { side = 1 - x.side; count = r.count })) r
+    -- is the letter's step, to the next tree
+    pub place_steps : StepsTo R a T (tree_in after) r
     place_steps = let s = rw over_tree at step in steps limits a T here.fits _ r s.nodes s.count s.accepting s.stable

@@ -1,22 +1,21 @@
 // One letter on a record.
 ghost use Rattle.std.specs.Prelude.{◌≡◌, ℕ};
 ghost use Rattle.base.specs.Outcome.{refused};
+ghost use Rattle.base.specs.Refusals.{refusal_number};
 ghost use Rattle.rule.specs.Rule.{Rule};
 ghost use Rattle.table.specs.Inner.Preparing.{PreparedLetter};
 ghost use Rattle.step.specs.StepCall.{StepCall, StepDone, step_answer, step_under};
 
 use crate::pass::step_nodes;
+use base::refusal::Refusal;
 use rule::lookup::{ENTRIES, Lookup};
 use table::header::Header;
 use table::letter::letter_questions;
-use table::reader::Reading;
 use tree::nodes::Tree;
-use tree::record::Count;
-use tree::sides::OnSide;
 use tree::writing::put_record;
 
 // 0, the new record's length, the accepting and the stable map by old node number; or the number of the question that
-// failed and zeros.
+// failed and zeros: the C interface.
 #[repr(C)]
 #[derive(Clone, Copy)]
 pub struct StepAnswer {
@@ -27,14 +26,17 @@ pub struct StepAnswer {
 }
 
 // A refusal: its number and zero for all else.
-fn step_refusal(number: u8) -> StepAnswer
-    ensures { result ≡ step_answer (refused number) }
-{
-    StepAnswer {
-        number: number,
-        written: 0,
-        accepting: 0,
-        stable: 0,
+#[tactic(auto, unfolding(crate::specs::StepCall::step_answer))]
+impl From<Refusal> for StepAnswer {
+    ghost from_gives = { λ refusal answer. answer ≡ step_answer (refused (refusal_number refusal)) };
+
+    fn from(refusal: Refusal) -> StepAnswer {
+        StepAnswer {
+            number: refusal.into(),
+            written: 0,
+            accepting: 0,
+            stable: 0,
+        }
     }
 }
 
@@ -44,27 +46,24 @@ fn step_prepared(lookup: &Lookup, header: Header, bytes: &[u8], buffer: &mut [u8
     ensures { (R : Rule) (a : ℕ) → PreparedLetter R header a lookup.now
         → StepDone (step_under R a bytes.now buffer.old) buffer.old result buffer.new }
 {
+    // The form of document 01: `let .. else` takes the node count out of the check's answer, the tree standing beside it.
     let checked = Tree::checked(bytes, header.states, header.sets);
-    let nodes = checked.count;
-    let tree = checked.tree;
-    let Count::Nodes(count) = nodes else {
-        return step_refusal(9);
+    let Some(count) = checked.count else {
+        return Refusal::NoRecord.into();
     };
     if buffer.len() < Tree::RECORD {
-        return step_refusal(10);
+        return Refusal::NoRoom.into();
     }
-    let mut sides = tree.laid();
-    let next = step_nodes(lookup, header.sets as u8, &mut sides, 0, count);
-    let after = OnSide {
-        side: 1,
-        count: next.count,
-    };
-    let written = put_record(&sides, after, header.states, buffer);
+    let mut tree = checked.tree.laid();
+    prove_eq!(tree.count, count);
+    // at most four sets
+    let stepped = step_nodes(lookup, header.sets as u8, &mut tree);
+    let written = put_record(tree.nodes(), header.states, buffer);
     StepAnswer {
         number: 0,
-        written: written,
-        accepting: next.accepting,
-        stable: next.stable,
+        written,
+        accepting: stepped.accepting,
+        stable: stepped.stable,
     }
 }
 
@@ -72,9 +71,9 @@ fn step_prepared(lookup: &Lookup, header: Header, bytes: &[u8], buffer: &mut [u8
 pub fn step(table: &[u8], letter: u8, bytes: &[u8], buffer: &mut [u8]) -> StepAnswer
     ensures { StepCall table.now letter bytes.now buffer.old result buffer.new }
 {
-    let mut lookup = [0u64; ENTRIES];
+    let mut lookup = [0; ENTRIES];
     match letter_questions(table, letter, &mut lookup) {
-        Reading::Refused(number) => step_refusal(number),
-        Reading::Rule(header) => step_prepared(&lookup, header, bytes, buffer),
+        Err(refusal) => refusal.into(),
+        Ok(header) => step_prepared(&lookup, header, bytes, buffer),
     }
 }

@@ -1,7 +1,8 @@
 -- What a call gives is determined: the calls' contracts leave no choice of the numbers or of the buffer.
 use mathlib.Core.Path.{◌≡◌, sym, ◌∙◌, ap}
 use mathlib.Core.List.{List}
-use mathlib.Core.Option.{Option, some, some-injective}
+use Rattle.std.proofs.Common.{Option, Some}
+use Rattle.std.proofs.lemmas.Option.{same_Some}
 use Prim.Native.Nat.{ℕ}
 use Rattle.table.specs.ReadCall.{read_outcome, read_answer, grid_after}
 use Rattle.spelling.specs.SameCall.{same_outcome, SameAnswers}
@@ -16,8 +17,8 @@ use Rattle.stored.specs.declared.calls.Call.{Call}
 use Rattle.stored.specs.declared.calls.Call.TheVariants.{Read, Write, Start, Step, Tree, Plain, Same, Successors}
 
 -- two readings of one text are the same
-one : {A : Type 0} {o : Option A} {a b : A} → o ≡ some a → o ≡ some b → a ≡ b
-one {a} {b} x y = some-injective a b (sym x ∙ y)
+one : {A : Type 0} {o : Option A} {a b : A} → o ≡ Some a → o ≡ Some b → a ≡ b
+one {a} {b} x y = same_Some a b (sym x ∙ y)
 
 module _ {line lent ns after ms left : List ℕ} where
   read_one : ReadGives line lent ns after → ReadGives line lent ms left → (ns ≡ ms) × (after ≡ left)

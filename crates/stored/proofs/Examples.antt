@@ -1,16 +1,17 @@
 -- The definitions at work: what some texts have, a line that is right, and lines that are not.
 use mathlib.Core.Path.{◌≡◌, refl, sym, ◌∙◌, ap, subst, subst₂}
 use mathlib.Core.List.{List, [], ◌∷◌, map}
-use mathlib.Core.Option.{Option, none, some, some-injective}
+use Rattle.std.proofs.Common.{Option, Some, None}
+use Rattle.std.proofs.lemmas.Option.{same_Some}
 use Prim.Native.Nat.{ℕ, ◌+◌}
 use native.Mathlib.Omega.{arith}
 use Rattle.table.specs.Table.{read_rule}
 use Rattle.tree.specs.StartCall.{start_outcome, start_answer, start_after}
 use Rattle.job.specs.Ascii.{ascii}
 use Rattle.job.specs.JobCall.{JobAnswer, job_parts, text_of, refusal_text, digits, digits_within, line as job_line}
-use Rattle.notation.specs.Parts.{space, in_front, parts, field_at}
-use Rattle.notation.specs.Decimal.{digit_value, are_digits, digits_value, decimal}
-use Rattle.notation.specs.Hexadecimal.{are_pair, pair_byte, are_pairs, pair_bytes, hexadecimal, times, bytes_of, no_longer, longest, byte_string}
+use Rattle.notation.specs.Parts.{space, parts, field_at}
+use Rattle.notation.specs.Decimal.{digit_value, no_larger, digits_value, decimal}
+use Rattle.notation.specs.Hexadecimal.{pair_byte, hexadecimal, times, bytes_of, no_longer, longest, byte_string}
 use Rattle.notation.specs.Testing.{HasNumbers}
 use Rattle.notation.specs.OneLine.{written, on_one_line}
 use Rattle.stored.specs.Calls.{name_of, arguments, BytesAt, Gives, Answered, CallRight}
@@ -22,31 +23,30 @@ use Rattle.stored.proofs.Determined.{gives_one}
 -- TEXTS
 
 three_parts : parts space (ascii "1  2") ≡ ascii "1" ∷ [] ∷ ascii "2" ∷ []
-unfolding parts in_front
 three_parts = refl
 
-a_number : decimal (ascii "1024") ≡ some 1024
-unfolding decimal are_digits digits_value digit_value
+a_number : decimal (ascii "1024") ≡ Some 1024
+unfolding decimal no_larger digits_value digit_value
 a_number = refl
 
-no_number : decimal (ascii "12a") ≡ none
-unfolding decimal are_digits digits_value digit_value
+no_number : decimal (ascii "12a") ≡ None
+unfolding decimal no_larger digits_value digit_value
 no_number = refl
 
-two_bytes : byte_string (ascii "0aff") ≡ some (10 ∷ 255 ∷ [])
-unfolding byte_string no_longer longest bytes_of hexadecimal are_pairs pair_bytes are_pair pair_byte digit_value
+two_bytes : byte_string (ascii "0aff") ≡ Some (10 ∷ 255 ∷ [])
+unfolding byte_string no_longer longest bytes_of hexadecimal pair_byte digit_value
 two_bytes = refl
 
-no_bytes : byte_string (ascii "-") ≡ some []
+no_bytes : byte_string (ascii "-") ≡ Some []
 unfolding byte_string no_longer longest bytes_of
 no_bytes = refl
 
-three_times : byte_string (ascii "07*3") ≡ some (7 ∷ 7 ∷ 7 ∷ [])
-unfolding byte_string no_longer longest bytes_of times are_pair pair_byte decimal are_digits digits_value digit_value
+three_times : byte_string (ascii "07*3") ≡ Some (7 ∷ 7 ∷ 7 ∷ [])
+unfolding byte_string no_longer longest bytes_of times pair_byte decimal no_larger digits_value digit_value
 three_times = refl
 
-half_a_pair : byte_string (ascii "0af") ≡ none
-unfolding byte_string no_longer longest bytes_of hexadecimal are_pairs pair_bytes are_pair pair_byte digit_value
+half_a_pair : byte_string (ascii "0af") ≡ None
+unfolding byte_string no_longer longest bytes_of hexadecimal pair_byte digit_value
 half_a_pair = refl
 
 two_lines : on_one_line (ascii "yes\nno") ≡ ascii "yes\\nno"
@@ -66,16 +66,16 @@ unfolding arguments
 says_so line name table lent R =
     let call : R.call ≡ Start = names_one R.call Start (sym R.has_name ∙ name) in
     let there : BytesAt line 2 R.lent = subst (λ k. BytesAt line (arguments k + 1) R.lent) call R.has_lent in
-    let none : R.lent ≡ [] = some-injective R.lent [] (sym there ∙ lent) in
+    let none : R.lent ≡ [] = same_Some R.lent [] (sym there ∙ lent) in
     let answered : Answered Start line [] = subst₂ (λ k l. Answered k line l) call none R.answered in
     let (numbers, after) =
     gives_one Start line [] answered.numbers answered.after (1 ∷ 0 ∷ []) [] answered.gives (start_refused line table) in (
-      answered.has_numbers ∙ ap (λ (l : List ℕ). map (λ (n : ℕ). some n) l) numbers,
-      answered.has_after ∙ ap {B = Option (List ℕ)} some after,
+      answered.has_numbers ∙ ap (λ (l : List ℕ). map (λ (n : ℕ). Some n) l) numbers,
+      answered.has_after ∙ ap {B = Option (List ℕ)} Some after,
     )
 
 right_line : CallRight (ascii "start\t-\t-\t1 0\t-")
-unfolding name_of arguments parts in_front byte_string no_longer longest bytes_of decimal are_digits digits_value digit_value
+unfolding name_of arguments byte_string no_longer longest bytes_of decimal no_larger digits_value digit_value
 right_line = record {
   call = Start;
   has_name = refl;
@@ -93,7 +93,7 @@ right_line = record {
 
 -- another number
 wrong_number : CallRight (ascii "start\t-\t-\t0 0\t-") → ⊥
-unfolding name_of parts in_front byte_string no_longer longest bytes_of decimal are_digits digits_value digit_value
+unfolding name_of byte_string no_longer longest bytes_of decimal no_larger digits_value digit_value
 wrong_number R =
     let numbers = (says_so (ascii "start\t-\t-\t0 0\t-") refl refl refl R).0 in
     let z : ◌≡◌ {A = ℕ} 0 1 = cc in
@@ -101,7 +101,7 @@ wrong_number R =
 
 -- another byte left
 wrong_byte : CallRight (ascii "start\t-\t-\t1 0\t00") → ⊥
-unfolding name_of parts in_front byte_string no_longer longest bytes_of hexadecimal are_pairs pair_bytes are_pair pair_byte digit_value
+unfolding name_of byte_string no_longer longest bytes_of hexadecimal pair_byte digit_value
 wrong_byte R =
     let bytes = (says_so (ascii "start\t-\t-\t1 0\t00") refl refl refl R).1 in
     let z : ◌≡◌ {A = ℕ} 0 1 = cc in
@@ -112,12 +112,12 @@ job_refused : JobAnswer [] (text_of (refusal_text 12))
 unfolding JobAnswer job_parts
 job_refused = refl
 
-nothing : byte_string [] ≡ some []
-unfolding byte_string no_longer longest bytes_of hexadecimal are_pairs pair_bytes
+nothing : byte_string [] ≡ Some []
+unfolding byte_string no_longer longest bytes_of hexadecimal
 nothing = refl
 
 right_job : JobRight (ascii "\trefused 12\\n")
-unfolding parts in_front written on_one_line text_of refusal_text job_line digits digits_within
+unfolding written on_one_line text_of refusal_text job_line digits digits_within
 right_job = record {
   fields = refl;
   job = [];

@@ -1,7 +1,6 @@
 -- Stored calls. A line has, between tabs: the call's name, its arguments, the lent buffer, the answer's numbers, the buffer after the
 -- call. Bytes are in hexadecimal, numbers in decimal. The line is right if the library's call gives these numbers and leaves these bytes.
-use Rattle.std.specs.Prelude.{◌≡◌, List, [], ◌∷◌, ℕ, ◌+◌, length}
-use Rattle.std.proofs.Math.Option.{some}
+use Rattle.std.specs.Prelude.{◌≡◌, List, [], ◌∷◌, ℕ, ◌+◌, Some, length}
 use Rattle.table.specs.ReadCall.{read_outcome, read_answer, grid_after}
 use Rattle.table.specs.WriteCall.{write_outcome, write_answer, table_after}
 use Rattle.table.specs.declared.reader.ReadAnswer.{ReadAnswer}
@@ -54,7 +53,7 @@ arguments Successors = 3
 
 -- the field with this number has these bytes
 abbrev pub BytesAt : List ℕ → ℕ → List ℕ → Type 0
-BytesAt line number bytes = byte_string (field_at line number) ≡ some bytes
+BytesAt line number bytes = byte_string (field_at line number) ≡ Some bytes
 
 -- the largest numbers that a call takes: a size, a map of states, a letter
 abbrev pub largest_size : ℕ
@@ -69,10 +68,10 @@ largest_byte = 255
 -- n, m, k and the starting map, with one space between two
 pub record RuleText (text : List ℕ) (n m k start : ℕ) : Type 0 where
   pub four : length (parts space text) ≡ 4
-  pub states : decimal_within largest_size (part_at space text 0) ≡ some n
-  pub letters : decimal_within largest_size (part_at space text 1) ≡ some m
-  pub sets : decimal_within largest_size (part_at space text 2) ≡ some k
-  pub starting : decimal_within largest_map (part_at space text 3) ≡ some start
+  pub states : decimal_within largest_size (part_at space text 0) ≡ Some n
+  pub letters : decimal_within largest_size (part_at space text 1) ≡ Some m
+  pub sets : decimal_within largest_size (part_at space text 2) ≡ Some k
+  pub starting : decimal_within largest_map (part_at space text 3) ≡ Some start
 
 -- THE NUMBERS OF AN ANSWER, in the order of a line
 
@@ -136,7 +135,7 @@ pub record StepGives (line lent numbers after : List ℕ) : Type 0 where
   pub letter : ℕ
   pub bytes : List ℕ
   pub has_table : BytesAt line 1 table
-  pub has_letter : decimal_within largest_byte (field_at line 2) ≡ some letter
+  pub has_letter : decimal_within largest_byte (field_at line 2) ≡ Some letter
   pub has_bytes : BytesAt line 3 bytes
   pub answers : numbers ≡ step_numbers (step_answer (step_outcome table letter bytes lent))
   pub leaves : after ≡ step_after (step_outcome table letter bytes lent) lent
@@ -187,8 +186,8 @@ pub record SuccessorsGives (line lent numbers after : List ℕ) : Type 0 where
   pub letter : ℕ
   pub states : ℕ
   pub has_table : BytesAt line 1 table
-  pub has_letter : decimal_within largest_byte (field_at line 2) ≡ some letter
-  pub has_states : decimal_within largest_map (field_at line 3) ≡ some states
+  pub has_letter : decimal_within largest_byte (field_at line 2) ≡ Some letter
+  pub has_states : decimal_within largest_map (field_at line 3) ≡ Some states
   pub answers : numbers ≡ successors_numbers (successors_answer (successors_outcome table letter) letter states)
   pub leaves : after ≡ lent
 

@@ -2,10 +2,9 @@
 use Rattle.std.specs.Prelude.{◌≡◌, Bool, true, false, not, List, [], ◌∷◌, ℕ, zero, suc, eqb}
 use Prim.Native.Char.{code}
 use Rattle.notation.specs.Parts.{newline, parts}
+use Rattle.notation.specs.Testing.{Tests}
 use Rattle.stored.specs.Calls.{CallRight}
 use Rattle.stored.specs.Jobs.{JobRight}
-use Rattle.stored.specs.declared.files.Kind.{Kind}
-use Rattle.stored.specs.declared.files.Kind.TheVariants.{Calls, Jobs}
 
 -- the lines of a file's text: each has a newline behind it, but the last may lack it
 unfoldable pub without_end : List (List ℕ) → List (List ℕ)
@@ -22,10 +21,19 @@ unfoldable pub has_case : List ℕ → Bool
 has_case [] = true
 has_case (letter ∷ rest) = not (eqb letter (code "#"))
 
+-- what the lines of a file have
+pub data Kind : Type 0 where
+  Calls : Kind
+  Jobs : Kind
+
 -- when a line's case is right, by what the file has
 abbrev pub LineRight : Kind → List ℕ → Type 0
 LineRight Calls line = CallRight line
 LineRight Jobs line = JobRight line
+
+-- each answer that may be returned at a line says whether its case is right
+abbrev pub TestsLines : (List ℕ → Bool → Type 0) → Kind → Type 0
+TestsLines returns kind = (line : List ℕ) (answer : Bool) → returns line answer → Tests answer (LineRight kind line)
 
 -- these lines come to so many cases, of which so many differ
 pub data Tallied (kind : Kind) : List (List ℕ) → ℕ → ℕ → Type 0 where

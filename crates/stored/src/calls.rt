@@ -2,7 +2,7 @@
 // right if the library gives these numbers and leaves these bytes.
 //
 // To add a call:
-// - here: its case of `Call`, its name in `call_named`, how many arguments it has in `arguments_of`, its arm in `numbers_right`;
+// - here: its case of `Call`, its name in `named`, how many arguments it has in `arguments`, its arm in `numbers_right`;
 // - answers.rt: its function, which makes the call with a line's arguments and compares its numbers;
 // - specs/Calls.antt: its case of `name_of` and `arguments`, the record of what it gives, its case of `Gives`;
 // - proofs: its case of the laws of CallNames.antt and Determined.antt, and in the proofs of the functions named here.
@@ -33,63 +33,58 @@ pub enum Call {
     Successors,
 }
 
-// A call, or none of this name.
-#[derive(Clone, Copy)]
-enum Named {
-    Known(Call),
-    Unknown,
-}
+impl Call {
+    // The call of this name. A match on byte strings would leave the proof a case for each letter at which two names part.
+    fn named(name: &[u8]) -> Option<Call>
+        ensures { Names name.now result }
+    {
+        if same(name, b"read") {
+            return Some(Call::Read);
+        }
+        if same(name, b"write") {
+            return Some(Call::Write);
+        }
+        if same(name, b"start") {
+            return Some(Call::Start);
+        }
+        if same(name, b"step") {
+            return Some(Call::Step);
+        }
+        if same(name, b"tree") {
+            return Some(Call::Tree);
+        }
+        if same(name, b"plain") {
+            return Some(Call::Plain);
+        }
+        if same(name, b"same") {
+            return Some(Call::Same);
+        }
+        if same(name, b"successors") {
+            return Some(Call::Successors);
+        }
+        None
+    }
 
-// The call of this name.
-fn call_named(name: &[u8]) -> Named
-    ensures { Names name.now result }
-{
-    if same(name, b"read") {
-        return Named::Known(Call::Read);
-    }
-    if same(name, b"write") {
-        return Named::Known(Call::Write);
-    }
-    if same(name, b"start") {
-        return Named::Known(Call::Start);
-    }
-    if same(name, b"step") {
-        return Named::Known(Call::Step);
-    }
-    if same(name, b"tree") {
-        return Named::Known(Call::Tree);
-    }
-    if same(name, b"plain") {
-        return Named::Known(Call::Plain);
-    }
-    if same(name, b"same") {
-        return Named::Known(Call::Same);
-    }
-    if same(name, b"successors") {
-        return Named::Known(Call::Successors);
-    }
-    Named::Unknown
-}
-
-// How many arguments a call has.
-#[tactic(auto, unfolding(crate::specs::Calls::arguments))]
-fn arguments_of(call: Call) -> usize
-    ensures { (result ≡ arguments call) × (result ≤ 4) }
-{
-    match call {
-        Call::Read => 1,
-        Call::Write => 2,
-        Call::Start => 1,
-        Call::Step => 3,
-        Call::Tree => 3,
-        Call::Plain => 3,
-        Call::Same => 4,
-        Call::Successors => 3,
+    // How many arguments a call has.
+    #[tactic(auto, unfolding(crate::specs::Calls::arguments))]
+    fn arguments(self) -> usize
+        ensures { (result ≡ arguments self) × (result ≤ 4) }
+    {
+        match self {
+            Call::Read => 1,
+            Call::Write => 2,
+            Call::Start => 1,
+            Call::Step => 3,
+            Call::Tree => 3,
+            Call::Plain => 3,
+            Call::Same => 4,
+            Call::Successors => 3,
+        }
     }
 }
 
-// Does a call with the line's arguments give these numbers?
-fn numbers_right(call: Call, line: &[u8], numbers: &[u8], buffer: &mut [u8]) -> bool
+// Does a call with the line's arguments give these numbers? A table of functions would say no more than the cases.
+fn numbers_right(call: Call, line: &[u8], numbers: &[u8], buffer: &mut [u8]) -> Option<bool>
     ensures { Compared call line.now buffer.old numbers.now buffer.new result }
 {
     match call {
@@ -108,8 +103,8 @@ fn numbers_right(call: Call, line: &[u8], numbers: &[u8], buffer: &mut [u8]) -> 
 fn lent_right(call: Call, line: &[u8], buffer: &mut [u8]) -> bool
     ensures { Tests result (Answered call line.now buffer.old) }
 {
-    let arguments = arguments_of(call);
-    let right = numbers_right(call, line, field(line, arguments + 2), buffer);
+    let arguments = call.arguments();
+    let right = numbers_right(call, line, field(line, arguments + 2), buffer).unwrap_or(false);
     right & bytes_are(field(line, arguments + 3), buffer)
 }
 
@@ -117,15 +112,15 @@ fn lent_right(call: Call, line: &[u8], buffer: &mut [u8]) -> bool
 pub fn call_right(line: &[u8]) -> bool
     ensures { Tests result (CallRight line.now) }
 {
-    let Named::Known(call) = call_named(field(line, 0)) else {
+    let Some(call) = Call::named(field(line, 0)) else {
         return false;
     };
-    let arguments = arguments_of(call);
+    let arguments = call.arguments();
     if separators(line, TAB) != arguments + 3 {
         return false;
     }
-    let lent = field_bytes(line, arguments + 1);
-    let mut buffer = lent.room;
-    let end = lent.end;
-    lent.right & lent_right(call, line, &mut buffer[..end])
+    let Some(mut lent) = field_bytes(line, arguments + 1) else {
+        return false;
+    };
+    lent_right(call, line, lent.as_mut_slice())
 }

@@ -13,9 +13,7 @@ fn output_right(job: &[u8], expected: &[u8]) -> bool
     ensures { Tests result (SaysAnswer job.now expected.now) }
 {
     let output = judge_job(job);
-    let bytes = output.bytes;
-    let end = output.length;
-    text_is(expected, &bytes[..end])
+    text_is(expected, &output.bytes[..output.length])
 }
 
 // Is a line right?
@@ -25,8 +23,8 @@ pub fn job_right(line: &[u8]) -> bool
     if separators(line, TAB) != 1 {
         return false;
     }
-    let stored = field_bytes(line, 0);
-    let room = stored.room;
-    let end = stored.end;
-    stored.right & output_right(&room[..end], field(line, 1))
+    let Some(job) = field_bytes(line, 0) else {
+        return false;
+    };
+    output_right(job.as_slice(), field(line, 1))
 }

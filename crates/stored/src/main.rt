@@ -9,13 +9,15 @@ mod files;
 mod jobs;
 mod rules;
 
-use files::{Kind, run_file};
+use calls::call_right;
+use files::run_file;
+use jobs::job_right;
 
 fn main(rt: HostRuntime) {
-    run_file(&rt, b"calls.txt", Kind::Calls);
-    run_file(&rt, b"boundaries.txt", Kind::Calls);
-    run_file(&rt, b"u2-calls.txt", Kind::Calls);
-    run_file(&rt, b"u7-calls.txt", Kind::Calls);
-    run_file(&rt, b"jobs.txt", Kind::Jobs);
-    run_file(&rt, b"shortcuts.txt", Kind::Jobs);
+    run_file(&rt, "calls.txt", call_right);
+    run_file(&rt, "boundaries.txt", call_right);
+    run_file(&rt, "u2-calls.txt", call_right);
+    run_file(&rt, "u7-calls.txt", call_right);
+    run_file(&rt, "jobs.txt", job_right);
+    run_file(&rt, "shortcuts.txt", job_right);
 }

@@ -2,18 +2,20 @@
 ghost use Rattle.std.specs.Prelude.{◌≡◌, ℕ, suc};
 ghost use Rattle.base.specs.Outcome.{refused};
 ghost use Rattle.base.specs.Lists.{tabulate};
+ghost use Rattle.base.specs.Refusals.{refusal_number};
 ghost use Rattle.rule.specs.Limits.{max_sets};
 ghost use Rattle.rule.specs.Inner.Lanes.{map_of};
 ghost use Rattle.successors.specs.SuccessorsCall.{SuccessorsCall, successors_answer};
 
+use base::refusal::Refusal;
 use rule::lanes::map_of;
 use rule::limits::SETS;
 use rule::lookup::{ENTRIES, look_up};
+use std::array;
 use table::letter::letter_questions;
-use table::reader::Reading;
 
 // 0, the map of the next states, and for each accepting set the map of those that a transition of it reaches: set i at place i − 1,
-// 0 for a set that the rule does not have. Or the number of the question that failed and zeros.
+// 0 for a set that the rule does not have. Or the number of the question that failed and zeros. Numbers, since C reads it.
 #[repr(C)]
 #[derive(Clone, Copy)]
 pub struct SuccessorsAnswer {
@@ -23,13 +25,16 @@ pub struct SuccessorsAnswer {
 }
 
 // A refusal: its number and zero for all else.
-fn refusal(number: u8) -> SuccessorsAnswer
-    ensures { (a s : ℕ) → result ≡ successors_answer (refused number) a s }
-{
-    SuccessorsAnswer {
-        number: number,
-        next: 0,
-        reached: [0u16; SETS],
+impl From<Refusal> for SuccessorsAnswer {
+    ghost from_gives = { λ refusal answer. (a s : ℕ) → answer ≡ successors_answer (refused (refusal_number refusal)) a s };
+
+    #[tactic(auto, unfolding(crate::specs::SuccessorsCall::successors_answer))]
+    fn from(refusal: Refusal) -> SuccessorsAnswer {
+        SuccessorsAnswer {
+            number: refusal.into(),
+            next: 0,
+            reached: [0; SETS],
+        }
     }
 }
 
@@ -37,30 +42,22 @@ fn refusal(number: u8) -> SuccessorsAnswer
 fn maps_by_set(images: u64) -> [u16; SETS]
     ensures { result ≡ tabulate max_sets (λ i. map_of images (suc i)) }
 {
-    let mut maps = [0u16; SETS];
-    let mut i = 0usize;
-    while i < SETS {
-        maps[i] = map_of(images, i + 1);
-        i += 1;
-    }
-    maps
+    array::from_fn(|i| map_of(images, i + 1))
 }
 
 // THE SUCCESSORS of some states under a letter. Questions 1 to 6, then 8.
 pub fn successors(table: &[u8], letter: u8, states: u16) -> SuccessorsAnswer
     ensures { SuccessorsCall table.now letter states result }
 {
-    let mut lookup = [0u64; ENTRIES];
+    let mut lookup = [0; ENTRIES];
     match letter_questions(table, letter, &mut lookup) {
-        Reading::Refused(number) => refusal(number),
-        Reading::Rule(_) => {
+        Err(refusal) => refusal.into(),
+        Ok(_) => {
             let images = look_up(&lookup, states);
-            let next = map_of(images, 0);
-            let reached = maps_by_set(images);
             SuccessorsAnswer {
                 number: 0,
-                next: next,
-                reached: reached,
+                next: map_of(images, 0),
+                reached: maps_by_set(images),
             }
         }
     }

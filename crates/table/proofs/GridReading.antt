@@ -2,21 +2,19 @@
 use mathlib.Core.Path.{◌≡◌, refl, ◌∙◌, ap, ap₂}
 use mathlib.Core.List.{List, [], ◌∷◌, map}
 use Prim.Native.Nat.{ℕ, ◌*◌, ◌≤◌, ◌<◌}
-use native.Mathlib.Nat.{mul-le-mul}
 use borrow.Author.Tests.{le-leb, lt-leb}
 use lib.ListN.{length, take, length-map}
 use lib.Seq.{take_at}
-use Rattle.base.specs.Outcome.{refused}
+use Rattle.base.specs.Outcome.{Outcome, refused, accepted}
 use Rattle.base.specs.Lists.{Every, pad}
 use Rattle.base.specs.LentBuffer.{stored}
-use Rattle.rule.specs.Limits.{max_states, max_letters}
-use Rattle.rule.specs.Rule.{Grid}
+use Rattle.rule.specs.Rule.{Grid, Rule}
 use Rattle.rule.specs.Inner.Padded.{padded_row, padded_square, padded}
 use Rattle.table.specs.Table.{grid_bytes, read_rule}
 use Rattle.table.specs.Inner.GridBytes.{narrow}
-use Rattle.table.specs.ReadCall.{read_outcome, read_answer, grid_after, ReadCall}
+use Rattle.table.specs.ReadCall.{read_outcome, grid_after}
+use Rattle.table.specs.Inner.ReadRule.{NumbersOf}
 use Rattle.table.specs.declared.header.Header.{Header}
-use Rattle.table.specs.declared.reader.ReadAnswer.{ReadAnswer}
 use Rattle.table.proofs.Asked.{RuleRead}
 use Rattle.table.proofs.Parts.{Squares, fits_squares}
 
@@ -48,39 +46,32 @@ narrow_padded n m grid e squares =
 
 -- THE CALL `read`
 
+-- a refusal leaves the buffer as it was
+pub kept : {o : Outcome Rule} {number : ℕ} → o ≡ refused number → (before : List ℕ) → before ≡ grid_after o before
+unfolding grid_after
+kept e before = rw e
+
 -- questions 1 to 6
-pub read_refused : (table before : List ℕ) (number : ℕ) → read_rule table ≡ refused number
-    → (answer : ReadAnswer) → answer ≡ read_answer (refused number) → ReadCall table before answer before
-unfolding read_outcome grid_after
-read_refused table before number is answer e = rw is (e, refl)
+pub grid_refused : (table before : List ℕ) (number : ℕ) → read_rule table ≡ refused number → read_outcome table before ≡ refused number
+unfolding read_outcome
+grid_refused table before number e = rw e
 
-module _ {table : List ℕ} {header : Header} {cells : Grid} {words : List (List ℕ)} (v : RuleRead table header cells words) where
-  abbrev n : ℕ
-  n = header.states
+module _ {table : List ℕ} {header : Header} {cells : Grid} {words : List (List ℕ)} (v : RuleRead table header cells words) (before : List ℕ) where
+  -- question 10
+  pub grid_no_room : length before < header.letters * header.states * header.states → read_outcome table before ≡ refused 10
+  unfolding read_outcome
+  grid_no_room h = let h' = rw (v.holds.numbers.states, v.holds.numbers.letters) at h in rw (v.reads, lt-leb _ _ h')
 
-  abbrev m : ℕ
-  m = header.letters
-
-  pub numbers_small : (n ≤ max_states) × (m ≤ max_letters)
-  numbers_small = rw v.holds.numbers (v.holds.limits.states, v.holds.limits.letters)
-
-  -- the grid's length is a small number
-  pub grid_small : (m * n ≤ max_letters * max_states) × (m * n * n ≤ max_letters * max_states * max_states)
-  grid_small = let (a, b) = numbers_small in (mul-le-mul b a, mul-le-mul (mul-le-mul b a) a)
-
-  module _ (before : List ℕ) where
-    -- question 10
-    pub read_no_room : length before < m * n * n → (answer : ReadAnswer) → answer ≡ read_answer (refused 10) → ReadCall table before answer before
-    unfolding read_outcome grid_after
-    read_no_room h answer e = let h' = rw v.holds.numbers at h in rw (v.reads, lt-leb _ _ h') (e, refl)
-
-    -- all questions are answered yes
-    pub read_done : m * n * n ≤ length before → (after : List ℕ) → after ≡ stored 0 (grid_bytes (narrow n m cells)) before
-        → ReadCall table before (record { number = 0; states = n; letters = m; sets = header.sets; start = header.start }) after
-    unfolding read_outcome read_answer grid_after
-    read_done h after e =
-        let R = v.rule in
-        let well = v.holds.limits.well in
-        let h' = rw v.holds.numbers at h in
-        let same = narrow_padded R.states R.letters R.grid well.squares (fits_squares R.states R.sets R.grid well.fits) in
-        rw (v.reads, le-leb _ _ h', e, v.holds.numbers, v.arrays, same) (refl, refl)
+  -- all questions are answered yes
+  pub grid_done : header.letters * header.states * header.states ≤ length before → (after : List ℕ)
+      → after ≡ stored 0 (grid_bytes (narrow header.states header.letters cells)) before
+      → ((R : Rule) × (read_outcome table before ≡ accepted R) × NumbersOf R header) × (after ≡ grid_after (read_outcome table before) before)
+  unfolding read_outcome grid_after
+  grid_done h after e =
+      let R = v.rule in
+      let well = v.holds.limits.well in
+      let numbers = v.holds.numbers in
+      let h' = rw (numbers.states, numbers.letters) at h in
+      let same = narrow_padded R.states R.letters R.grid well.squares (fits_squares R.states R.sets R.grid well.fits) in
+      let written = rw (numbers.states, numbers.letters, v.arrays, same) at e in
+      rw (v.reads, le-leb _ _ h') ((R, refl, numbers), written)

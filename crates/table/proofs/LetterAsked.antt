@@ -28,11 +28,11 @@ module _ {table : List ℕ} {header : Header} {cells : Grid} {words : List (List
   -- question 8 is answered no
   pub letter_no : header.letters ≤ a → letter_questions table a ≡ refused 8
   unfolding letter_questions
-  letter_no large = let large' = rw v.holds.numbers at large in rw (v.reads, le-ltb _ _ large')
+  letter_no large = let large' = rw v.holds.numbers.letters at large in rw (v.reads, le-ltb _ _ large')
 
   module _ (small : a < header.letters) where
     below : a < v.rule.letters
-    below = rw v.holds.numbers at small
+    below = rw v.holds.numbers.letters at small
 
     -- all are answered yes
     pub letter_yes : letter_questions table a ≡ accepted v.rule

@@ -2,11 +2,12 @@
 -- grid as the arrays hold it.
 use mathlib.Core.Path.{◌≡◌, refl, sym, ◌∙◌, ap}
 use mathlib.Core.List.{List, [], ◌∷◌, map}
-use Prim.Native.Nat.{ℕ, zero, suc, ◌-◌, ◌/◌, ◌%◌, ◌^◌, ◌<◌, ◌≤◌}
+use Prim.Native.Nat.{ℕ, zero, suc, ◌/◌, ◌%◌, ◌^◌, ◌<◌, ◌≤◌}
 use native.Mathlib.Nat.{suc-sub-suc, sub-zero, le_of_suc-le-suc, not-suc-le-zero}
 use native.Mathlib.Omega.{arith}
 use lib.Dec.{eqb}
-use lib.ListN.{length, drop, replicate, length-map}
+use lib.ListN.{length, replicate, length-map}
+use Rattle.std.proofs.lemmas.List.{drop-replicate}
 use Rattle.base.specs.Outcome.{refused, accepted, ◌then◌}
 use Rattle.base.specs.Reading.{Read, read_many}
 use Rattle.base.specs.Lists.{pad}
@@ -14,7 +15,7 @@ use Rattle.base.proofs.Accepted.{IfAccepted, followed, weaker, then_accepted, th
 use Rattle.rule.specs.Limits.{max_states, max_letters, no_transition}
 use Rattle.rule.specs.Inner.Padded.{blank_row, blank_square, padded_row, padded_square, padded}
 use Rattle.table.specs.Table.{read_byte, read_transition, read_row, read_cell, read_grid}
-use Rattle.table.specs.Inner.Cursor.{replaced, read_square, read_padded}
+use Rattle.table.specs.Inner.Reader.{replaced, read_square, read_padded}
 use Rattle.table.proofs.Reading.{byte_read_lem}
 
 -- one thing, then more behind it
@@ -89,11 +90,6 @@ many_length one (suc c) bytes =
     anything (refused number) = tt
     anything (accepted x) = tt
 
-drop_replicate : {A : Type 0} (c w : ℕ) (z : A) → drop c (replicate w z) ≡ replicate (w - c) z
-drop_replicate zero w z = rw (sub-zero w)
-drop_replicate (suc c) zero z = let e : 0 - suc c ≡ 0 = omega arith in rw e
-drop_replicate (suc c) (suc w) z = drop_replicate c w z ∙ rw (suc-sub-suc w c)
-
 -- many things in another form, stored over the front of a blank array
 padded_many : {A B : Type 0} (f : A → B) (one : List ℕ → Read A) (one' : List ℕ → Read B) (w : ℕ) (z : B)
     → ((bytes : List ℕ) → one' bytes ≡ formed f (one bytes))
@@ -103,7 +99,7 @@ padded_many f one one' w z e c bytes =
     let many = read_many one c bytes in
     rw (read_many_map f one one' e c bytes) (then_assoc many _ _
     ∙ then_same many _ _ (weaker _ _ many (many_length one c bytes) λ x same.
-    rw (drop_replicate c w z, length-map x.0 f, same)))
+    rw (drop-replicate c w z, length-map x.0 f, same)))
 
 square_padded : (n k : ℕ) (bytes : List ℕ) → n ≤ max_states → read_square n k bytes ≡ formed padded_square (read_many (read_cell n k n) n bytes)
 unfolding read_square padded_square padded_row

@@ -6,15 +6,14 @@ use Prim.Native.Nat.{ℕ, zero, suc, ◌+◌, ◌*◌, ◌≤◌}
 use native.Mathlib.Nat.{suc-mul, zero-mul, zero-add, suc-add, add_comm}
 use native.Mathlib.Omega.{arith}
 use lib.ListN.{length, take, drop, length-drop, length-map, take-append-drop}
-use lib.Seq.{take_at, drop_at, take-take, drop-drop, length-take-le, take-nil}
+use lib.Seq.{take_at, drop_at, take-take, drop-drop, length-take-le}
+use Rattle.std.proofs.lemmas.List.{drop-take}
 use Rattle.base.specs.Lists.{Every}
 use Rattle.base.proofs.Every.{every_flatten, flatten_every, every_weaker, every_both, every_value}
 use Rattle.base.proofs.Flattening.{flatten_append, length_flatten}
 use Rattle.rule.specs.Rule.{Grid}
 use Rattle.rule.specs.WellFormed.{SquareFits}
 use Rattle.table.specs.Table.{parts, grid_of, grid_bytes}
-
--- LISTS OF LISTS
 
 -- PARTS
 
@@ -47,19 +46,13 @@ module _ {A : Type 0} where
   parts_flatten w (l ∷ ls) h =
       ap₂ ◌∷◌ (take_at l (flatten ls) w h.0) (ap (parts w (length ls)) (drop_at l (flatten ls) w h.0) ∙ parts_flatten w ls h.1)
 
-  -- the first n of the rest are the rest of the first w + n
-  drop_take : (w n : ℕ) (l : List A) → drop w (take (w + n) l) ≡ take n (drop w l)
-  drop_take zero n l = ap (λ (k : ℕ). take k l) (zero-add n)
-  drop_take (suc w) n [] = ap (drop (suc w)) (take-nil (suc w + n)) ∙ sym (take-nil n)
-  drop_take (suc w) n (x ∷ l) = ap (λ (k : ℕ). drop (suc w) (take k (x ∷ l))) (suc-add w n) ∙ drop_take w n l
-
   -- a + b parts are a parts, then b parts of the rest
   parts_add : (w a b : ℕ) (l : List A) → parts w (a + b) l ≡ parts w a (take (a * w) l) ++ parts w b (drop (a * w) l)
   unfolding parts
   parts_add w zero b l = rw (zero-add, zero-mul)
   parts_add w (suc a) b l =
       let m : suc a * w ≡ w + a * w = omega arith in
-      rw (suc-add, m, take-take w (w + a * w) l (omega arith), drop_take, ← (drop-drop (a * w) w l), parts_add w a b (drop w l))
+      rw (suc-add, m, take-take w (w + a * w) l (omega arith), drop-take, ← (drop-drop (a * w) w l), parts_add w a b (drop w l))
 
 -- GRIDS
 

@@ -3,15 +3,15 @@
 use mathlib.Core.Path.{◌≡◌, refl, sym, ◌∙◌, ap}
 use mathlib.Core.Bool.{Bool, true, false, cond}
 use mathlib.Core.List.{List, [], ◌∷◌}
-use Prim.Native.Nat.{ℕ, zero, suc, ◌-◌, ◌/◌, ◌%◌, ◌^◌, ◌≤◌, ◌<◌}
+use Prim.Native.Nat.{ℕ, zero, suc, ◌+◌, ◌-◌, ◌/◌, ◌%◌, ◌^◌, ◌≤◌, ◌<◌}
 use native.Mathlib.Decide.{dec_lt}
 use native.Mathlib.Omega.{arith}
 use native.Mathlib.Nat.{pow-suc}
-use lib.Arith.{bin_ind}
 use lib.Bits.{bit_and, and_le_l}
-use lib.Count.{ones, ones_in, ones_step, count_trailing_zeros}
+use lib.Count.{ones, ones_in, count_trailing_zeros}
 use lib.Dec.{eqb}
-use lib.ListN.{length, drop, set, replicate, length-set, length-replicate}
+use lib.ListN.{length, set, replicate, length-set, length-replicate}
+use Rattle.std.proofs.lemmas.Nat.{zero_from_ones}
 use Rattle.base.specs.Outcome.{Outcome, refused, accepted, ◌then◌}
 use Rattle.base.specs.Reading.{Read}
 use Rattle.base.proofs.Accepted.{then_assoc}
@@ -72,30 +72,25 @@ over_lowest k (suc w) (x ∷ row) rest bytes le some small =
         let odd : rest % 2 ≡ 1 = omega arith in
         rw (odd, lowest_here w rest odd, cleared_even rest, cleared_here rest odd)
 
--- `left` bytes are still to come, those of the bits of `rest`; read over the row they give the whole row
-pub record RowSoFar (s : List ℕ) (k w : ℕ) (whole : Read (List ℕ)) (row : List ℕ) (at rest left : ℕ) : Type 0 where
+-- `got` of the map's bytes are read, and those of the bits of `rest` are still to come; read over the row they give the whole row
+pub record RowSoFar (k w standing : ℕ) (whole : Read (List ℕ)) (row : List ℕ) (rest got : ℕ) (bytes : List ℕ) : Type 0 where
   pub size : length row ≡ w
   pub small : rest < 2 ^ w
-  pub count : left ≡ ones rest
-  pub ahead : read_over k row rest (drop at s) ≡ whole
+  pub count : got + ones rest ≡ ones standing
+  pub over : read_over k row rest bytes ≡ whole
 
--- a map that counts no standing bit is empty
-ones_none : (n : ℕ) → ones n ≡ 0 → n ≡ 0
-ones_none = bin_ind (λ n. ones n ≡ 0 → n ≡ 0) (λ e. refl) (λ n ih e.
-    let z : n / 2 ≡ 0 = ih (omega (arith, ones_step n)) in omega (arith, ones_step n))
-
-pub row_start : (s : List ℕ) (k w at standing : ℕ) → standing < 2 ^ w
-    → RowSoFar s k w (read_row k w standing (drop at s)) (replicate w no_transition) at standing (ones standing)
-row_start s k w at standing h = record {
+pub row_start : (k w standing : ℕ) (bytes : List ℕ) → standing < 2 ^ w
+    → RowSoFar k w standing (read_row k w standing bytes) (replicate w no_transition) standing 0 bytes
+row_start k w standing bytes h = record {
   size = length-replicate w no_transition;
   small = h;
-  count = refl;
-  ahead = over_blank k w standing (drop at s);
+  count = omega arith;
+  over = over_blank k w standing bytes;
 }
 
-module _ {s : List ℕ} {k w : ℕ} {whole : Read (List ℕ)} {row : List ℕ} {at rest left : ℕ}
-    (v : RowSoFar s k w whole row at rest left) where
-  module _ (h : 0 < left) where
+module _ {k w standing : ℕ} {whole : Read (List ℕ)} {row : List ℕ} {rest got : ℕ} {bytes : List ℕ}
+    (v : RowSoFar k w standing whole row rest got bytes) where
+  module _ (h : got < ones standing) where
     -- while bytes are to come, a bit stands
     pub row_some : 0 < rest
     unfolding ones ones_in
@@ -113,27 +108,27 @@ module _ {s : List ℕ} {k w : ℕ} {whole : Read (List ℕ)} {row : List ℕ} {
       pub row_inside : count_trailing_zeros width rest < w
       row_inside = lowest_inside width w rest wide row_some v.small
 
-      next : (read_byte k (drop at s) then λ x. read_over k (set row (count_trailing_zeros width rest) x.0) (bit_and rest (rest - 1)) x.1)
-          ≡ whole
-      next = sym (over_lowest k width row rest (drop at s) (omega (arith, v.size)) row_some (rw v.size v.small)) ∙ v.ahead
+      next : (read_byte k bytes then λ x. read_over k (set row (count_trailing_zeros width rest) x.0) (bit_and rest (rest - 1)) x.1) ≡ whole
+      next = sym (over_lowest k width row rest bytes (omega (arith, v.size)) row_some (rw v.size v.small)) ∙ v.over
 
       -- its set byte is there
-      pub row_take : (x at' : ℕ) → accepted (x, drop at' s) ≡ read_byte k (drop at s)
-          → RowSoFar s k w whole (set row (count_trailing_zeros width rest) x) at' (bit_and rest (rest - 1)) (left - 1)
-      row_take x at' e = record {
+      pub row_take : (x : ℕ) (behind : List ℕ) → accepted (x, behind) ≡ read_byte k bytes
+          → RowSoFar k w standing whole (set row (count_trailing_zeros width rest) x) (bit_and rest (rest - 1)) (got + 1) behind
+      row_take x behind e = record {
         size = length-set row (count_trailing_zeros width rest) x ∙ v.size;
         small = omega (arith, v.small, and_le_l rest (rest - 1));
         count = omega (arith, v.count, cleared_ones rest row_some);
-        ahead = rw (← e) at next;
+        over = rw (← e) at next;
       }
 
       -- its set byte is refused
-      pub row_refused : (number : ℕ) → refused number ≡ read_byte k (drop at s) → refused number ≡ whole
+      pub row_refused : (number : ℕ) → refused number ≡ read_byte k bytes → refused number ≡ whole
       row_refused number e = rw (← e) at next
 
-  -- no byte is left: no bit stands, and the row is whole
-  pub row_none : left ≤ 0 → rest ≡ 0
-  row_none h = ones_none rest (omega (arith, v.count))
+  module _ (h : ones standing ≤ got) where
+    -- no byte is left: no bit stands, and the row is whole
+    pub row_none : rest ≡ 0
+    row_none = zero_from_ones rest (omega (arith, v.count))
 
-  pub row_done : left ≤ 0 → accepted (row, drop at s) ≡ whole
-  row_done h = sym (over_none k row (drop at s)) ∙ rw (row_none h) at v.ahead
+    pub row_done : accepted (row, bytes) ≡ whole
+    row_done = sym (over_none k row bytes) ∙ rw row_none at v.over

@@ -3,20 +3,19 @@
 use mathlib.Core.Path.{◌≡◌, refl, ◌∙◌, ap}
 use mathlib.Core.Bool.{Bool, true, false, cond}
 use mathlib.Core.List.{List, [], ◌∷◌, ◌++◌, flat_map}
-use Prim.Native.Nat.{ℕ, suc, ◌+◌, ◌-◌, ◌*◌, ◌^◌, ◌≤◌, ◌<◌}
+use Prim.Native.Nat.{ℕ, suc, ◌+◌, ◌*◌, ◌^◌, ◌≤◌, ◌<◌}
 use native.Mathlib.Omega.{arith}
+use native.Mathlib.Nat.{pow-suc}
 use native.Mathlib.Numerals.{add-one}
 use borrow.Author.Tests.{eq-eqb, ne_eqb, lt-ltb, le-ltb}
 use lib.Dec.{eqb}
-use lib.ListN.{length, get_or, drop, length-drop, drop_of_length-le}
-use lib.Pow.{pow_mono}
-use lib.Seq.{drop-cons, drop-length}
+use lib.ListN.{length, get_or, drop, drop_of_length-le}
+use lib.Seq.{drop-cons}
 use Rattle.base.specs.Outcome.{refused, accepted}
-use Rattle.rule.specs.Limits.{max_states, no_transition}
+use Rattle.rule.specs.Limits.{no_transition}
 use Rattle.rule.specs.WellFormed.{bytes_fit}
 use Rattle.table.specs.Table.{map_byte, set_bytes}
 use Rattle.table.specs.Inner.Writing.{transition_count}
-use Rattle.table.proofs.Reading.{map_byte_lt}
 
 -- COUNTING
 
@@ -79,48 +78,42 @@ module _ {k : ℕ} {bytes : List ℕ} {count i : ℕ} (v : CountedSoFar k bytes 
 
 -- THE MAP BYTE
 
--- `map` is the map of a row from state r on
+-- `map` is the map of the first r states; the others' bits are to come
 pub record MapSoFar (row : List ℕ) (map r : ℕ) : Type 0 where
-  pub inside : r ≤ length row
-  pub short : length row ≤ max_states
-  pub same : map ≡ map_byte (drop r row)
+  pub small : map < 2 ^ r
+  pub same : map + 2 ^ r * map_byte (drop r row) ≡ map_byte row
 
-pub map_start : (row : List ℕ) → length row ≤ max_states → MapSoFar row 0 (length row)
-unfolding map_byte
-map_start row h = record { inside = omega arith; short = h; same = rw (drop-length row) }
+pub map_start : (row : List ℕ) → MapSoFar row 0 0
+map_start row = record { small = omega arith; same = omega arith }
 
-pub map_done : {row : List ℕ} {map r : ℕ} → MapSoFar row map r → r ≤ 0 → map ≡ map_byte row
-map_done {row} {map} {r} v h = let e : r ≡ 0 = omega arith in v.same ∙ ap (λ (c : ℕ). map_byte (drop c row)) e
-
-module _ {row : List ℕ} {map r : ℕ} (v : MapSoFar row map r) (h : 0 < r) where
-  -- before the lowest state it can be doubled in a byte
-  pub map_room : map < 128
-  map_room =
-      let few : length (drop r row) ≤ 7 = omega (arith, length-drop r row, v.short) in
-      omega (arith, v.same, map_byte_lt (drop r row), pow_mono few)
-
-  -- the state below: the map is doubled
-  below : drop (r - 1) row ≡ get_or row (r - 1) 0 ∷ drop r row
-  below =
-      let e : suc (r - 1) ≡ r = omega arith in
-      drop-cons row (r - 1) 0 (omega (arith, v.inside)) ∙ ap (λ (c : ℕ). get_or row (r - 1) 0 ∷ drop c row) e
-
-  pub map_skip : get_or row (r - 1) 0 ≡ no_transition → MapSoFar row (map * 2) (r - 1)
+module _ {row : List ℕ} {map r : ℕ} (v : MapSoFar row map r) where
+  pub map_done : length row ≤ r → map ≡ map_byte row
   unfolding map_byte
-  map_skip e = record {
-    inside = omega (arith, v.inside);
-    short = v.short;
-    same = rw (below, eq-eqb (get_or row (r - 1) 0) no_transition e) (omega (arith, v.same));
-  }
+  map_done h = let end = drop_of_length-le row h in omega (arith, v.same, ap (λ (l : List ℕ). 2 ^ r * map_byte l) end)
 
-  -- and one more where there is a transition to it
-  pub map_one : (get_or row (r - 1) 0 ≡ no_transition → ⊥) → MapSoFar row (map * 2 + 1) (r - 1)
-  unfolding map_byte
-  map_one there = record {
-    inside = omega (arith, v.inside);
-    short = v.short;
-    same = rw (below, ne_eqb (get_or row (r - 1) 0) no_transition there) (omega (arith, v.same));
-  }
+  module _ (h : r < length row) where
+    next : drop r row ≡ get_or row r 0 ∷ drop (suc r) row
+    next = drop-cons row r 0 h
+
+    -- there is no transition to the next state
+    pub map_skip : get_or row r 0 ≡ no_transition → MapSoFar row map (r + 1)
+    unfolding map_byte
+    map_skip e =
+        let none = eq-eqb (get_or row r 0) no_transition e in
+        rw (add-one r) (record {
+          small = omega (arith, v.small, pow-suc 2 r);
+          same = let e : map + 2 ^ r * (0 + 2 * map_byte (drop (suc r) row)) ≡ map_byte row = rw (next, none) at v.same in rw (pow-suc 2 r) (omega arith);
+        })
+
+    -- there is one: its bit stands
+    pub map_one : (get_or row r 0 ≡ no_transition → ⊥) → MapSoFar row (map + 2 ^ r) (r + 1)
+    unfolding map_byte
+    map_one there =
+        let one = ne_eqb (get_or row r 0) no_transition there in
+        rw (add-one r) (record {
+          small = omega (arith, v.small, pow-suc 2 r);
+          same = let e : map + 2 ^ r * (1 + 2 * map_byte (drop (suc r) row)) ≡ map_byte row = rw (next, one) at v.same in rw (pow-suc 2 r) (omega arith);
+        })
 
 -- THE SET BYTES
 

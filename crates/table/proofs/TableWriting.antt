@@ -1,6 +1,6 @@
--- The table that the writer puts into a lent buffer: its header, a cell, and the cells of the grid's rows.
+-- The table that the writer puts into a lent buffer: a cell, and the cells of the grid's rows.
 use mathlib.Core.Path.{◌≡◌, sym, ◌∙◌, ap}
-use mathlib.Core.List.{List, [], ◌∷◌}
+use mathlib.Core.List.{List, []}
 use Prim.Native.Nat.{ℕ, zero, suc, ◌+◌, ◌-◌, ◌*◌, ◌≤◌, ◌<◌}
 use native.Mathlib.Omega.{arith}
 use native.Mathlib.Nat.{suc-mul, zero-mul, mul-le-mul_right, le_of_suc-le-suc, not-suc-le-zero}
@@ -12,15 +12,6 @@ use Rattle.base.proofs.Storing.{stored_start, stored_byte, stored_next, pieces_s
 use Rattle.table.specs.Table.{map_byte, set_bytes, cell_bytes, parts}
 use Rattle.table.specs.Inner.Writing.{row_cells}
 use Rattle.table.proofs.Parts.{length_parts}
-
--- the header's four bytes
-pub header_stored : (n m k start : ℕ) (buffer : List ℕ) → 4 ≤ length buffer
-    → set (set (set (set buffer 0 n) 1 m) 2 k) 3 start ≡ stored 0 (n ∷ m ∷ k ∷ start ∷ []) buffer
-header_stored n m k start buffer h =
-    let v₁ = stored_byte (stored_start buffer 0 (omega arith)) n (omega arith) in
-    let v₂ = stored_byte v₁ m (omega arith) in
-    let v₃ = stored_byte v₂ k (omega arith) in
-    (stored_byte v₃ start (omega arith)).same
 
 -- a map byte, and the set bytes behind it
 pub cell_stored : (row buffer : List ℕ) (from : ℕ) → from + length (cell_bytes row) ≤ length buffer

@@ -1,5 +1,5 @@
 -- What the contracts of inner functions cite.
-pub mod Cursor
+pub mod Reader
 pub mod GridBytes
 pub mod Header
 pub mod Preparing

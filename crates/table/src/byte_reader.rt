@@ -1,11 +1,10 @@
 // "The cells are read once, from front to back": a reader over the lent table bytes and a place in them.
-ghost use Rattle.std.specs.Prelude.{◌≡◌};
-ghost use Rattle.table.specs.Inner.Cursor.{byte_at, next_as};
-
-use crate::cursor::{Cursor, Next};
+ghost use Rattle.std.specs.Prelude.{◌≡◌, drop};
+ghost use Rattle.std.specs.Iterator.{item_count};
+ghost use Rattle.table.specs.Inner.Reader.{ahead, next_as, next_byte};
 
 // The lent bytes of a table, and the place of the byte to be read next.
-#[derive(Clone, Copy)]
+#[derive(Drop)]
 pub struct Reader<'a> {
     src: &'a [u8],
     at: usize,
@@ -14,22 +13,23 @@ pub struct Reader<'a> {
 impl<'a> Reader<'a> {
     // A reader at a place of some bytes.
     pub fn new(src: &'a [u8], at: usize) -> Reader<'a>
-        ensures { (result.src ≡ src.entry) × (result.at ≡ at) }
+        ensures { ahead result ≡ drop at src.entry.now }
     {
         Reader { src, at }
     }
-
-    // The byte to be read next, with the cursor behind it, or the end: the cursor at the reader's place looks into its bytes.
-    pub fn next(self) -> Next
-        ensures { next_as result ≡ byte_at self.entry.src.now self.entry.at }
-    {
-        Cursor { at: self.at }.next(self.src)
-    }
 }
 
-// A reader is made at this place and asked. Every cell byte is read through here, and no caller sees a reader.
-pub fn byte_at(s: &[u8], at: usize) -> Next
-    ensures { next_as result ≡ byte_at s.now at }
-{
-    Reader::new(s, at).next()
+// "At each cell byte in turn: is it there?": the byte to be read next, or nothing at the end. The reader is then behind it.
+impl Iterator for Reader<'_> {
+    type Item = u8;
+
+    ghost next_gives = { λ before byte after. next_as (ahead after) byte ≡ next_byte (ahead before) };
+
+    ghost remaining = { item_count ahead };
+
+    fn next(&mut self) -> Option<u8> {
+        let byte = *self.src.get(self.at)?;
+        self.at += 1;
+        Some(byte)
+    }
 }

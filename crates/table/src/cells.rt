@@ -1,153 +1,108 @@
 // Reading the cells of a table (questions 4 and 5) into arrays of arrays, and each state's images into a word.
-ghost use Rattle.std.specs.Prelude.{◌≡◌, ◌^◌, ◌<◌, ◌≤◌, drop};
-ghost use Rattle.rule.specs.Limits.{max_letters, max_sets, max_states};
+ghost use Rattle.std.specs.Prelude.{◌≡◌, ◌^◌, ◌<◌, ◌≤◌, IfOk};
+ghost use Rattle.rule.specs.Limits.{max_sets, max_states};
 ghost use Rattle.rule.specs.Inner.Padded.{blank_cells, blank_row, blank_square};
 ghost use Rattle.rule.specs.Inner.Lookup.{grid_words, row_word, square_words};
 ghost use Rattle.table.specs.Table.{read_byte, read_cell, read_row};
-ghost use Rattle.table.specs.Inner.Cursor.{byte_read, progress, read_padded, read_square};
+ghost use Rattle.table.specs.Inner.Reader.{ahead, byte_read, progress, read_padded, read_square};
 
-use crate::byte_reader::byte_at;
-use crate::cursor::{Cursor, Next};
+use crate::byte_reader::Reader;
+use crate::header::{Header, fits};
+use base::refusal::Refusal;
 use rule::lanes::{in_lane, spread, with_state};
-use rule::limits::{Cells, NO_TRANSITION, Row, STATES, Square, SquareWords, Words};
+use rule::limits::{Cells, Row, Square, SquareWords, Words};
 
-// A cell byte with the cursor behind it, or the number of the question that it fails.
-#[derive(Clone, Copy)]
-pub enum CellByte {
-    Byte(u8, Cursor),
-    Refused(u8),
-}
-
-// The cursor behind what was read, or the number of the question that failed.
-#[derive(Clone, Copy)]
-pub enum Progress {
-    At(Cursor),
-    Refused(u8),
-}
-
-fn widen(x: u8) -> u16
-    ensures { result ≡ x }
-{
-    x as u16
-}
-
-// Questions 4 and 5 at one cell byte, in which the bits below `width` may stand: none is above 255 shifted down to these bits.
-fn read_byte(s: &[u8], c: Cursor, width: usize) -> CellByte
+// Questions 4 and 5 at one cell byte, in which the bits below `width` may stand.
+#[tactic(auto, using(crate::proofs::CellByte::byte_missing, crate::proofs::CellByte::byte_taken, crate::proofs::CellByte::byte_misfit))]
+fn read_byte(reader: &mut Reader<'_>, width: usize) -> Result<u8, Refusal>
     requires { width ≤ max_states }
-    ensures { byte_read s.now result ≡ read_byte width (drop c.at s.now) }
+    ensures { byte_read (ahead reader.new) result ≡ read_byte width (ahead reader.old) }
 {
-    match byte_at(s, c.at) {
-        Next::End => CellByte::Refused(4),
-        Next::Byte(x, next) => {
-            if widen(x) <= 255u16 >> (8 - width) {
-                CellByte::Byte(x, next)
-            } else {
-                CellByte::Refused(5)
+    match reader.next() {
+        None => Err(Refusal::CellMissing),
+        Some(byte) => {
+            if !fits(u16::from(byte), width) {
+                return Err(Refusal::CellMisfit);
             }
+            Ok(byte)
         }
     }
 }
 
 // The set bytes of a cell, "as many set bytes as the map has standing bits, lowest bit first", into a blank row, and the row's word.
-// The count of ones on the cell map is the number of set bytes that follow, and is counted down; each takes its bit from the map.
-// In lane 0 the word has the map itself. A refusal leaves a blank row.
-fn read_row(s: &[u8], from: Cursor, map: u16, k: usize, row: &mut Row, word: &mut u64) -> Progress
-    requires { ((map < 2 ^ max_states) × (k ≤ max_sets)) × (row.old ≡ blank_row) }
-    ensures { (progress s.now result row.new ≡ read_row k max_states map (drop from.at s.now))
-        × (word.new ≡ row_word row.new) }
+// The count of ones on the cell map is the number of set bytes that follow; each takes its bit from the map.
+// In lane 0 the word has the map itself.
+fn read_row(
+    reader: &mut Reader<'_>,
+    map: u8,
+    header: Header,
+    row: &mut Row,
+    word: &mut u64,
+) -> Result<(), Refusal>
+    requires { row.old ≡ blank_row }
+    ensures { (progress (ahead reader.new) result row.new ≡ read_row header.sets max_states map (ahead reader.old))
+        × IfOk result (λ _. word.new ≡ row_word row.new) }
 {
-    let mut at = from;
-    let mut left = u16::count_ones(map);
-    let mut rest = map as u64;
-    let mut made = in_lane(map, 0);
-    while 0 < left {
-        let r = u64::trailing_zeros(rest) as usize;
-        rest = rest & (rest - 1);
-        left -= 1;
-        match read_byte(s, at, k) {
-            CellByte::Refused(number) => {
-                *row = [NO_TRANSITION; STATES];
-                *word = 0;
-                return Progress::Refused(number);
-            }
-            CellByte::Byte(sets, next) => {
-                row[r] = sets;
-                made = with_state(made, r, spread(2 * widen(sets)));
-                at = next;
-            }
-        }
+    let mut rest = u64::from(map);
+    let mut made = in_lane(u16::from(map), 0);
+    for _ in 0..map.count_ones() {
+        // `usize` has no `From` of `u32`.
+        let r = rest.trailing_zeros() as usize;
+        rest &= rest - 1;
+        let sets = read_byte(reader, header.sets)?;
+        row[r] = sets;
+        made = with_state(made, r, spread(2 * u16::from(sets)));
     }
     *word = made;
-    Progress::At(at)
+    Ok(())
 }
 
 // A cell: its map byte, in which bits below n may stand, then its set bytes, into a blank row.
-fn read_cell(s: &[u8], from: Cursor, n: usize, k: usize, row: &mut Row, word: &mut u64) -> Progress
-    requires { ((n ≤ max_states) × (k ≤ max_sets)) × ((row.old ≡ blank_row) × (word.old ≡ row_word row.old)) }
-    ensures { (progress s.now result row.new ≡ read_cell n k max_states (drop from.at s.now))
-        × (word.new ≡ row_word row.new) }
+#[tactic(auto, unfolding(crate::specs::Table::read_cell))]
+fn read_cell(
+    reader: &mut Reader<'_>,
+    header: Header,
+    row: &mut Row,
+    word: &mut u64,
+) -> Result<(), Refusal>
+    requires { row.old ≡ blank_row }
+    ensures { (progress (ahead reader.new) result row.new ≡ read_cell header.states header.sets max_states (ahead reader.old))
+        × IfOk result (λ _. word.new ≡ row_word row.new) }
 {
-    match read_byte(s, from, n) {
-        CellByte::Refused(number) => Progress::Refused(number),
-        CellByte::Byte(map, next) => read_row(s, next, map as u16, k, row, word),
-    }
+    let map = read_byte(reader, header.states)?;
+    read_row(reader, map, header, row, word)
 }
 
 // The n cells of one letter, states 0 to n−1.
 fn read_letter(
-    s: &[u8],
-    from: Cursor,
-    n: usize,
-    k: usize,
+    reader: &mut Reader<'_>,
+    header: Header,
     square: &mut Square,
     words: &mut SquareWords,
-) -> Progress
-    requires { ((n ≤ max_states) × (k ≤ max_sets)) × ((square.old ≡ blank_square) × (words.old ≡ square_words square.old)) }
-    ensures { (progress s.now result square.new ≡ read_square n k (drop from.at s.now))
-        × (words.new ≡ square_words square.new) }
+) -> Result<(), Refusal>
+    requires { (square.old ≡ blank_square) × (words.old ≡ square_words square.old) }
+    ensures { (progress (ahead reader.new) result square.new ≡ read_square header.states header.sets (ahead reader.old))
+        × IfOk result (λ _. words.new ≡ square_words square.new) }
 {
-    let mut at = from;
-    let mut state = 0usize;
-    while state < n {
-        match read_cell(s, at, n, k, &mut square[state], &mut words[state]) {
-            Progress::Refused(number) => {
-                return Progress::Refused(number);
-            }
-            Progress::At(next) => {
-                at = next;
-                state += 1;
-            }
-        }
+    for state in 0..header.states {
+        read_cell(reader, header, &mut square[state], &mut words[state])?;
     }
-    Progress::At(at)
+    Ok(())
 }
 
 // "m times n cells, letter 0 with states 0 to n−1 first".
 pub fn read_cells(
-    s: &[u8],
-    from: Cursor,
-    n: usize,
-    m: usize,
-    k: usize,
+    reader: &mut Reader<'_>,
+    header: Header,
     cells: &mut Cells,
     words: &mut Words,
-) -> Progress
-    requires { ((n ≤ max_states) × (m ≤ max_letters)) × ((k ≤ max_sets) × ((cells.old ≡ blank_cells) × (words.old ≡ grid_words cells.old))) }
-    ensures { (progress s.now result cells.new ≡ read_padded n m k (drop from.at s.now))
-        × (words.new ≡ grid_words cells.new) }
+) -> Result<(), Refusal>
+    requires { (cells.old ≡ blank_cells) × (words.old ≡ grid_words cells.old) }
+    ensures { (progress (ahead reader.new) result cells.new ≡ read_padded header.states header.letters header.sets (ahead reader.old))
+        × IfOk result (λ _. words.new ≡ grid_words cells.new) }
 {
-    let mut at = from;
-    let mut letter = 0usize;
-    while letter < m {
-        match read_letter(s, at, n, k, &mut cells[letter], &mut words[letter]) {
-            Progress::Refused(number) => {
-                return Progress::Refused(number);
-            }
-            Progress::At(next) => {
-                at = next;
-                letter += 1;
-            }
-        }
+    for letter in 0..header.letters {
+        read_letter(reader, header, &mut cells[letter], &mut words[letter])?;
     }
-    Progress::At(at)
+    Ok(())
 }

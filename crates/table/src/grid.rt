@@ -1,51 +1,44 @@
 // Grid bytes from the read table: letter by letter, row by row, column by column.
 ghost use Rattle.std.specs.Prelude.{◌≡◌, ◌+◌, ◌*◌, ◌≤◌, length, take};
 ghost use Rattle.base.specs.LentBuffer.{stored};
-ghost use Rattle.rule.specs.Limits.{max_letters, max_states};
 ghost use Rattle.table.specs.Table.{grid_bytes};
 ghost use Rattle.table.specs.Inner.GridBytes.{narrow, square_bytes};
 
+use crate::header::Header;
 use rule::limits::{Cells, Row, Square};
 
 // The first n bytes of a row, stored from a place on. Answers the place behind them.
-fn put_row(row: Row, n: usize, out: &mut [u8], from: usize) -> usize
-    requires { (n ≤ max_states) × (from + n ≤ length out.old) }
-    ensures { (result ≡ from + length (take n row)) × ((length (take n row) ≡ n) × (out.new ≡ stored from (take n row) out.old)) }
+#[tactic(auto, using(crate::proofs::GridWriting::part_stored))]
+fn put_row(row: &Row, header: Header, out: &mut [u8], from: usize) -> usize
+    requires { from + header.states ≤ length out.old }
+    ensures { (result ≡ from + length (take header.states row.now)) × ((length (take header.states row.now) ≡ header.states)
+        × (out.new ≡ stored from (take header.states row.now) out.old)) }
 {
-    let mut at = from;
-    let mut r = 0usize;
-    while r < n {
-        out[at] = row[r];
-        at += 1;
-        r += 1;
-    }
-    at
+    let to = from + header.states;
+    out[from..to].copy_from_slice(&row[..header.states]);
+    to
 }
 
 // The n rows of a square.
-fn put_letter(square: &Square, n: usize, out: &mut [u8], from: usize) -> usize
-    requires { (n ≤ max_states) × (from + n * n ≤ length out.old) }
-    ensures { (result ≡ from + length (square_bytes n square.now)) × ((result ≡ from + n * n)
-        × (out.new ≡ stored from (square_bytes n square.now) out.old)) }
+fn put_letter(square: &Square, header: Header, out: &mut [u8], from: usize) -> usize
+    requires { from + header.states * header.states ≤ length out.old }
+    ensures { (result ≡ from + length (square_bytes header.states square.now)) × ((result ≡ from + header.states * header.states)
+        × (out.new ≡ stored from (square_bytes header.states square.now) out.old)) }
 {
     let mut at = from;
-    let mut state = 0usize;
-    while state < n {
-        at = put_row(square[state], n, out, at);
-        state += 1;
+    for row in &square[..header.states] {
+        at = put_row(row, header, out, at);
     }
     at
 }
 
 // The squares of m letters.
-pub fn put_cells(cells: &Cells, n: usize, m: usize, out: &mut [u8])
-    requires { ((n ≤ max_states) × (m ≤ max_letters)) × (m * (n * n) ≤ length out.old) }
-    ensures { out.new ≡ stored 0 (grid_bytes (narrow n m cells.now)) out.old }
+pub fn put_cells(cells: &Cells, header: Header, out: &mut [u8])
+    requires { header.letters * (header.states * header.states) ≤ length out.old }
+    ensures { out.new ≡ stored 0 (grid_bytes (narrow header.states header.letters cells.now)) out.old }
 {
-    let mut at = 0usize;
-    let mut letter = 0usize;
-    while letter < m {
-        at = put_letter(&cells[letter], n, out, at);
-        letter += 1;
+    let mut at = 0;
+    for square in &cells[..header.letters] {
+        at = put_letter(square, header, out, at);
     }
 }

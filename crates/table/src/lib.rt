@@ -3,7 +3,6 @@
 
 mod byte_reader;
 mod cells;
-mod cursor;
 mod grid;
 pub mod header;
 pub mod letter;

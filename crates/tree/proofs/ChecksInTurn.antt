@@ -1,23 +1,43 @@
 -- The checks of a record, one byte after the other: at each place the answer is that of the bytes from there on.
 use mathlib.Core.Path.{◌≡◌, refl, sym, ◌∙◌, ap}
-use mathlib.Core.Bool.{true, false, ◌&&◌, cond}
-use mathlib.Core.List.{List, [], ◌∷◌}
-use Prim.Native.Nat.{ℕ, suc, ◌+◌, ◌-◌, ◌/◌, ◌^◌, ◌≤◌, ◌<◌}
+use mathlib.Core.Bool.{Bool, true, false, ◌&&◌}
+use mathlib.Core.List.{List, [], ◌∷◌, ◌++◌}
+use Prim.Native.Nat.{ℕ, zero, suc, ◌+◌, ◌/◌, ◌≤◌, ◌<◌}
 use native.Mathlib.Omega.{arith}
 use native.Mathlib.Numerals.{add-one}
-use borrow.Author.Tests.{eq-eqb, ne_eqb, le-leb, lt-leb, lt-ltb, le-ltb}
-use lib.Count.{ones}
-use lib.Dec.{eqb, leb, ltb}
+use borrow.Author.Tests.{le-leb, lt-leb}
+use lib.Dec.{eqb, leb}
 use lib.ListN.{length, get_or, drop, drop_of_length-le}
 use lib.Seq.{drop-cons}
-use Rattle.history.specs.Inner.RecordChecks.{is_host, all_host, active_fits, tags_follow, tags_fit, body_fits, record_checks}
+use Rattle.std.specs.List.{list_all, range_with_len}
+use Rattle.std.proofs.lemmas.List.Folds.{list_all-append}
+use Rattle.history.specs.Inner.RecordChecks.{is_host, all_host, active_fits, tags_follow, tags_fit}
 
 -- HOSTS
 
--- the nodes up to a number: the highest of them, then those below it
-pub all_from : (left : ℕ) (hosts : List ℕ) → 0 < left → all_host left hosts ≡ (is_host (left - 1) hosts && all_host (left - 1) hosts)
+-- one number more
+range_more : (from count : ℕ) → range_with_len from (suc count) ≡ range_with_len from count ++ ((from + count) ∷ [])
+range_more from zero = let e : from + 0 ≡ from = omega arith in rw e
+range_more from (suc count) =
+    let e : from + 1 + count ≡ from + suc count = omega arith in
+    ap (λ (l : List ℕ). from ∷ l) (range_more (from + 1) count ∙ ap (λ (n : ℕ). range_with_len (from + 1) count ++ (n ∷ [])) e)
+
+-- the numbers below a count are looked for from the lowest on
+pub hosts_listed : (hosts : List ℕ) (count : ℕ) → list_all (λ i. is_host i hosts) (range_with_len 0 count) ≡ all_host count hosts
 unfolding all_host
-all_from left hosts h = let e : left ≡ suc (left - 1) = omega arith in ap (λ (c : ℕ). all_host c hosts) e
+hosts_listed hosts zero = refl
+hosts_listed hosts (suc count) =
+    let e : 0 + count ≡ count = omega arith in
+    ap (list_all (λ i. is_host i hosts)) (range_more 0 count ∙ ap (λ (n : ℕ). range_with_len 0 count ++ (n ∷ [])) e)
+    ∙ list_all-append (λ i. is_host i hosts) (range_with_len 0 count) (count ∷ [])
+    ∙ last (list_all (λ i. is_host i hosts) (range_with_len 0 count)) (is_host count hosts)
+    ∙ ap (λ (b : Bool). is_host count hosts && b) (hosts_listed hosts count)
+  where
+    last : (a b : Bool) → (a && (b && true)) ≡ (b && a)
+    last true true = refl
+    last true false = refl
+    last false true = refl
+    last false false = refl
 
 -- TAGS
 
@@ -74,39 +94,3 @@ pub fit_parts : (k : ℕ) (tags : List ℕ) → 1 ≤ length tags
 unfolding tags_fit
 fit_parts k [] h = absurd (omega arith)
 fit_parts k (m ∷ left) h = refl
-
--- RECORDS
-
--- a map, then what follows it
-pub checks_none : (n k : ℕ) (bytes : List ℕ) → length bytes < 1 → false ≡ record_checks n k bytes
-unfolding record_checks
-checks_none n k [] h = refl
-checks_none n k (s ∷ left) h = absurd (omega arith)
-
-map_and_body : (n k : ℕ) (bytes : List ℕ) → 1 ≤ length bytes → record_checks n k bytes ≡ (let s = get_or bytes 0 0 in let left = drop 1 bytes in
-    cond (eqb s 0) (eqb (length left) 0) (ltb s (2 ^ n) && (ltb (ones s) (length left) && body_fits k s left)))
-unfolding record_checks
-map_and_body n k [] h = absurd (omega arith)
-map_and_body n k (s ∷ left) h = refl
-
-module _ (n k : ℕ) (bytes left : List ℕ) (some : 1 ≤ length bytes) (is : left ≡ drop 1 bytes) where
-  abbrev map : ℕ
-  map = get_or bytes 0 0
-
-  checks_parts : record_checks n k bytes
-      ≡ cond (eqb map 0) (eqb (length left) 0) (ltb map (2 ^ n) && (ltb (ones map) (length left) && body_fits k map left))
-  checks_parts = map_and_body n k bytes some ∙ rw is
-
-  -- the map is empty, or too great, or no more bytes follow than there are states
-  pub checks_dead : map ≡ 0 → eqb (length left) 0 ≡ record_checks n k bytes
-  checks_dead e = rw (checks_parts, eq-eqb map 0 e)
-
-  pub checks_large : (map ≡ 0 → ⊥) → 2 ^ n ≤ map → false ≡ record_checks n k bytes
-  checks_large e f = rw (checks_parts, ne_eqb map 0 e, le-ltb map (2 ^ n) f)
-
-  module _ (e : map ≡ 0 → ⊥) (f : map < 2 ^ n) where
-    pub checks_short : length left ≤ ones map → false ≡ record_checks n k bytes
-    checks_short g = rw (checks_parts, ne_eqb map 0 e, lt-ltb map (2 ^ n) f, le-ltb (ones map) (length left) g)
-
-    pub checks_body : ones map < length left → body_fits k map left ≡ record_checks n k bytes
-    checks_body g = rw (checks_parts, ne_eqb map 0 e, lt-ltb map (2 ^ n) f, lt-ltb (ones map) (length left) g)

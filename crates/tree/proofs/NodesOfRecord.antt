@@ -11,7 +11,8 @@ use lib.Dec.{leb}
 use lib.ListN.{length, get_or, take, drop, length-append, length-drop, length-map}
 use lib.Pow.{pow_pos}
 use lib.Seq.{take_at, drop_at}
-use Rattle.base.specs.Outcome.{refused, accepted}
+use Rattle.std.specs.Prelude.{Some}
+use Rattle.base.specs.Outcome.{refused}
 use Rattle.base.proofs.BitSet.{member_lt}
 use Rattle.base.proofs.Logic.{and_in}
 use Rattle.rule.specs.Limits.{max_states, max_sets}
@@ -28,9 +29,9 @@ use Rattle.history.proofs.Records.RecordChecks.{checks_exact, read_by_checks}
 use Rattle.history.proofs.Step.TreesKept.{few_nodes}
 use Rattle.tree.specs.Inner.Nodes.{nodes_from, nodes_of}
 use Rattle.tree.specs.Inner.PackedNodes.{nodes_in}
+use Rattle.tree.specs.Inner.Places.{places}
 use Rattle.tree.specs.Inner.RecordNodes.{blank_behind, deeper, nodes_of_tags}
 use Rattle.tree.specs.Inner.RecordCode.{checked_tree, tree_beside, Checks}
-use Rattle.tree.specs.declared.record.Count.TheVariants.{Nodes}
 use Rattle.tree.proofs.TreeNodes.{nodes_size}
 
 module _ (k : ℕ) (small : k < 16) where
@@ -161,9 +162,11 @@ record_parts n k (node x below (node y other younger)) t h = absurd t.one_root
 -- THE CHECK'S ANSWER
 
 module _ (n k : ℕ) (bytes : List ℕ) (h : k < 16) where
-  abbrev states : ℕ
-  states = get_or bytes 0 0
+  -- bytes that do not pass are refused
+  pub checked_no : record_checks n k bytes ≡ false → read_tree n k bytes ≡ refused 9
+  checked_no failed = rw (read_by_checks n k bytes h, failed)
 
+module _ (n k : ℕ) (bytes : List ℕ) (h : k < 16) (states : ℕ) (first : states ≡ get_or bytes 0 0) where
   -- bytes that pass are in parts as a record is
   module _ (passed : record_checks n k bytes ≡ true) where
     is_record_lem : (is_tree n k (decoded n bytes) ≡ true) × (record_of n (decoded n bytes) ≡ bytes)
@@ -171,7 +174,7 @@ module _ (n k : ℕ) (bytes : List ℕ) (h : k < 16) where
 
     parts : (1 + ones states ≤ length bytes)
         × Parts n (decoded n bytes) states (take (ones states) (drop 1 bytes)) (drop (1 + ones states) bytes)
-    parts = let (t, e) = is_record_lem in rw e at (record_parts n k (decoded n bytes) (tree_nested n k _ (tree_out n k _ t)) h)
+    parts = let (t, e) = is_record_lem in rw first (rw e at (record_parts n k (decoded n bytes) (tree_nested n k _ (tree_out n k _ t)) h))
 
     pub passed_long : 1 + ones states ≤ length bytes
     passed_long = parts.0
@@ -181,26 +184,23 @@ module _ (n k : ℕ) (bytes : List ℕ) (h : k < 16) where
     passed_parts hosts left is is' = let P = parts.1 in
         rw (is, is') (P.small, (omega (arith, P.many), omega (arith, P.counts, few_nodes n k (decoded n bytes) is_record_lem.0)))
 
-  -- what is answered for them, and for bytes that do not pass
+  -- what is answered for them
   pub checked_yes : record_checks n k bytes ≡ true → (hosts left words : List ℕ)
       → hosts ≡ take (ones states) (drop 1 bytes) → left ≡ drop (1 + ones states) bytes
       → nodes_in words ≡ blank_behind (nodes_of_tags (hosted_in n states hosts) 0 left)
-      → let number = length bytes - (1 + ones states) in
-      Checks (read_tree n k bytes) (record { count = Nodes number; tree = record { nodes = words; count = number } })
+      → let number = length bytes - (1 + ones states) in (within : number ≤ places)
+      → Checks (read_tree n k bytes) (record { count = Some number; tree = record { nodes = words; count = number; within = within } })
   unfolding tree_beside
-  checked_yes passed hosts left words is is' made =
+  checked_yes passed hosts left words is is' made within =
       let P = (parts passed).1 in
       let T : Tree = decoded n bytes in
       let number : length bytes - (1 + ones states) ≡ size T = sym (length-drop (1 + ones states) bytes) ∙ P.counts in
       let built : nodes_of_tags (hosted_in n states hosts) 0 left ≡ nodes_of T =
       ap₂ (λ (u v : List ℕ). nodes_of_tags (hosted_in n states u) 0 v) is is' ∙ P.nodes in
       rw (read_by_checks n k bytes h, passed) (record {
-        count = ap (λ (c : ℕ). accepted c) number;
+        count = (T, refl, number);
         tree = record { nodes = made ∙ ap blank_behind built; count = number ∙ sym (nodes_size T) };
       })
-
-  pub checked_no : record_checks n k bytes ≡ false → read_tree n k bytes ≡ refused 9
-  checked_no failed = rw (read_by_checks n k bytes h, failed)
 
 -- past the limits no bytes pass, and within them those of question 9
 module _ (n k : ℕ) (bytes : List ℕ) where

@@ -17,9 +17,10 @@ low_part c q r h = ap (λ (n : ℕ). n % c) (add_comm r (c * q) ∙ ap (λ (n : 
 high_part : (c q r : ℕ) → r < c → (r + c * q) / c ≡ q
 high_part c q r h = ap (λ (n : ℕ). n / c) (add_comm r (c * q) ∙ ap (λ (n : ℕ). n + r) (mul_comm c q)) ∙ digits_div q h
 
--- the word that the code makes of a node whose numbers fit
+-- the word that the code makes of a node whose numbers fit: no shift loses a bit
 pub node_packed : (x : CodeNode) → x.depth < 2 ^ 16 → x.label < 2 ^ 16 → x.kids < 2 ^ 16 → x.active < 2 ^ 8 → x.old < 2 ^ 8
-    → unpacked (x.depth + 65536 * x.label + 4294967296 * (x.kids + 65536 * x.active + 16777216 * x.old)) ≡ x
+    → unpacked (x.depth + x.label * 65536 % 18446744073709551616
+    + (x.kids + x.active * 65536 % 18446744073709551616 + x.old * 16777216 % 18446744073709551616) * 4294967296 % 18446744073709551616) ≡ x
 unfolding unpacked
 node_packed x d l c a o = ap unpacked joined ∙ rw (depth_is, label_is, kids_is, active_is, old_is)
   where
@@ -35,8 +36,15 @@ node_packed x d l c a o = ap unpacked joined ∙ rw (depth_is, label_is, kids_is
     word : ℕ
     word = x.depth + 65536 * above_depth
 
-    joined : x.depth + 65536 * x.label + 4294967296 * (x.kids + 65536 * x.active + 16777216 * x.old) ≡ word
-    joined = omega arith
+    joined : x.depth + x.label * 65536 % 18446744073709551616
+        + (x.kids + x.active * 65536 % 18446744073709551616 + x.old * 16777216 % 18446744073709551616) * 4294967296 % 18446744073709551616 ≡ word
+    joined =
+        let label : x.label * 65536 % 18446744073709551616 ≡ x.label * 65536 = mod-eq_of_lt (omega arith) in
+        let active : x.active * 65536 % 18446744073709551616 ≡ x.active * 65536 = mod-eq_of_lt (omega arith) in
+        let old : x.old * 16777216 % 18446744073709551616 ≡ x.old * 16777216 = mod-eq_of_lt (omega arith) in
+        let upper : (x.kids + x.active * 65536 + x.old * 16777216) * 4294967296 % 18446744073709551616
+        ≡ (x.kids + x.active * 65536 + x.old * 16777216) * 4294967296 = mod-eq_of_lt (omega arith) in
+        rw (label, active, old, upper) (omega arith)
 
     first : word / 65536 ≡ above_depth
     first = high_part 65536 above_depth x.depth d

@@ -5,45 +5,35 @@ use mathlib.Core.List.{List, [], ◌∷◌, ◌++◌, append-nil}
 use Prim.Native.Nat.{ℕ, suc, ◌+◌, ◌-◌, ◌/◌, ◌%◌, ◌^◌, ◌≤◌, ◌<◌}
 use native.Mathlib.Omega.{arith}
 use native.Mathlib.Numerals.{add-one}
-use borrow.Author.Tests.{eq-eqb, ne_eqb, lt-ltb, le-ltb}
+use borrow.Author.Tests.{eq-eqb, ne_eqb}
 use lib.Bits.{bit_or, or_zero_r}
 use lib.Count.{ones}
 use lib.Dec.{leb, ltb}
 use lib.ListN.{length, get_or, take, drop, set, replicate, length-set, length-drop, length-replicate, take-append-drop, drop_of_length-le}
 use lib.Seq.{drop-cons, drop-set-lt, length-take-le, take-suc-set, append_snoc}
+use Rattle.std.specs.List.{prefix_len}
+use Rattle.std.proofs.lemmas.List.Folds.{length-prefix_len}
 use Rattle.base.specs.BitSet.{member, collect}
 use Rattle.base.specs.Lists.{pad}
 use Rattle.base.proofs.BitSet.{collect_more}
 use Rattle.history.specs.Record.{rank, hosted_in}
 use Rattle.history.proofs.Records.Members.{rank_all, rank_lt}
 use Rattle.tree.specs.Inner.Nodes.{blank_node}
-use Rattle.tree.specs.Inner.RecordNodes.{places, blank_behind, deeper, nodes_of_tags}
+use Rattle.tree.specs.Inner.Places.{places}
+use Rattle.tree.specs.Inner.RecordNodes.{blank_behind, deeper, nodes_of_tags}
 use Rattle.tree.specs.declared.nodes.Node.{Node as CodeNode}
 
 -- DEEPER TAGS
 
--- `count` tags are deeper, and the answer is that many more than for the tags from there on
-pub record DeeperSoFar (d : ℕ) (tags : List ℕ) (count : ℕ) : Type 0 where
-  pub upto : count ≤ length tags
-  pub ahead : deeper d tags ≡ count + deeper d (drop count tags)
+-- they are those in front that pass the test
+deeper_prefix : (d : ℕ) (tags : List ℕ) → prefix_len (λ m. ltb d (m / 16)) tags ≡ deeper d tags
+unfolding deeper
+deeper_prefix d [] = refl
+deeper_prefix d (m ∷ left) = let e : 1 + prefix_len (λ m. ltb d (m / 16)) left ≡ suc (deeper d left) = omega (arith, deeper_prefix d left) in
+    ap (λ (n : ℕ). cond (ltb d (m / 16)) n 0) e
 
-pub deeper_start : (d : ℕ) (tags : List ℕ) → DeeperSoFar d tags 0
-deeper_start d tags = record { upto = omega arith; ahead = omega arith }
-
-module _ {d : ℕ} {tags : List ℕ} {count : ℕ} (v : DeeperSoFar d tags count) where
-  module _ (h : count < length tags) where
-    pub deeper_stop : get_or tags count 0 / 16 ≤ d → count ≡ deeper d tags
-    unfolding deeper
-    deeper_stop e = let now = rw (drop-cons tags count 0 h, le-ltb d (get_or tags count 0 / 16) e) at v.ahead in omega arith
-
-    pub deeper_next : d < get_or tags count 0 / 16 → DeeperSoFar d tags (count + 1)
-    unfolding deeper
-    deeper_next e = let now = rw (drop-cons tags count 0 h, lt-ltb d (get_or tags count 0 / 16) e) at v.ahead in
-        rw (add-one count) (record { upto = h; ahead = omega arith })
-
-  pub deeper_done : length tags ≤ count → count ≡ deeper d tags
-  unfolding deeper
-  deeper_done h = let now = rw (drop_of_length-le tags h) at v.ahead in omega arith
+pub deeper_listed : (d : ℕ) (tags : List ℕ) → length (take (prefix_len (λ m. ltb d (m / 16)) tags) tags) ≡ deeper d tags
+deeper_listed d tags = length-prefix_len (λ m. ltb d (m / 16)) tags ∙ deeper_prefix d tags
 
 -- there are no more of them than tags
 deeper_le : (d : ℕ) (tags : List ℕ) → deeper d tags ≤ length tags

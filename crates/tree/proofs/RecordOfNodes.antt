@@ -7,7 +7,6 @@ use Prim.Native.Nat.{ℕ, zero, suc, ◌+◌, ◌^◌, ◌≤◌, ◌<◌}
 use native.Mathlib.Omega.{arith}
 use lib.ListN.{get_or, get_or-map}
 use lib.Pow.{pow_pos, pow_mono}
-use lib.Seq.{get_or-take}
 use Rattle.base.specs.BitSet.{member}
 use Rattle.base.specs.Lists.{Every}
 use Rattle.base.proofs.BitSet.{member_none}
@@ -22,12 +21,12 @@ use Rattle.history.proofs.Tree.Hosts.{held_here, held_younger, held_in, host_bel
 use Rattle.history.proofs.Records.Members.{map_members}
 use Rattle.history.proofs.Records.RecordOfTree.{root_states}
 use Rattle.history.proofs.Step.TreesOf.{of_few, of_nested}
-use Rattle.tree.specs.Inner.PackedNodes.{nodes_in, counted_nodes}
+use Rattle.tree.specs.Inner.PackedNodes.{counted_nodes}
 use Rattle.tree.specs.Inner.Nodes.{nodes_from, nodes_of, without_old, AreNodes, HoldsTree, blank_node}
 use Rattle.tree.specs.Inner.RecordNodes.{host_node, tag_of, host_bytes, tag_bytes, nodes_record, Recordable}
 use Rattle.tree.specs.declared.nodes.Node.{Node as CodeNode}
 use Rattle.tree.specs.declared.nodes.Tree.{Tree as CodeTree}
-use Rattle.tree.proofs.TreeNodes.{tree_small}
+use Rattle.tree.proofs.TreeNodes.{are_nodes_size, tree_small}
 
 -- HOSTS
 
@@ -162,25 +161,24 @@ module _ {R : Rule} {T : Tree} {x : CodeTree} (held : HoldsTree R T x) where
   held_record = record_of_nodes R.states R.sets T (of_nested R T held.fits) (counted_nodes x) held.are
 
   abbrev nodes : List CodeNode
-  nodes = nodes_in x.nodes
+  nodes = counted_nodes x
 
-  tag_at : (i : ℕ) → i < x.count → tag_of (get_or nodes i blank_node) ≡ get_or (tags 0 T) i 0
+  tag_at : (i : ℕ) → tag_of (get_or nodes i blank_node) ≡ get_or (tags 0 T) i 0
   unfolding tag_of nodes_of
-  tag_at i h = ap tag_of (sym (get_or-take x.count nodes i blank_node h)) ∙ sym (get_or-map tag_of (counted_nodes x) i blank_node)
-      ∙ ap (λ (l : List ℕ). get_or l i 0) (sym (map-map tag_of without_old (counted_nodes x)) ∙ ap (map tag_of) held.are ∙ tags_of_nodes 0 T)
+  tag_at i = sym (get_or-map tag_of nodes i blank_node)
+      ∙ ap (λ (l : List ℕ). get_or l i 0) (sym (map-map tag_of without_old nodes) ∙ ap (map tag_of) held.are ∙ tags_of_nodes 0 T)
 
-  root_at : 0 < x.count → (get_or nodes 0 blank_node).label ≡ (get_or (nodes_of T) 0 blank_node).label
-  root_at h = ap (λ (r : CodeNode). r.label) (sym (get_or-take x.count nodes 0 blank_node h))
-      ∙ ap (λ (r : CodeNode). r.label) (sym (get_or-map without_old (counted_nodes x) 0 blank_node))
+  root_at : (get_or nodes 0 blank_node).label ≡ (get_or (nodes_of T) 0 blank_node).label
+  root_at = ap (λ (r : CodeNode). r.label) (sym (get_or-map without_old nodes 0 blank_node))
       ∙ ap (λ (l : List CodeNode). (get_or l 0 blank_node).label) held.are
 
-  -- and it can be recorded
-  pub held_recordable : WithinLimits R → Recordable R.states x
+  -- and they can be recorded
+  pub held_recordable : WithinLimits R → Recordable R.states (counted_nodes x)
   held_recordable limits = record {
     states = limits.states;
-    few = tree_small limits.states held;
-    root = λ l. omega (arith, root_at l, root_small R.states R.sets T tree, pow_mono {i = R.states} {j = 8} limits.states);
-    tags = λ i l. rw (tag_at i l) (byte_at_lem (tags 0 T) bytes i);
+    few = omega (arith, tree_small limits.states held, held.counts, are_nodes_size (counted_nodes x) T held.are);
+    root = λ l. omega (arith, root_at, root_small R.states R.sets T tree, pow_mono {i = R.states} {j = 8} limits.states);
+    tags = λ i l. rw (tag_at i) (byte_at_lem (tags 0 T) bytes i);
   }
     where
       tree : NestedTree R.states R.sets T

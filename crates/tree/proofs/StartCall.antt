@@ -47,11 +47,11 @@ module _ {table : List ℕ} {header : Header} {cells : Grid} {words : List (List
 
   module _ (x : CodeTree) (made : HasNodes (start_nodes header.start) x) where
     held : HoldsTree v.rule (start_tree v.rule) x
-    held = start_holds v.holds.limits x (rw v.holds.numbers at made)
+    held = start_holds v.holds.limits x (rw v.holds.numbers.start at made)
 
     -- it can be recorded
-    pub start_recordable : Recordable header.states x
-    start_recordable = rw v.holds.numbers (held_recordable held v.holds.limits)
+    pub start_recordable : Recordable header.states (counted_nodes x)
+    start_recordable = rw v.holds.numbers.states (held_recordable held v.holds.limits)
 
     -- all questions are answered yes
     pub start_done : (before : List ℕ) → record_room ≤ length before → (written : ℕ) (after : List ℕ)
@@ -59,4 +59,4 @@ module _ {table : List ℕ} {header : Header} {cells : Grid} {words : List (List
         → after ≡ stored 0 (nodes_record header.states (counted_nodes x)) before
         → StartCall table before (record { number = 0; written = written }) after
     unfolding start_outcome start_answer start_after
-    start_done before h written after e f = rw (v.reads, le-leb _ _ h, e, f, v.holds.numbers, held_record held) (refl, refl)
+    start_done before h written after e f = rw (v.reads, le-leb _ _ h, e, f, v.holds.numbers.states, held_record held) (refl, refl)

@@ -3,11 +3,11 @@ use mathlib.Core.Path.{◌≡◌, refl, sym, ◌∙◌, ap}
 use mathlib.Core.Bool.{true}
 use mathlib.Core.List.{List, [], ◌∷◌, ◌++◌, map, map-append}
 use Prim.Native.Nat.{ℕ, zero, suc, ◌+◌, ◌-◌, ◌≤◌, ◌<◌}
-use native.Mathlib.Decide.{ℕ_discrete}
 use native.Mathlib.Numerals.{add-one}
 use native.Mathlib.Omega.{arith}
-use lib.ListN.{length, get_or, set, take, drop, replicate, length-append, length-map, length-set}
-use lib.Seq.{take_at, take-suc-set, drop-drop, drop-set-lt, get_or-set_same, get_or-set_other}
+use lib.ListN.{length, get_or, set, take, drop, replicate, length-append, length-map}
+use lib.Seq.{take_at, take-suc-set, drop-drop, drop-set-lt, get_or-set_same}
+use Rattle.std.proofs.lemmas.List.{take-map}
 use Rattle.base.specs.Lists.{pad}
 use Rattle.rule.specs.Limits.{max_states}
 use Rattle.rule.specs.Rule.{Rule}
@@ -15,11 +15,13 @@ use Rattle.history.specs.Forest.{nil, node, size}
 use Rattle.history.specs.Tree.{Tree, is_tree_of}
 use Rattle.history.proofs.Step.TreesOf.{of_few}
 use Rattle.tree.specs.Inner.Nodes.{blank_node, nodes_from, nodes_of, without_old, AreNodes, HoldsTree}
-use Rattle.tree.specs.Inner.PackedNodes.{unpacked, nodes_in, counted_nodes}
-use Rattle.tree.specs.Inner.RecordNodes.{places, blank_behind, HasNodes}
-use Rattle.tree.specs.Inner.Sides.{TwoSides}
+use Rattle.tree.specs.Inner.PackedNodes.{unpacked, nodes_in, counted_nodes, counted_words}
+use Rattle.tree.specs.Inner.Places.{places, no_side}
+use Rattle.tree.specs.Inner.RecordNodes.{blank_behind, HasNodes}
+use Rattle.tree.specs.Inner.Sides.{words_on}
 use Rattle.tree.specs.declared.nodes.Node.{Node as CodeNode}
 use Rattle.tree.specs.declared.nodes.Tree.{Tree as CodeTree}
+use Rattle.tree.specs.declared.sides.DoubleBuffer.{DoubleBuffer}
 use Rattle.tree.proofs.PackedWords.{node_written, nodes_many}
 
 -- THE NODES OF A TREE
@@ -65,50 +67,38 @@ has_holds R T x fits has = record {
 pub tree_small : {R : Rule} {T : Tree} {x : CodeTree} → R.states ≤ max_states → HoldsTree R T x → x.count ≤ max_states
 tree_small {R} {T} h held = omega (arith, held.counts, of_few R T held.fits)
 
--- a side has a node for each place
-pub side_nodes : {sides : List (List ℕ)} {side : ℕ} → TwoSides sides × (side < 2) → length (nodes_in (get_or sides side [])) ≡ places
-side_nodes {sides} {side} (arrays, on) = nodes_many (get_or sides side []) (arrays.long side on)
-
--- two arrays side by side
-pub two_sides : (words other : List ℕ) → length words ≡ places → length other ≡ places → TwoSides (words ∷ other ∷ [])
-two_sides words other long-words long-other = record { two = refl; long = both }
-  where
-    both : (side : ℕ) → side < 2 → length (get_or (words ∷ other ∷ []) side []) ≡ places
-    both zero h = long-words
-    both (suc zero) h = long-other
-    both (suc (suc side)) h = absurd (omega arith)
-
 -- lists that are the same from a place on are the same from a later one on
 pub drop_later : (l m : List ℕ) (i j : ℕ) → i ≤ j → drop i l ≡ drop i m → drop j l ≡ drop j m
 drop_later l m i j h same =
     let e : j ≡ i + (j - i) = omega arith in
     rw e (sym (drop-drop (j - i) i l) ∙ ap (drop (j - i)) same ∙ drop-drop (j - i) i m)
 
--- one word written on a side: it stands there, and the sides are as long as they were
-module _ {sides : List (List ℕ)} (arrays : TwoSides sides) (to : ℕ) (one : to < 2) (j word : ℕ) where
-  abbrev after : List (List ℕ)
-  after = set sides to (set (get_or sides to []) j word)
+-- one word written: what stands behind it is as it was
+pub behind_kept : (words before : List ℕ) (j word : ℕ) → drop j words ≡ drop j before → drop (j + 1) (set words j word) ≡ drop (j + 1) before
+behind_kept words before j word same = rw add-one
+    (drop-set-lt (suc j) words j word (omega arith) ∙ drop_later words before j (suc j) (omega arith) same)
 
-  pub side_written : get_or after to [] ≡ set (get_or sides to []) j word
-  side_written = get_or-set_same sides to (set (get_or sides to []) j word) [] (omega (arith, arrays.two))
+-- and the nodes in front are one more
+pub front_more : (words : List ℕ) (j word : ℕ) (x : CodeNode) → unpacked word ≡ x → j < length words
+    → take (j + 1) (nodes_in (set words j word)) ≡ take j (nodes_in words) ++ (x ∷ [])
+front_more words j word x is room = rw (node_written words j word is, add-one)
+    (take-suc-set (nodes_in words) j x (omega (arith, nodes_many words refl)))
 
-  pub sides_long : TwoSides after
-  sides_long = record { two = length-set sides to _ ∙ arrays.two; long = λ side h. go side h (ℕ_discrete side to) }
-    where
-      go : (side : ℕ) → side < 2 → Dec (side ≡ to) → length (get_or after side []) ≡ places
-      go side h (yes e) = rw (e, side_written, length-set (get_or sides to []) j word) (arrays.long to one)
-      go side h (no e) = rw (get_or-set_other sides to side (set (get_or sides to []) j word) [] e) (arrays.long side h)
+-- the nodes of the words that count are those that count
+pub counted_in : (x : CodeTree) → nodes_in (counted_words x) ≡ counted_nodes x
+counted_in x = sym (take-map unpacked x.count x.nodes)
 
-  -- the other side, and what stands behind it, are as they were
-  pub other_kept : (side : ℕ) → (side ≡ to → ⊥) → get_or after side [] ≡ get_or sides side []
-  other_kept side other = get_or-set_other sides to side (set (get_or sides to []) j word) [] other
+-- IN A DOUBLE BUFFER
 
-  pub behind_kept : (before : List ℕ) → drop j (get_or sides to []) ≡ drop j before → drop (j + 1) (get_or after to []) ≡ drop (j + 1) before
-  behind_kept before same = rw (side_written, add-one)
-      (drop-set-lt (suc j) (get_or sides to []) j word (omega arith) ∙ drop_later (get_or sides to []) before j (suc j) (omega arith) same)
-
-  -- behind the first j nodes it is one more
-  pub front_more : (x : CodeNode) → unpacked word ≡ x → j < places
-      → take (j + 1) (nodes_in (get_or after to [])) ≡ take j (nodes_in (get_or sides to [])) ++ (x ∷ [])
-  front_more x is room = rw (side_written, node_written (get_or sides to []) j word is, add-one)
-      (take-suc-set (nodes_in (get_or sides to [])) j x (omega (arith, nodes_many (get_or sides to []) (arrays.long to one))))
+-- a root alone is laid: one node, or none
+pub root_laid : (buffer : DoubleBuffer) (word : ℕ) (root : CodeNode) → unpacked word ≡ root → (count : ℕ) → count ≤ 1 → length buffer.sides ≡ 2
+    → take count (nodes_in (get_or (set buffer.sides buffer.side (record { nodes = set (words_on buffer buffer.side) 0 word })) buffer.side no_side).nodes) ≡ take count (root ∷ [])
+root_laid buffer word root is count few two =
+    rw (get_or-set_same buffer.sides buffer.side (record { nodes = set (words_on buffer buffer.side) 0 word }) no_side (omega (arith, buffer.on_a_side)))
+    (go (words_on buffer buffer.side) count few (omega (arith, buffer.long buffer.side buffer.on_a_side)))
+  where
+    go : (words : List ℕ) (count : ℕ) → count ≤ 1 → 0 < length words → take count (nodes_in (set words 0 word)) ≡ take count (root ∷ [])
+    go [] count few room = absurd (omega arith)
+    go (x ∷ words) zero few room = refl
+    go (x ∷ words) (suc zero) few room = rw is
+    go (x ∷ words) (suc (suc count)) few room = absurd (omega arith)

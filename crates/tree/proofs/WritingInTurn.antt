@@ -1,58 +1,60 @@
--- The loops that write a record: the host of a state, the hosts of a map's states, and the tags.
+-- The record from the words of nodes: the host of a state, the hosts of a map's states, and the tags.
 use mathlib.Core.Path.{◌≡◌, refl, sym, ◌∙◌, ap, ap₂}
 use mathlib.Core.Bool.{Bool, true, false, not, ◌&&◌, cond}
 use mathlib.Core.List.{List, [], ◌∷◌, ◌++◌, map, map-append, append-nil}
 use Prim.Native.Nat.{ℕ, zero, suc, ◌+◌, ◌*◌, ◌/◌, ◌%◌, ◌^◌, ◌≤◌, ◌<◌}
+use native.Mathlib.Decide.{dec_lt}
 use native.Mathlib.Omega.{arith}
 use native.Mathlib.Nat.{add-zero, zero-add}
-use native.Mathlib.Numerals.{add-one}
-use borrow.Author.Tests.{eq-eqb, ne_eqb}
-use lib.ListN.{length, get_or, take, drop, set, length-set, length-append, length-map, length-take, drop_of_length-le}
-use lib.Seq.{drop-cons, take-suc, get_or-take, length-take-le}
+use borrow.Author.Tests.{eq-eqb, ne_eqb, lt-ltb, le-ltb}
+use lib.Dec.{ltb}
+use lib.ListN.{length, get_or, take, set, length-set, length-append, length-map, length-take}
+use lib.Seq.{take-suc, take_all}
+use Rattle.std.specs.Prelude.{Option, Some, None}
+use Rattle.std.specs.List.{position_or_len}
+use Rattle.std.specs.Option.{unwrap_or}
+use Rattle.std.proofs.lemmas.List.Sums.{prefix_len-le-length}
 use Rattle.base.specs.BitSet.{member}
 use Rattle.base.specs.LentBuffer.{stored}
 use Rattle.base.proofs.Storing.{stored_start, stored_byte, stored_next, PiecesStored, pieces_start, pieces_byte, pieces_skip, pieces_size, pieces_done}
 use Rattle.history.specs.Record.{members_from, members}
 use Rattle.tree.specs.StartCall.{record_room}
-use Rattle.tree.specs.Inner.PackedNodes.{nodes_in, counted_nodes}
+use Rattle.tree.specs.Inner.PackedNodes.{unpacked, nodes_in}
 use Rattle.tree.specs.Inner.Nodes.{blank_node}
-use Rattle.tree.specs.Inner.RecordNodes.{places, host_node, tag_of, host_bytes, tag_bytes, nodes_record, Recordable}
+use Rattle.tree.specs.Inner.RecordNodes.{host_node, tag_of, host_bytes, tag_bytes, nodes_record, Recordable}
 use Rattle.tree.specs.declared.nodes.Node.{Node as CodeNode}
-use Rattle.tree.specs.declared.nodes.Tree.{Tree as CodeTree}
 
 -- THE HOST OF A STATE
 
--- the nodes in front of `number` do not host the state
-pub record HostAhead (x : CodeTree) (q number : ℕ) : Type 0 where
-  pub upto : number ≤ x.count
-  pub ahead : host_node number (drop number (counted_nodes x)) q ≡ host_node 0 (counted_nodes x) q
+-- has the node of a word a state in its label and in no child's?
+abbrev pub hosts : ℕ → ℕ → Bool
+hosts q word = member (unpacked word).label q && not (member (unpacked word).kids q)
 
-pub host_start : (x : CodeTree) (q : ℕ) → HostAhead x q 0
-host_start x q = record { upto = omega arith; ahead = refl }
+-- the first such node is the host
+pub host_place : (q i : ℕ) (words : List ℕ) → host_node i (nodes_in words) q ≡ i + position_or_len (hosts q) words
+unfolding host_node
+host_place q i [] = omega arith
+host_place q i (word ∷ words) = go (hosts q word) (host_place q (suc i) words)
+  where
+    go : (b : Bool) → host_node (suc i) (nodes_in words) q ≡ suc i + position_or_len (hosts q) words
+        → cond b i (host_node (suc i) (nodes_in words) q) ≡ i + cond (not b) (1 + position_or_len (hosts q) words) 0
+    go true h = omega arith
+    go false h = omega arith
 
-module _ {x : CodeTree} {q number : ℕ} (v : HostAhead x q number) where
-  module _ (many : length (nodes_in x.nodes) ≡ places) (few : x.count ≤ places) where
-    long : length (counted_nodes x) ≡ x.count
-    long = length-take-le x.count (nodes_in x.nodes) (omega arith)
-
-    module _ (h : number < x.count) where
-      opened : drop number (counted_nodes x) ≡ get_or (nodes_in x.nodes) number blank_node ∷ drop (suc number) (counted_nodes x)
-      opened = drop-cons (counted_nodes x) number blank_node (omega (arith, long))
-          ∙ ap (λ (r : CodeNode). r ∷ drop (suc number) (counted_nodes x)) (get_or-take x.count (nodes_in x.nodes) number blank_node h)
-
-      -- the node at `number` hosts it, or not
-      module _ (node : CodeNode) (is : node ≡ get_or (nodes_in x.nodes) number blank_node) where
-        pub host_found : (member node.label q && not (member node.kids q)) ≡ true → number ≡ host_node 0 (counted_nodes x) q
-        unfolding host_node
-        host_found e = rw (opened, ← is, e) at v.ahead
-
-        pub host_next : (member node.label q && not (member node.kids q)) ≡ false → HostAhead x q (number + 1)
-        unfolding host_node
-        host_next e = rw (add-one number) (record { upto = h; ahead = rw (opened, ← is, e) at v.ahead })
-
-    pub host_none : x.count ≤ number → number ≡ host_node 0 (counted_nodes x) q
-    unfolding host_node
-    host_none h = rw (drop_of_length-le (counted_nodes x) {i = number} (omega (arith, long))) at v.ahead
+-- so it is found by its place
+pub host_found : (q : ℕ) (words : List ℕ) {place : Option ℕ}
+    → place ≡ cond (ltb (position_or_len (hosts q) words) (length words)) (Some (position_or_len (hosts q) words)) None
+    → unwrap_or place (length words) ≡ host_node 0 (nodes_in words) q
+host_found q words is =
+    let most : position_or_len (hosts q) words ≤ length words = prefix_len-le-length (λ x. not (hosts q x)) words in
+    ap (λ (o : Option ℕ). unwrap_or o (length words)) is ∙ go (position_or_len (hosts q) words) (length words) most ∙ sym (host_place q 0 words ∙ zero-add _)
+  where
+    go : (i n : ℕ) → i ≤ n → unwrap_or (cond (ltb i n) (Some i) None) n ≡ i
+    go i n h = by (dec_lt i n)
+      where
+        by : Dec (i < n) → unwrap_or (cond (ltb i n) (Some i) None) n ≡ i
+        by (yes less) = rw (lt-ltb i n less)
+        by (no most) = let e : n ≡ i = omega arith in rw (le-ltb i n (omega arith)) e
 
 -- THE HOSTS
 
@@ -138,101 +140,105 @@ module _ {nodes : List CodeNode} {n s : ℕ} {before : List ℕ} {from : ℕ} {o
 -- THE TAGS
 
 -- the tags of the nodes in front of `number` are stored
-pub record TagsStored (n : ℕ) (x : CodeTree) (before : List ℕ) (from : ℕ) (out : List ℕ) (at number : ℕ) : Type 0 where
-  pub fits : Recordable n x
-  pub room : from + x.count ≤ length before
-  pub pieces : PiecesStored (λ c. tag_bytes (take c (nodes_in x.nodes))) x.count before from out at number
+pub record TagsStored (n : ℕ) (nodes : List CodeNode) (before : List ℕ) (from : ℕ) (out : List ℕ) (number : ℕ) : Type 0 where
+  pub fits : Recordable n nodes
+  pub room : from + length nodes ≤ length before
+  pub pieces : PiecesStored (λ c. tag_bytes (take c nodes)) (length nodes) before from out (from + number) number
 
 tags_le : (nodes : List CodeNode) (c : ℕ) → length (tag_bytes (take c nodes)) ≤ c
 unfolding tag_bytes
 tags_le nodes c = omega (arith, length-map (take c nodes) tag_of, length-take c nodes)
 
-pub tags_start : (n : ℕ) (x : CodeTree) (before : List ℕ) (from : ℕ) → Recordable n x → from + x.count ≤ length before
-    → TagsStored n x before from before from 0
+pub tags_start : (n : ℕ) (nodes : List CodeNode) (before : List ℕ) (from : ℕ) → Recordable n nodes → from + length nodes ≤ length before
+    → TagsStored n nodes before from before 0
 unfolding tag_bytes
-tags_start n x before from fits h = record { fits = fits; room = h; pieces = pieces_start refl (omega arith) }
+tags_start n nodes before from fits h =
+    let here : from + 0 ≡ from = omega arith in
+    record { fits = fits; room = h; pieces = rw here (pieces_start refl (omega arith)) }
 
-module _ {n : ℕ} {x : CodeTree} {before : List ℕ} {from : ℕ} {out : List ℕ} {at number : ℕ}
-    (v : TagsStored n x before from out at number) where
-  abbrev nodes : List CodeNode
-  nodes = nodes_in x.nodes
-
-  module _ (h : number < x.count) where
+module _ {n : ℕ} {nodes : List CodeNode} {before : List ℕ} {from : ℕ} {out : List ℕ} {number : ℕ}
+    (v : TagsStored n nodes before from out number) where
+  module _ (h : number < length nodes) where
     -- the tag is a byte, and there is room for it
     pub tag_small : (node : CodeNode) → node ≡ get_or nodes number blank_node → 16 * node.depth + node.active < 256
     unfolding tag_of
     tag_small node is = rw is (v.fits.tags number h)
 
-    tags_room : at < length before
-    tags_room = omega (arith, v.room, v.pieces.stores.place, tags_le nodes number)
+    tags_room : from + number < length before
+    tags_room = omega (arith, v.room)
 
-    pub tags_fits : at < length out
+    pub tags_fits : from + number < length out
     tags_fits = omega (arith, tags_room, pieces_size v.pieces)
 
-    pub tags_put : (node : CodeNode) → node ≡ get_or nodes number blank_node → length nodes ≡ places
-        → TagsStored n x before from (set out at (16 * node.depth + node.active)) (at + 1) (number + 1)
+    pub tags_put : (node : CodeNode) → node ≡ get_or nodes number blank_node
+        → TagsStored n nodes before from (set out (from + number) (16 * node.depth + node.active)) (number + 1)
     unfolding tag_bytes tag_of
-    tags_put node is held = rw is (record {
+    tags_put node is = let next : from + (number + 1) ≡ from + number + 1 = omega arith in rw is (record {
       fits = v.fits;
       room = v.room;
-      pieces = pieces_byte v.pieces h _ (ap (map tag_of) (take-suc nodes number blank_node inside)
-          ∙ map-append tag_of (take number nodes) (get_or nodes number blank_node ∷ [])) tags_room;
+      pieces = rw next (pieces_byte v.pieces h _ (ap (map tag_of) (take-suc nodes number blank_node h)
+          ∙ map-append tag_of (take number nodes) (get_or nodes number blank_node ∷ [])) tags_room);
     })
-      where
-        inside : number < length nodes
-        inside = omega (arith, v.fits.few, v.fits.states)
 
-  pub tags_done : x.count ≤ number
-      → (at ≡ from + length (tag_bytes (counted_nodes x))) × (out ≡ stored from (tag_bytes (counted_nodes x)) before)
-  tags_done h = let (same, place) = pieces_done v.pieces h in (place, same)
+  pub tags_done : length nodes ≤ number
+      → (from + length nodes ≡ from + length (tag_bytes nodes)) × (out ≡ stored from (tag_bytes nodes) before)
+  unfolding tag_bytes
+  tags_done h =
+      let (same, place) = rw (take_all (length nodes) nodes (omega arith)) at (pieces_done v.pieces h) in
+      (omega (arith, length-map nodes tag_of), same)
 
 -- THE RECORD
 
--- a live tree's record: the root's map, the hosts and the tags
-live_record : (n count : ℕ) (nodes : List CodeNode) → (count ≡ 0 → ⊥) → 0 < length nodes → nodes_record n (take count nodes)
-    ≡ (get_or nodes 0 blank_node).label ∷ (host_bytes (take count nodes) n (get_or nodes 0 blank_node).label ++ tag_bytes (take count nodes))
+-- a dead tree's record
+dead_record : (n : ℕ) (nodes : List CodeNode) → length nodes ≡ 0 → nodes_record n nodes ≡ 0 ∷ []
 unfolding nodes_record
-live_record n zero nodes some h = absurd (some refl)
-live_record n (suc count) [] some h = absurd (omega arith)
-live_record n (suc count) (x ∷ nodes) some h = refl
+dead_record n [] e = refl
+dead_record n (x ∷ nodes) e = absurd (omega arith)
 
-module _ (n : ℕ) (x : CodeTree) (before : List ℕ) (fits : Recordable n x) (room : record_room ≤ length before) where
+-- a live tree's record: the root's map, the hosts and the tags
+live_record : (n : ℕ) (nodes : List CodeNode) → (length nodes ≡ 0 → ⊥)
+    → nodes_record n nodes ≡ (get_or nodes 0 blank_node).label ∷ (host_bytes nodes n (get_or nodes 0 blank_node).label ++ tag_bytes nodes)
+unfolding nodes_record
+live_record n [] some = absurd (some refl)
+live_record n (x ∷ nodes) some = refl
+
+module _ (n : ℕ) (nodes : List CodeNode) (before : List ℕ) (fits : Recordable n nodes) (room : record_room ≤ length before) where
   -- the dead tree's
-  pub record_dead : x.count ≡ 0
-      → (1 ≡ length (nodes_record n (counted_nodes x))) × (set before 0 0 ≡ stored 0 (nodes_record n (counted_nodes x)) before)
-  unfolding nodes_record
-  record_dead e = rw e (refl, (stored_byte (stored_start before 0 (omega arith)) 0 (omega arith)).same)
+  pub record_dead : length nodes ≡ 0
+      → (1 ≡ length (nodes_record n nodes)) × (set before 0 0 ≡ stored 0 (nodes_record n nodes) before)
+  record_dead e = rw (dead_record n nodes e) (refl, (stored_byte (stored_start before 0 (omega arith)) 0 (omega arith)).same)
 
-  module _ (node : CodeNode) (is : node ≡ get_or (nodes_in x.nodes) 0 blank_node) where
+  module _ (node : CodeNode) (is : node ≡ get_or nodes 0 blank_node) where
     abbrev root : ℕ
     root = node.label
 
-    abbrev hosts : List ℕ
-    hosts = host_bytes (counted_nodes x) n root
+    abbrev hosts_of : List ℕ
+    hosts_of = host_bytes nodes n root
 
     abbrev tags : List ℕ
-    tags = tag_bytes (counted_nodes x)
+    tags = tag_bytes nodes
 
     -- the root's map is a byte
-    pub root_small : (x.count ≡ 0 → ⊥) → root < 256
+    pub root_small : (length nodes ≡ 0 → ⊥) → root < 256
     root_small some = rw is (fits.root (omega arith))
 
     -- the map, the hosts behind it, and the tags behind them
-    record_room_lem : 1 + length hosts + x.count ≤ record_room
-    record_room_lem = omega (arith, hosts_le (counted_nodes x) root n, fits.few, fits.states)
+    record_room_lem : 1 + length hosts_of + length nodes ≤ record_room
+    record_room_lem = omega (arith, hosts_le nodes root n, fits.few, fits.states)
 
-    pub tags_room_left : (at : ℕ) (then : List ℕ) → at ≡ 1 + length hosts → length then ≡ length (set before 0 root)
-        → at + x.count ≤ length then
+    pub tags_room_left : (at : ℕ) (then : List ℕ) → at ≡ 1 + length hosts_of → length then ≡ length (set before 0 root)
+        → at + length nodes ≤ length then
     tags_room_left at then e f = omega (arith, record_room_lem, length-set before 0 root)
 
-    pub record_live : (x.count ≡ 0 → ⊥) → length (nodes_in x.nodes) ≡ places → (at r : ℕ) (then after : List ℕ)
-        → at ≡ 1 + length hosts → then ≡ stored 1 hosts (set before 0 root) → r ≡ at + length tags → after ≡ stored at tags then
-        → (r ≡ length (nodes_record n (counted_nodes x))) × (after ≡ stored 0 (nodes_record n (counted_nodes x)) before)
-    record_live some held at r then after e f g h =
+    pub record_live : (length nodes ≡ 0 → ⊥) → (at r : ℕ) (then after : List ℕ)
+        → at ≡ 1 + length hosts_of → then ≡ stored 1 hosts_of (set before 0 root) → r ≡ at + length tags → after ≡ stored at tags then
+        → (r ≡ length (nodes_record n nodes)) × (after ≡ stored 0 (nodes_record n nodes) before)
+    unfolding tag_bytes
+    record_live some at r then after e f g h =
         let first = stored_byte (stored_start before 0 (omega arith)) root (omega arith) in
-        let second = stored_next first hosts (omega (arith, record_room_lem)) in
-        let third = stored_next second tags (omega (arith, record_room_lem, tags_le (nodes_in x.nodes) x.count)) in
-        rw (live_record n x.count (nodes_in x.nodes) some (omega arith), ← is) (
-          omega (arith, length-append hosts tags),
+        let second = stored_next first hosts_of (omega (arith, record_room_lem)) in
+        let third = stored_next second tags (omega (arith, record_room_lem, length-map nodes tag_of)) in
+        rw (live_record n nodes some, ← is) (
+          omega (arith, length-append hosts_of tags),
           h ∙ ap₂ (λ (c : ℕ) (l : List ℕ). stored c tags l) e f ∙ third.same,
         )

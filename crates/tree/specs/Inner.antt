@@ -1,4 +1,5 @@
 -- What the contracts of inner functions cite.
+pub mod Places
 pub mod PackedNodes
 pub mod RecordCode
 pub mod RecordNodes

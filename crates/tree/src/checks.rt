@@ -9,102 +9,69 @@ use base::bytes::{all_below, contains};
 fn all_host(count: usize, hosts: &[u8]) -> bool
     ensures { result ≡ all_host count hosts.now }
 {
-    let mut left = count;
-    while 0 < left {
-        left -= 1;
-        if !contains(hosts, left) {
-            return false;
-        }
-    }
-    true
+    (0..count).all(|node| contains(hosts, node))
 }
 
 // "an active set (1 to k)"
+#[tactic(auto, unfolding(history::specs::Inner::RecordChecks::active_fits))]
 fn active_fits(k: usize, tag: u8) -> bool
     ensures { result ≡ active_fits k tag }
 {
-    let active = (tag % 16) as usize;
-    if active < 1 {
-        return false;
-    }
-    active <= k
+    let active = usize::from(tag % 16);
+    1 <= active && active <= k
 }
 
 // "each later depth is from 1 to one more than the depth before it": the tags behind the root's.
 fn tags_follow(k: usize, tags: &[u8]) -> bool
     ensures { result ≡ tags_follow k 0 tags.now }
 {
-    let mut before = 0u8;
-    let mut at = 0usize;
-    while at < tags.len() {
-        let tag = tags[at];
-        let depth = tag / 16;
-        if depth < 1 {
-            return false;
-        }
-        if depth > before + 1 {
-            return false;
-        }
-        if !active_fits(k, tag) {
+    let mut before = 0;
+    for tag in tags {
+        let depth = *tag / 16;
+        if depth < 1 || before + 1 < depth || !active_fits(k, *tag) {
             return false;
         }
         before = depth;
-        at += 1;
     }
     true
 }
 
 // "The root's depth is 0".
+#[tactic(auto, using(crate::proofs::ChecksInTurn::fit_none, crate::proofs::ChecksInTurn::fit_parts, base::proofs::Flattening::to_end))]
 fn tags_fit(k: usize, tags: &[u8]) -> bool
     ensures { result ≡ tags_fit k tags.now }
 {
-    if tags.len() < 1 {
+    let [root, later @ ..] = tags else {
         return false;
-    }
-    let root = tags[0];
-    if root / 16 != 0 {
-        return false;
-    }
-    if !active_fits(k, root) {
-        return false;
-    }
-    tags_follow(k, &tags[1..])
+    };
+    *root / 16 == 0 && active_fits(k, *root) && tags_follow(k, later)
 }
 
 // What follows the map of a root's states: a host for each state, and a tag for each node.
+#[tactic(auto, unfolding(history::specs::Inner::RecordChecks::body_fits), using(base::proofs::Flattening::to_end))]
 fn body_fits(k: usize, map: u16, left: &[u8]) -> bool
     requires { ones map ≤ length left.now }
     ensures { result ≡ body_fits k map left.now }
 {
+    // A count of ones is a `u32`: only `as` takes it to `usize`, here and below.
     let states = u16::count_ones(map) as usize;
     let count = left.len() - states;
-    if !all_below(count, &left[..states]) {
-        return false;
-    }
-    if !all_host(count, &left[..states]) {
-        return false;
-    }
-    tags_fit(k, &left[states..])
+    let hosts = &left[..states];
+    all_below(count, hosts) && all_host(count, hosts) && tags_fit(k, &left[states..])
 }
 
 // Question 9. "The dead tree's record is the byte 0."
+#[tactic(auto, unfolding(history::specs::Inner::RecordChecks::record_checks))]
 pub fn record_fits(n: usize, k: usize, bytes: &[u8]) -> bool
     requires { n < 16 }
     ensures { result ≡ record_checks n k bytes.now }
 {
-    if bytes.len() < 1 {
+    let [first, left @ ..] = bytes else {
         return false;
-    }
-    let map = bytes[0] as u16;
-    let left = &bytes[1..];
+    };
+    let map = u16::from(*first);
     if map == 0 {
-        return left.len() == 0;
+        return left.is_empty();
     }
-    if map >= 1u16 << n {
-        return false;
-    }
-    if left.len() <= u16::count_ones(map) as usize {
-        return false;
-    }
-    body_fits(k, map, left)
+    map < 1u16 << n && (u16::count_ones(map) as usize) < left.len() && body_fits(k, map, left)
 }

@@ -1,5 +1,6 @@
 // A tree as the code holds it: its nodes in preorder, one word each.
-ghost use Rattle.std.specs.Prelude.{◌≡◌};
+ghost use Rattle.std.specs.Prelude.{◌≡◌, ◌≤◌};
+ghost use Rattle.tree.specs.Inner.Places.{places};
 
 use rule::limits::STATES;
 
@@ -17,18 +18,19 @@ pub struct Node {
 // The nodes of a tree in preorder, which is the order of their numbers, one word each.
 pub type Preorder = [u64; Tree::PLACES];
 
-// Two trees side by side: a letter reads the nodes of one side and writes those of the other.
-pub type DoubleBuffer = [Preorder; 2];
-
-// A tree: its nodes, and how many of them count. No other crate can make one but by the functions of this type: "Every tree comes
-// from the starting tree or from a checked record" (record.rt), or from one of these by letters (sides.rt).
+// A tree: its nodes, and how many of them count. They stand in an array, since this library has no heap. No other crate can make a tree but
+// by the functions of this type: "Every tree comes from the starting tree or from a checked record" (record.rt), or from one of these by
+// letters (sides.rt).
 #[derive(Clone, Copy)]
 pub struct Tree {
     pub(crate) nodes: Preorder,
     pub(crate) count: usize,
+    pub ghost within: { count ≤ places },
 }
 
 impl Tree {
+    ghost use Rattle.tree.specs.Inner.PackedNodes.{counted_words};
+
     // At most one node for each state.
     pub const NODES: usize = STATES;
 
@@ -41,17 +43,10 @@ impl Tree {
     // A name has a number for each node on the way from the root, but for the root.
     pub const NAME: usize = Tree::NODES - 1;
 
-    // How many nodes it has.
-    pub fn size(self) -> usize
-        ensures { result ≡ self.count }
+    // The words of its nodes, in preorder.
+    pub fn nodes(&self) -> &[u64]
+        ensures { result.now ≡ counted_words self.now }
     {
-        self.count
-    }
-
-    // Its nodes in preorder.
-    pub fn preorder(self) -> Preorder
-        ensures { result ≡ self.nodes }
-    {
-        self.nodes
+        &self.nodes[..self.count]
     }
 }

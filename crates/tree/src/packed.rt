@@ -8,20 +8,21 @@ use crate::nodes::Node;
 pub fn pack(x: Node) -> u64
     ensures { unpacked result ≡ x }
 {
-    let lower = (x.depth as u64) + 65536 * (x.label as u64);
-    let upper = (x.kids as u64) + 65536 * (x.active as u64) + 16777216 * (x.old as u64);
-    lower + 4294967296 * upper
+    let lower = u64::from(x.depth) + (u64::from(x.label) << 16);
+    let upper = u64::from(x.kids) + (u64::from(x.active) << 16) + (u64::from(x.old) << 24);
+    lower + (upper << 32)
 }
 
-// The node of a word.
+// The node of a word. Each part fits its type.
+#[tactic(auto, unfolding(crate::specs::Inner::PackedNodes::unpacked))]
 pub fn unpack(word: u64) -> Node
     ensures { result ≡ unpacked word }
 {
     Node {
         depth: (word % 65536) as u16,
-        label: (word / 65536 % 65536) as u16,
-        kids: (word / 4294967296 % 65536) as u16,
-        active: (word / 281474976710656 % 256) as u8,
-        old: (word / 72057594037927936) as u8,
+        label: ((word >> 16) % 65536) as u16,
+        kids: ((word >> 32) % 65536) as u16,
+        active: ((word >> 48) % 256) as u8,
+        old: (word >> 56) as u8,
     }
 }

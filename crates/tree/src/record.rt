@@ -11,17 +11,10 @@ use crate::packed::pack;
 use crate::reading::record_nodes;
 use rule::limits::SETS;
 
-// The number of nodes of a checked record's tree, or that the bytes are no record.
-#[derive(Clone, Copy)]
-pub enum Count {
-    Nodes(usize),
-    Refused,
-}
-
-// The check's answer: the count, and the tree beside it.
+// The check's answer: the number of the tree's nodes, or nothing where the bytes are no record; and the tree beside it, as document 01 asks.
 #[derive(Clone, Copy)]
 pub struct Checked {
-    pub count: Count,
+    pub count: Option<usize>,
     pub tree: Tree,
 }
 
@@ -29,10 +22,7 @@ pub struct Checked {
 fn within_limits(n: usize, k: usize) -> bool
     ensures { result ≡ (leb n max_states && leb k max_sets) }
 {
-    if n > Tree::NODES {
-        return false;
-    }
-    k <= SETS
+    n <= Tree::NODES && k <= SETS
 }
 
 // A refusal: the dead tree stands beside it.
@@ -40,9 +30,9 @@ fn no_record() -> Checked
     ensures { Checks (refused 9) result }
 {
     Checked {
-        count: Count::Refused,
+        count: None,
         tree: Tree {
-            nodes: [0u64; Tree::PLACES],
+            nodes: [0; Tree::PLACES],
             count: 0,
         },
     }
@@ -61,34 +51,26 @@ impl Tree {
             active: 1,
             old: 0,
         };
-        let mut nodes = [0u64; Tree::PLACES];
+        let mut nodes = [0; Tree::PLACES];
         nodes[0] = pack(root);
-        Tree {
-            nodes: nodes,
-            count: 1,
-        }
+        Tree { nodes, count: 1 }
     }
 
     // Question 9: "A step goes on only where its bytes are the record of some tree over n and k: are they?"
     pub fn checked(bytes: &[u8], n: usize, k: usize) -> Checked
         ensures { Checks (checked_tree n k bytes.now) result }
     {
-        if !within_limits(n, k) {
+        if !within_limits(n, k) || !record_fits(n, k, bytes) {
             return no_record();
         }
-        if !record_fits(n, k, bytes) {
-            return no_record();
-        }
-        let map = bytes[0] as u16;
+        let map = u16::from(bytes[0]);
+        // Only `as` takes a `u32` to `usize`.
         let tags = 1 + u16::count_ones(map) as usize;
         let count = bytes.len() - tags;
         let nodes = record_nodes(n, map, &bytes[1..tags], &bytes[tags..]);
         Checked {
-            count: Count::Nodes(count),
-            tree: Tree {
-                nodes: nodes,
-                count: count,
-            },
+            count: Some(count),
+            tree: Tree { nodes, count },
         }
     }
 }

@@ -1,48 +1,85 @@
-// Trees in place, on one of two sides: a tree is laid there, letters are read from side to side, and the tree that they lead to is
-// taken up.
-ghost use Rattle.std.specs.Prelude.{◌≡◌};
-ghost use Rattle.tree.specs.Inner.Sides.{tree_on, Laid, SomeTreeOn};
+// A tree in a double buffer, where letters are read from side to side: a tree is laid there, and the tree that they lead to is taken up.
+ghost use Rattle.std.specs.Prelude.{◌≡◌, ◌<◌, ◌≤◌, ◌∷◌, [], get_or, replicate, take};
+ghost use Rattle.tree.specs.Inner.Places.{places, EachPlace};
 
-use crate::nodes::{DoubleBuffer, Tree};
+use crate::nodes::{Node, Preorder, Tree};
+use crate::packed::{pack, unpack};
 
-// A tree in place: which side it stands on, and how many of its nodes count.
+// One side: the nodes of a tree.
 #[derive(Clone, Copy)]
-pub struct OnSide {
+pub struct Side {
+    pub nodes: Preorder,
+}
+
+// A tree in a double buffer: which side it stands on, and how many of its nodes count. A letter reads the nodes of its side and writes
+// those of the other.
+#[derive(Clone, Copy)]
+pub struct DoubleBuffer {
+    pub sides: [Side; 2],
     pub side: usize,
     pub count: usize,
+    pub ghost on_a_side: { side < 2 },
+    pub ghost within: { count ≤ places },
+    pub ghost long: { EachPlace sides },
+}
+
+impl DoubleBuffer {
+    ghost use Rattle.tree.specs.Inner.Nodes.{blank_node};
+    ghost use Rattle.tree.specs.Inner.PackedNodes.{counted_nodes, counted_words, nodes_in};
+    ghost use Rattle.tree.specs.Inner.Sides.{tree_in};
+
+    // The words of the nodes that count.
+    pub fn nodes(&self) -> &[u64]
+        ensures { result.now ≡ counted_words (tree_in self.now) }
+    {
+        &self.sides[self.side].nodes[..self.count]
+    }
+
+    // The node of a number.
+    pub fn node(&self, number: usize) -> Node
+        requires { number < places }
+        ensures { result ≡ get_or (nodes_in (tree_in self.now).nodes) number blank_node }
+    {
+        unpack(self.sides[self.side].nodes[number])
+    }
+
+    // One node, or none, in the place of the tree.
+    pub fn lay_root(&mut self, root: Node, count: usize)
+        requires { count ≤ 1 }
+        ensures { (self.new.count ≡ count)
+            × (counted_nodes (tree_in self.new) ≡ take count (root ∷ [])) }
+    {
+        self.sides[self.side].nodes[0] = pack(root);
+        self.count = count;
+    }
 }
 
 impl Tree {
-    // Its nodes on side 0, and a blank side 1.
+    ghost use Rattle.tree.specs.Inner.Sides.{tree_in, words_on, SomeTreeIn};
+
+    // The tree in a double buffer: on side 0, with side 1 blank.
     pub fn laid(self) -> DoubleBuffer
-        ensures { Laid self result }
+        ensures tree { tree_in result ≡ self }
+        ensures first { result.side ≡ 0 }
+        ensures blank { words_on result 1 ≡ replicate places 0 }
     {
         let nodes = self.nodes;
-        let mut sides = [[0u64; Tree::PLACES]; 2];
-        sides[0] = nodes;
-        sides
-    }
-
-    // Where it stands once it is laid.
-    pub fn on_first_side(self) -> OnSide
-        ensures { result ≡ record { side = 0; count = self.count } }
-    {
-        OnSide {
+        let blank = [0; Tree::PLACES];
+        DoubleBuffer {
+            sides: [Side { nodes }, Side { nodes: blank }],
             side: 0,
             count: self.count,
         }
     }
 
-    // The tree on a side. Only where its nodes are proved to be those of some tree, so that no other tree can be made.
-    pub fn taken(sides: &DoubleBuffer, on: OnSide) -> Tree
-        requires { SomeTreeOn sides.now on }
-        ensures { result ≡ tree_on sides.now on }
+    // The tree in a double buffer. Only where its nodes are proved to be those of some tree, so that no other tree can be made.
+    pub fn taken(buffer: &DoubleBuffer) -> Tree
+        requires { SomeTreeIn buffer.now }
+        ensures { result ≡ tree_in buffer.now }
     {
-        let side = on.side;
-        let nodes = sides[side];
         Tree {
-            nodes: nodes,
-            count: on.count,
+            nodes: buffer.sides[buffer.side].nodes,
+            count: buffer.count,
         }
     }
 }

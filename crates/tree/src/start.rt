@@ -1,15 +1,16 @@
 // The starting record of a table.
 ghost use Rattle.std.specs.Prelude.{◌≡◌};
 ghost use Rattle.base.specs.Outcome.{refused};
-ghost use Rattle.rule.specs.Rule.{Rule};
+ghost use Rattle.base.specs.Refusals.{refusal_number};
 ghost use Rattle.tree.specs.StartCall.{StartCall, start_answer};
 
 use crate::nodes::Tree;
 use crate::writing::put_record;
+use base::refusal::Refusal;
 use rule::limits::{LETTERS, NO_TRANSITION, STATES};
-use table::reader::{Reading, read_rule};
+use table::reader::read_rule;
 
-// 0 and the record's length, or the number of the question that failed and zero.
+// 0 and the record's length, or the number of the question that failed and zero: the C interface.
 #[repr(C)]
 #[derive(Clone, Copy)]
 pub struct StartAnswer {
@@ -18,12 +19,15 @@ pub struct StartAnswer {
 }
 
 // A refusal: its number and zero.
-fn start_refusal(number: u8) -> StartAnswer
-    ensures { result ≡ start_answer (refused number) }
-{
-    StartAnswer {
-        number: number,
-        written: 0,
+#[tactic(auto, unfolding(crate::specs::StartCall::start_answer))]
+impl From<Refusal> for StartAnswer {
+    ghost from_gives = { λ refusal answer. answer ≡ start_answer (refused (refusal_number refusal)) };
+
+    fn from(refusal: Refusal) -> StartAnswer {
+        StartAnswer {
+            number: refusal.into(),
+            written: 0,
+        }
     }
 }
 
@@ -32,20 +36,16 @@ pub fn start(table: &[u8], buffer: &mut [u8]) -> StartAnswer
     ensures { StartCall table.now buffer.old result buffer.new }
 {
     let mut cells = [[[NO_TRANSITION; STATES]; STATES]; LETTERS];
-    let mut words = [[0u64; STATES]; LETTERS];
+    let mut words = [[0; STATES]; LETTERS];
     match read_rule(table, &mut cells, &mut words) {
-        Reading::Refused(number) => start_refusal(number),
-        Reading::Rule(header) => {
+        Err(refusal) => refusal.into(),
+        Ok(header) => {
             if buffer.len() < Tree::RECORD {
-                return start_refusal(10);
+                return Refusal::NoRoom.into();
             }
             let tree = Tree::start(header.start);
-            let sides = tree.laid();
-            let written = put_record(&sides, tree.on_first_side(), header.states, buffer);
-            StartAnswer {
-                number: 0,
-                written: written,
-            }
+            let written = put_record(tree.nodes(), header.states, buffer);
+            StartAnswer { number: 0, written }
         }
     }
 }

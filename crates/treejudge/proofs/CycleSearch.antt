@@ -2,9 +2,8 @@
 use mathlib.Core.Path.{◌≡◌, refl, ◌∙◌, ap}
 use mathlib.Core.Bool.{true, false}
 use mathlib.Core.List.{List, ◌++◌}
-use Prim.Native.Nat.{ℕ, ◌+◌, ◌-◌, ◌^◌, ◌≤◌, ◌<◌}
+use Prim.Native.Nat.{ℕ, ◌+◌, ◌-◌, ◌^◌, ◌<◌}
 use native.Mathlib.Omega.{arith}
-use Rattle.rule.specs.Limits.{max_states}
 use Rattle.rule.specs.Rule.{Rule}
 use Rattle.word.specs.Walk.{rounds}
 use Rattle.word.specs.Inner.WalkLookups.{Lookups}
@@ -13,14 +12,14 @@ use Rattle.history.specs.Rounds.{read_letters, round_tree, FirstRepeat}
 use Rattle.history.proofs.Walk.TreesOfWalk.{round_next}
 use Rattle.history.proofs.Repeat.RepeatExists.{repeat_exists}
 use Rattle.history.proofs.Verdict.CycleVerdict.{read_rounds}
-use Rattle.history.proofs.Repeat.CycleFinding.{BrentSoFar, Skips, brent_start, none_skips, brent_more, brent_reset, reset_skips, brent_found, lam_steps, power_doubles, brent_measure}
+use Rattle.history.proofs.Repeat.CycleFinding.{BrentSoFar, Skips, brent_start, none_skips, brent_more, brent_reset, reset_skips, brent_found, lam_steps, power_doubles}
 use Rattle.tree.specs.declared.nodes.Tree.{Tree as CodeTree}
 use Rattle.letters.specs.Inner.Names.{all_kept, Follows, FollowsOn, FollowsTo}
 use Rattle.treejudge.specs.Inner.SameNodes.{same_trees}
 use Rattle.treejudge.specs.Inner.Cycles.{AtRound, CycleOf}
 use Rattle.letters.specs.declared.follow.Maps.{Maps}
 use Rattle.letters.proofs.NamesFollowed.{begun_follows}
-use Rattle.treejudge.proofs.RoundsRead.{both_small, nodes_same, nodes_differ}
+use Rattle.treejudge.proofs.RoundsRead.{nodes_same, nodes_differ}
 
 -- one round more
 rounds_more : (r : ℕ) (v : List ℕ) → rounds (r + 1) v ≡ rounds r v ++ v
@@ -39,9 +38,9 @@ pub record Searching (R : Rule) (u v : List ℕ) (lookups : Lookups) (k : ℕ) (
 
 -- t(0) is saved first
 pub search_start : {R : Rule} {u v : List ℕ} {lookups : Lookups} {k : ℕ} {first : CodeTree}
-    → AtRound R u v lookups k 0 first → Searching R u v lookups k first first 0 1 0 first (all_kept first.count)
+    → AtRound R u v lookups k 0 first → (now : CodeTree) → now ≡ first → Searching R u v lookups k first first 0 1 0 now (all_kept now.count)
 unfolding rounds
-search_start {R} {u} {v} A = record {
+search_start {R} {u} {v} A now is = rw is (record {
   saved = A;
   before = A;
   below = omega arith;
@@ -49,7 +48,7 @@ search_start {R} {u} {v} A = record {
   brent = brent_start (round_tree R u v);
   skips = none_skips (round_tree R u v);
   follows = begun_follows A.tree;
-}
+})
 
 module _ {R : Rule} {u v : List ℕ} {lookups : Lookups} {k : ℕ} {x y : CodeTree} {half power lam : ℕ} {now : CodeTree} {m : Maps}
     (S : Searching R u v lookups k x y half power lam now m) where
@@ -61,14 +60,10 @@ module _ {R : Rule} {u v : List ℕ} {lookups : Lookups} {k : ℕ} {x y : CodeTr
   repeat : (entry : ℕ) × (period : ℕ) × FirstRepeat (round_tree R u v) entry period × (entry + period < 2 ^ 63)
   repeat = let H = S.saved.holds in repeat_exists R H.limits.well H.limits.some_set H.limits.states H.limits.sets u v
 
-  -- so lam fits, and the loop ends
+  -- so lam fits
   pub lam_fits : lam + 1 < 2 ^ 64
   lam_fits =
       let (e, p, F, small) = repeat in lam_steps (round_tree R u v) (read_letters R v) (round_next R u v) e p F small power lam S.brent
-
-  pub search_measure : power + lam < 2 ^ 65
-  search_measure =
-      let (e, p, F, small) = repeat in brent_measure (round_tree R u v) (read_letters R v) (round_next R u v) e p F small power lam S.brent
 
   module _ (next : CodeTree) (n : Maps) (on : FollowsTo lookups k v now m next n) where
     -- it leads to the tree one round further
@@ -83,11 +78,7 @@ module _ {R : Rule} {u v : List ℕ} {lookups : Lookups} {k : ℕ} {x y : CodeTr
       tree = rw (← read_rounds R u v (lam + 1) (power - 1)) followed.tree;
     }
 
-    -- the saved tree and the one reached can be compared
-    pub search_small : (x.count ≤ max_states) × (next.count ≤ max_states)
-    search_small = both_small S.saved search_next
-
-    -- where they are the same, the cycle is found
+    -- where the saved tree and the one reached are the same, the cycle is found
     pub search_found : same_trees x next ≡ true
         → (entry period : ℕ) → FirstRepeat (round_tree R u v) entry period
         → CycleOf R u v entry period

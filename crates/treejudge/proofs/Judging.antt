@@ -42,13 +42,9 @@ module _ {R : Rule} {header : Header} {lookups : Lookups} {u v : List ℕ} (p : 
   -- the rule is within the limits
   has_sets : HasSets R header.sets
   has_sets = record {
-    number = rw p.numbers;
+    number = sym p.numbers.sets;
     limits = p.limits;
   }
-
-  -- so its number of sets fits in a byte
-  pub sets_small : header.sets < 256
-  sets_small = rw p.numbers (omega (arith, p.limits.sets))
 
   module _ (start : CodeTree) (made : HasNodes (start_nodes header.start) start) (w : List ℕ) (left : w ≡ letters_left false u v 0) where
     -- u is read from the starting tree
@@ -56,7 +52,7 @@ module _ {R : Rule} {header : Header} {lookups : Lookups} {u v : List ℕ} (p : 
     lead_reads x is = rw is (record {
       holds = has_sets;
       has_lookups = rw (lead_left u v w left) at p.lead;
-      tree = start_holds p.limits start (rw p.numbers at made);
+      tree = start_holds p.limits start (rw p.numbers.start at made);
     })
 
     -- and leads to t(0)

@@ -1,14 +1,16 @@
 -- The name of a tree's node, found from the depths of the nodes, and the lowest node of a map.
 use mathlib.Core.Path.{◌≡◌, refl, sym, ◌∙◌, ap}
-use mathlib.Core.Bool.{false}
 use mathlib.Core.List.{List, [], ◌∷◌, ◌++◌, map, map-map, map-append}
-use Prim.Native.Nat.{ℕ, suc, ◌+◌, ◌-◌, ◌/◌, ◌%◌, ◌^◌, ◌≤◌, ◌<◌}
+use Prim.Native.Nat.{ℕ, suc, ◌+◌, ◌-◌, ◌^◌, ◌≤◌, ◌<◌}
+use native.Mathlib.Nat.{add_comm}
 use native.Mathlib.Omega.{arith}
 use native.Mathlib.Numerals.{add-one}
-use native.Mathlib.Decide.{dec_lt}
-use borrow.Author.Tests.{eq-eqb, ne_eqb}
-use lib.ListN.{length, get_or, take, set, length-take, length-set, get_or-map}
-use lib.Seq.{get_or-take, take-take, take-suc-set, length-take-le}
+use native.Mathlib.Decide.{ℕ_discrete}
+use lib.Count.{count_trailing_zeros}
+use lib.ListN.{length, get_or, take, drop, set, length-take, length-set, get_or-map}
+use lib.Seq.{get_or-take, get_or-drop, take-take, take-suc-set, length-take-le}
+use Rattle.std.specs.Int.{trailing_zeros, w16}
+use Rattle.std.proofs.lemmas.Nat.Bits.{bit_at-zero, bit_at-trailing_zeros}
 use Rattle.base.specs.BitSet.{member}
 use Rattle.rule.specs.Limits.{max_states}
 use Rattle.rule.specs.Rule.{Rule}
@@ -19,38 +21,28 @@ use Rattle.history.proofs.Tree.Conditions.{OneRoot}
 use Rattle.history.proofs.Step.TreesOf.{of_root, of_few}
 use Rattle.history.proofs.Names.NamesByDepth.{after_deeper, after_beside, name_root, name_next, name_depth, depth_next, name_small}
 use Rattle.tree.specs.Inner.Nodes.{nodes_from, nodes_of, without_old, HoldsTree, blank_node}
-use Rattle.tree.specs.Inner.PackedNodes.{nodes_in}
+use Rattle.tree.specs.Inner.PackedNodes.{unpacked, nodes_in, counted_words}
 use Rattle.tree.specs.declared.nodes.Node.{Node as CodeNode}
 use Rattle.tree.specs.declared.nodes.Tree.{Tree as CodeTree}
-use Rattle.tree.proofs.TreeNodes.{tree_small}
+use Rattle.tree.proofs.PackedWords.{node_read}
 use Rattle.treejudge.specs.JudgeCall.{name_room}
-use Rattle.treejudge.specs.Inner.NodeNames.{Lowest, SomeNode, IsName}
+use Rattle.treejudge.specs.Inner.NodeNames.{Lowest, SomeNode}
 
 -- THE LOWEST NODE
 
--- the numbers below j are no members
-pub record NoneBefore (map j : ℕ) : Type 0 where
-  pub upto : j ≤ max_states
-  pub none : (i : ℕ) → i < j → member map i ≡ false
-
-pub none_start : (map : ℕ) → NoneBefore map 0
-none_start map = record { upto = omega arith; none = λ i h. absurd (omega arith) }
-
-module _ {map j : ℕ} (v : NoneBefore map j) where
-  pub none_next : j < max_states → map / 2 ^ j % 2 ≡ 0 → NoneBefore map (j + 1)
-  unfolding member
-  none_next h e = record { upto = omega arith; none = λ i l. go i l (dec_lt i j) }
-    where
-      go : (i : ℕ) → i < j + 1 → Dec (i < j) → member map i ≡ false
-      go i l (yes h) = v.none i h
-      go i l (no h) = let same : i ≡ j = omega arith in rw same (ne_eqb (map / 2 ^ j % 2) 1 (λ z. omega arith))
-
-  pub lowest_here : (map / 2 ^ j % 2 ≡ 0 → ⊥) → Lowest map j
-  unfolding member
-  lowest_here e = record { none_before = v.none; here = λ _. eq-eqb (map / 2 ^ j % 2) 1 (omega arith) }
-
-  pub lowest_none : max_states ≤ j → Lowest map j
-  lowest_none h = record { none_before = v.none; here = λ l. absurd (omega arith) }
+-- the trailing zeros of a map are as many as the numbers below its lowest member
+pub lowest_node : (m : ℕ) → m < 2 ^ 16 → Lowest m (trailing_zeros w16 m)
+unfolding member count_trailing_zeros
+lowest_node m small = go (ℕ_discrete m 0)
+  where
+    go : Dec (m ≡ 0) → Lowest m (trailing_zeros w16 m)
+    go (yes none) = rw none (record { none_before = λ i h. rw (bit_at-zero i) refl; here = λ h. absurd (omega (arith, h)) })
+    go (no some) =
+        let (below, here, before) = bit_at-trailing_zeros w16 m (omega arith) small in
+        record {
+          none_before = λ i h. rw (before i h) refl;
+          here = λ h. rw here refl;
+        }
 
 -- DEPTHS
 
@@ -60,7 +52,7 @@ depths_of_nodes d nil = refl
 depths_of_nodes d (node x below younger) =
     rw (map-append (λ x. x.depth) (nodes_from (suc d) below) (nodes_from d younger), depths_of_nodes (suc d) below, depths_of_nodes d younger)
 
-abbrev node_depth : CodeTree → ℕ → ℕ
+abbrev pub node_depth : CodeTree → ℕ → ℕ
 node_depth x i = (get_or (nodes_in x.nodes) i blank_node).depth
 
 -- a node in the code has its depth in the tree
@@ -95,16 +87,13 @@ module _ (numbers : List ℕ) (long d : ℕ) (low : 1 ≤ d) (room : d ≤ lengt
 -- THE NAME OF A NODE
 
 -- the nodes up to node i are passed, and the first `long` numbers are the name of node i in every tree of these nodes
-pub record NamedSoFar (nodes : List ℕ) (number : ℕ) (numbers : List ℕ) (long i : ℕ) : Type 0 where
-  pub upto : i ≤ number
+pub record NamedSoFar (x : CodeTree) (number : ℕ) (numbers : List ℕ) (long i : ℕ) : Type 0 where
   pub room : length numbers ≡ max_states
   pub short : long ≤ name_room
-  pub name : (R : Rule) (T : Tree) (count : ℕ) → HoldsTree R T (record { nodes = nodes; count = count }) → i < count
-      → take long numbers ≡ get_or (names T) i []
+  pub name : (R : Rule) (T : Tree) → HoldsTree R T x → i < x.count → take long numbers ≡ get_or (names T) i []
 
-pub name_start : (nodes : List ℕ) (number : ℕ) (numbers : List ℕ) → length numbers ≡ max_states → NamedSoFar nodes number numbers 0 0
-name_start nodes number numbers room =
-    record { upto = omega arith; room = room; short = omega arith; name = λ R T count held h. sym (name_root T) }
+pub name_start : (x : CodeTree) (number : ℕ) (numbers : List ℕ) → length numbers ≡ max_states → NamedSoFar x number numbers 0 0
+name_start x number numbers room = record { room = room; short = omega arith; name = λ R T held h. sym (name_root T) }
 
 -- the next node in any tree of the nodes: its depth and its name
 module _ (R : Rule) (T : Tree) (x : CodeTree) (held : HoldsTree R T x) (i : ℕ) (h : i + 1 < x.count) where
@@ -130,18 +119,25 @@ module _ (R : Rule) (T : Tree) (x : CodeTree) (held : HoldsTree R T x) (i : ℕ)
   next_name = ap (name_after (get_or (names T) i [])) same ∙ sym (name_next T one i later)
       ∙ ap (λ (c : ℕ). get_or (names T) c []) (sym (add-one i))
 
--- a number of a node is below the limit
-pub node_few : {x : CodeTree} {number : ℕ} → SomeNode x number → number < max_states
-node_few some = omega (arith, tree_small some.states some.holds)
+-- the words of the nodes up to that one, but for the root's: word i is that of node i + 1
+module _ {x : CodeTree} {number : ℕ} (some : SomeNode x number) {words : List ℕ} (are : words ≡ counted_words x) where
+  pub node_behind : (n i : ℕ) → n ≡ number → i < length (take n (drop 1 words)) → {r : CodeNode}
+      → r ≡ unpacked (get_or (take n (drop 1 words)) i 0) → (i < number) × (r.depth ≡ node_depth x (i + 1))
+  node_behind n i e h {r} read =
+      let few : i < n = omega (arith, length-take n (drop 1 words)) in
+      let there : get_or (take n (drop 1 words)) i 0 ≡ get_or x.nodes (i + 1) 0 =
+      get_or-take n (drop 1 words) i 0 few ∙ get_or-drop 1 words i 0
+      ∙ rw (are, add_comm 1 i) (get_or-take x.count x.nodes (i + 1) 0 (omega (arith, some.node))) in
+      (omega arith, ap (λ (y : CodeNode). y.depth) (node_read x.nodes (i + 1) (read ∙ ap unpacked there)))
 
 module _ {x : CodeTree} {number : ℕ} (some : SomeNode x number) {numbers : List ℕ} {long i : ℕ}
-    (v : NamedSoFar x.nodes number numbers long i) (h : i < number) where
+    (v : NamedSoFar x number numbers long i) (h : i < number) where
   abbrev depth : ℕ
   depth = node_depth x (i + 1)
 
   -- the name of node i in some tree
   now : take long numbers ≡ get_or (names some.tree) i []
-  now = v.name some.rule some.tree x.count some.holds (omega (arith, some.node))
+  now = v.name some.rule some.tree some.holds (omega (arith, some.node))
 
   -- the depth of the next node is from 1 to one more than that of node i, and there is room for its name
   next : (1 ≤ depth) × ((depth ≤ suc long) × (depth ≤ name_room))
@@ -164,31 +160,18 @@ module _ {x : CodeTree} {number : ℕ} (some : SomeNode x number) {numbers : Lis
 
   -- the next name
   named : (c : ℕ) → take depth (set numbers (depth - 1) c) ≡ name_after (take long numbers) depth
-      → NamedSoFar x.nodes number (set numbers (depth - 1) c) depth (i + 1)
+      → NamedSoFar x number (set numbers (depth - 1) c) depth (i + 1)
   named c e = record {
-    upto = omega arith;
     room = length-set numbers (depth - 1) c ∙ v.room;
     short = depth_short;
-    name = λ R T count held l. e ∙ ap (λ (w : List ℕ). name_after w depth) (v.name R T count held (omega arith))
-        ∙ next_name R T (record { nodes = x.nodes; count = count }) held i l;
+    name = λ R T held l. e ∙ ap (λ (w : List ℕ). name_after w depth) (v.name R T held (omega arith)) ∙ next_name R T x held i l;
   }
 
   pub name_beside : depth - 1 < long
-      → NamedSoFar x.nodes number (set numbers (depth - 1) (get_or numbers (depth - 1) 0 + 1)) depth (i + 1)
+      → NamedSoFar x number (set numbers (depth - 1) (get_or numbers (depth - 1) 0 + 1)) depth (i + 1)
   name_beside l = let (low, (_, most)) = next in
       named _ (put_beside numbers long depth low (omega (arith, v.room)) (omega arith) (omega (arith, v.room, v.short)))
 
-  pub name_deeper : long ≤ depth - 1 → NamedSoFar x.nodes number (set numbers (depth - 1) 0) depth (i + 1)
+  pub name_deeper : long ≤ depth - 1 → NamedSoFar x number (set numbers (depth - 1) 0) depth (i + 1)
   name_deeper l = let (low, (step, most)) = next in
       named _ (put_deeper numbers long depth low (omega (arith, v.room)) (omega arith) step)
-
--- all nodes in front are passed
-pub name_done : {x : CodeTree} {number : ℕ} → SomeNode x number → {numbers : List ℕ} {long i : ℕ}
-    → NamedSoFar x.nodes number numbers long i → number ≤ i → IsName x number (record { numbers = numbers; length = long })
-name_done {x} {number} some {numbers} {long} {i} v h =
-    let last : i ≡ number = omega (arith, v.upto) in
-    record {
-      places = v.room;
-      short = v.short;
-      numbers = λ R T held. v.name R T x.count held (omega (arith, some.node)) ∙ ap (λ (c : ℕ). get_or (names T) c []) last;
-    }

@@ -1,11 +1,12 @@
 -- The first repeat is found: by the search for period and entry, or at the cut of a long tail, where t(0) and t(1) have led to the same
 -- tree.
 use mathlib.Core.Path.{◌≡◌, refl, sym, ◌∙◌, ap}
-use mathlib.Core.Bool.{true, false}
+use mathlib.Core.Bool.{Bool, true, false, not}
 use mathlib.Core.List.{List, [], ◌++◌}
 use Prim.Native.Nat.{ℕ, ◌-◌, ◌≤◌, ◌<◌}
 use native.Mathlib.Omega.{arith}
 use lib.ListN.{take, take-append-drop}
+use Rattle.std.specs.Int.{from_bool}
 use Rattle.base.specs.BitSet.{member}
 use Rattle.base.specs.Lists.{Every}
 use Rattle.base.proofs.Every.{append_every}
@@ -75,10 +76,9 @@ module _ (R : Rule) (u v : List ℕ) (lookups : Lookups) (k e p : ℕ) (first : 
 -- AT THE CUT
 
 -- the letters of the tail up to the cut, and those that are left from there
-pub two_parts : (cut : ℕ) (u v rest : List ℕ) → rest ≡ letters_left true u v cut → take (cut - 0) v ++ rest ≡ v
+pub two_parts : (cut : ℕ) (u v rest : List ℕ) → rest ≡ letters_left true u v cut → take cut v ++ rest ≡ v
 unfolding letters_left
-two_parts cut u v rest left = let e : cut - 0 ≡ cut = omega arith in
-    rw (e, left) (take-append-drop cut v)
+two_parts cut u v rest left = rw left (take-append-drop cut v)
 
 module _ (R : Rule) (u head rest : List ℕ) (lookups : Lookups) (k : ℕ) (first : CodeTree)
     (A : AtRound R u (head ++ rest) lookups k 0 first) where
@@ -155,12 +155,9 @@ module _ (R : Rule) (u head rest : List ℕ) (lookups : Lookups) (k : ℕ) (firs
               }
 
           -- as the comparison of t(0) and t(1) says
-          pub repeat_still : same_trees first second ≡ true
-              → RepeatOf R u (head ++ rest) (record { tree = cut; witnesses = n.witnesses; entry = 0; period = 1 })
-          repeat_still same = repeat_at 0 (repeat_at_once t
-              (same_nodes_same R (t 0) (t 1) first second A.holds.limits.sets A.tree second_holds same)) (omega arith)
-
-          pub repeat_moved : same_trees first second ≡ false
-              → RepeatOf R u (head ++ rest) (record { tree = cut; witnesses = n.witnesses; entry = 1; period = 1 })
-          repeat_moved differ = repeat_at 1 (repeat_second R u head rest joins
-              (λ e. clash differ (same_trees_same R (t 1) first second (rw e at A.tree) second_holds))) (omega arith)
+          pub repeat_early : (still : Bool) → same_trees first second ≡ still → (entry : ℕ) → entry ≡ from_bool (not still)
+              → RepeatOf R u (head ++ rest) (record { tree = cut; witnesses = n.witnesses; entry = entry; period = 1 })
+          repeat_early true same entry is = rw is (repeat_at 0 (repeat_at_once t
+              (same_nodes_same R (t 0) (t 1) first second A.holds.limits.sets A.tree second_holds same)) (omega arith))
+          repeat_early false differ entry is = rw is (repeat_at 1 (repeat_second R u head rest joins
+              (λ e. clash differ (same_trees_same R (t 1) first second (rw e at A.tree) second_holds))) (omega arith))

@@ -34,12 +34,12 @@ module _ {R : Rule} {u v : List ℕ} {lookups : Lookups} {k i : ℕ} {x : CodeTr
   unfolding Ahead
   rounds_read count on to = record { holds = X.holds; has_lookups = X.has_lookups; tree = rw to at (on R u i X) }
 
-  module _ {j : ℕ} {y : CodeTree} (Y : AtRound R u v lookups k j y) where
-    -- two trees can be compared
-    pub both_small : (x.count ≤ max_states) × (y.count ≤ max_states)
-    both_small = (tree_small X.holds.limits.states X.tree, tree_small X.holds.limits.states Y.tree)
+  -- there are few nodes
+  pub round_small : x.count ≤ max_states
+  round_small = tree_small X.holds.limits.states X.tree
 
-    -- and are the same if their nodes are
+  module _ {j : ℕ} {y : CodeTree} (Y : AtRound R u v lookups k j y) where
+    -- two trees are the same if their nodes are
     pub nodes_same : same_trees x y ≡ true → round_tree R u v i ≡ round_tree R u v j
     nodes_same same = same_nodes_same R _ _ x y X.holds.limits.sets X.tree Y.tree same
 

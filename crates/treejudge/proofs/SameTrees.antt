@@ -1,79 +1,57 @@
 -- Nodes compared one by one, and what the answer says of trees: two trees are the same just if their nodes are, but for the old
 -- numbers.
 use mathlib.Core.Path.{◌≡◌, refl, sym, ◌∙◌, ap, ap₂}
-use mathlib.Core.Bool.{true, false}
+use mathlib.Core.Bool.{Bool, true, false, ◌&&◌}
 use mathlib.Core.List.{List, [], ◌∷◌, map}
-use Prim.Native.Nat.{ℕ, suc, ◌+◌, ◌%◌, ◌^◌, ◌≤◌, ◌<◌}
+use Prim.Native.Nat.{ℕ, suc, ◌%◌, ◌^◌, ◌≤◌}
 use native.Mathlib.Omega.{arith}
-use native.Mathlib.Numerals.{add-one}
 use borrow.Author.Tests.{eqb-true, eq-eqb}
 use lib.Dec.{eqb}
-use lib.ListN.{length, get_or, take, drop, drop_of_length-le}
-use lib.Seq.{drop-cons, get_or-take, length-take-le}
+use lib.ListN.{length, length-map}
+use Rattle.std.specs.List.{list_all, zip}
 use Rattle.base.proofs.Logic.{never, clash, and_both, and_in, bool_ext}
-use Rattle.rule.specs.Limits.{max_states, max_sets}
+use Rattle.rule.specs.Limits.{max_sets}
 use Rattle.rule.specs.Rule.{Rule}
 use Rattle.history.specs.Tree.{Tree}
 use Rattle.history.proofs.Records.QuestionNine.{record_injective}
 use Rattle.history.proofs.Step.TreesOf.{of_nested}
-use Rattle.tree.specs.Inner.Nodes.{without_old, HoldsTree, blank_node}
-use Rattle.tree.specs.Inner.RecordNodes.{places}
-use Rattle.tree.specs.Inner.PackedNodes.{unpacked, counted_nodes}
+use Rattle.tree.specs.Inner.Nodes.{without_old, HoldsTree}
+use Rattle.tree.specs.Inner.PackedNodes.{unpacked, nodes_in, counted_nodes, counted_words}
 use Rattle.tree.specs.declared.nodes.Node.{Node as CodeNode}
 use Rattle.tree.specs.declared.nodes.Tree.{Tree as CodeTree}
 use Rattle.tree.proofs.PackedWords.{low_same, same_low}
+use Rattle.tree.proofs.TreeNodes.{counted_in}
 use Rattle.tree.proofs.RecordOfNodes.{record_of_nodes, held_record}
 use Rattle.treejudge.specs.Inner.SameNodes.{same_node, same_nodes, same_trees}
 
 -- NODE BY NODE
 
 -- nodes that are the same are as many
-same_length : (nodes others : List CodeNode) → same_nodes nodes others ≡ true → length nodes ≡ length others
+pub same_length : (nodes others : List CodeNode) → same_nodes nodes others ≡ true → length nodes ≡ length others
 unfolding same_nodes
 same_length [] [] h = refl
 same_length [] (y ∷ others) h = clash refl h
 same_length (x ∷ nodes) [] h = clash refl h
 same_length (x ∷ nodes) (y ∷ others) h = ap suc (same_length nodes others (and_in (same_node x y) _ h).1)
 
-pub counts_differ : (nodes others : List CodeNode) (m n : ℕ) → length nodes ≡ places → length others ≡ places
-    → m ≤ max_states → n ≤ max_states → (m ≡ n → ⊥) → false ≡ same_nodes (take m nodes) (take n others)
-counts_differ nodes others m n held other few less e = sym (never _ (λ s. e (sym (length-take-le m nodes (omega arith))
-    ∙ same_length (take m nodes) (take n others) s ∙ length-take-le n others (omega arith))))
+-- so nodes that differ in number are not the same
+pub lengths_differ : (a b : List ℕ) → (length a ≡ length b → ⊥) → same_nodes (nodes_in a) (nodes_in b) ≡ false
+lengths_differ a b less = never _ (λ s. less (sym (length-map a unpacked) ∙ same_length (nodes_in a) (nodes_in b) s ∙ length-map b unpacked))
 
--- the nodes in front of node i are the same
-pub record SameBefore (nodes others : List CodeNode) (count i : ℕ) : Type 0 where
-  pub upto : i ≤ count
-  pub left : same_nodes (drop i (take count nodes)) (drop i (take count others)) ≡ same_nodes (take count nodes) (take count others)
+-- and others are just if each is the same as its neighbour
+pub same_zipped : (a b : List ℕ) → length a ≡ length b
+    → list_all (λ p. same_node (unpacked p.0) (unpacked p.1)) (zip a b) ≡ same_nodes (nodes_in a) (nodes_in b)
+unfolding same_nodes
+same_zipped [] [] e = refl
+same_zipped [] (y ∷ b) e = absurd (omega arith)
+same_zipped (x ∷ a) [] e = absurd (omega arith)
+same_zipped (x ∷ a) (y ∷ b) e = ap (λ (r : Bool). same_node (unpacked x) (unpacked y) && r) (same_zipped a b (omega arith))
 
-pub same_start : (nodes others : List CodeNode) (count : ℕ) → SameBefore nodes others count 0
-same_start nodes others count = record { upto = omega arith; left = refl }
-
-module _ (nodes : List CodeNode) (count i : ℕ) (held : length nodes ≡ places) (few : count ≤ max_states) where
-  -- the nodes from node i on, if there are any
-  opened : i < count → drop i (take count nodes) ≡ get_or nodes i blank_node ∷ drop (suc i) (take count nodes)
-  opened h = drop-cons (take count nodes) i blank_node (omega (arith, length-take-le count nodes (omega arith)))
-      ∙ ap (λ (x : CodeNode). x ∷ drop (suc i) (take count nodes)) (get_or-take count nodes i blank_node h)
-
-  ended : count ≤ i → drop i (take count nodes) ≡ []
-  ended h = drop_of_length-le (take count nodes) {i = i} (omega (arith, length-take-le count nodes (omega arith)))
-
-module _ {nodes others : List CodeNode} {count i : ℕ} (v : SameBefore nodes others count i)
-    (held : length nodes ≡ places) (other : length others ≡ places) (few : count ≤ max_states) where
-  module _ (h : i < count) (x y : CodeNode) (is : x ≡ get_or nodes i blank_node) (is' : y ≡ get_or others i blank_node) where
-    pub same_not : same_node x y ≡ false → false ≡ same_nodes (take count nodes) (take count others)
-    unfolding same_nodes
-    same_not e = rw (opened nodes count i held few h, opened others count i other few h, ← is, ← is', e) at v.left
-
-    pub same_next : same_node x y ≡ true → SameBefore nodes others count (i + 1)
-    unfolding same_nodes
-    same_next e = rw (add-one i) (record {
-      upto = h;
-      left = rw (opened nodes count i held few h, opened others count i other few h, ← is, ← is', e) at v.left;
-    })
-
-  pub same_done : count ≤ i → true ≡ same_nodes (take count nodes) (take count others)
-  unfolding same_nodes
-  same_done h = rw (ended nodes count i held few h, ended others count i other few h) at v.left
+-- the words of the nodes that count tell
+pub compared : (x y : CodeTree) {a b : List ℕ} {answer : Bool} → a ≡ counted_words x → b ≡ counted_words y
+    → answer ≡ same_nodes (nodes_in a) (nodes_in b) → {known : Bool} → answer ≡ known → same_trees x y ≡ known
+compared x y e f is known =
+    rw (← counted_in x, ← counted_in y, ← e, ← f) (sym is ∙ known)
 
 -- TREES
 

@@ -3,8 +3,8 @@
 // on the way: where it comes back, its rounds were one cycle, and the verdict is known.
 ghost use Rattle.treejudge.specs.Inner.Cycles.{FirstRound, CycleFound};
 
-use crate::same::same_tree;
-use letters::follow::{begin, follow_round};
+use crate::same::same_nodes;
+use letters::follow::{begin, follow_letters};
 use tree::nodes::Tree;
 use word::lookups::Lookups;
 
@@ -20,7 +20,7 @@ pub struct Cycle {
     pub witnesses: u16,
 }
 
-// From t(0) on.
+// From t(0) on. How many rounds it takes is not known beforehand, so the loop has no range.
 pub fn find_cycle(lookups: &Lookups, k: u8, v: &[u8], first: Tree) -> Cycle
     requires { FirstRound lookups.now k v.now first }
     ensures { CycleFound lookups.now k v.now first result }
@@ -31,30 +31,28 @@ pub fn find_cycle(lookups: &Lookups, k: u8, v: &[u8], first: Tree) -> Cycle
     let mut power = 1u64;
     let mut lam = 0u64;
     let mut root_first = true;
-    let mut sides = first.laid();
-    let mut now = begin(first.on_first_side());
+    let mut buffer = first.laid();
+    let mut maps = begin(&buffer);
     loop {
-        let next = follow_round(lookups, k, v, &mut sides, now, &mut root_first);
+        maps = follow_letters(lookups, k, v, &mut buffer, maps, &mut root_first);
         lam += 1;
-        if same_tree(saved, &sides, next.tree) {
+        if same_nodes(saved.nodes(), buffer.nodes()) {
             return Cycle {
-                saved: saved,
-                before: before,
-                half: half,
-                power: power,
+                saved,
+                before,
+                half,
+                power,
                 period: lam,
-                witnesses: next.maps.witnesses,
+                witnesses: maps.witnesses,
             };
         }
         if lam == power {
             before = saved;
-            saved = Tree::taken(&sides, next.tree);
+            saved = Tree::taken(&buffer);
             half = power;
-            power = power + power;
+            power += power;
             lam = 0;
-            now = begin(next.tree);
-        } else {
-            now = next;
+            maps = begin(&buffer);
         }
     }
 }

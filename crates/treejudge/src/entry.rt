@@ -4,8 +4,8 @@ ghost use Rattle.std.specs.Prelude.{◌≤◌};
 ghost use Rattle.treejudge.specs.Inner.Cycles.{SomeRound, Ahead, TwoRounds, ReadTo, Bracketed, EntryBetween, SearchDone, EntryFound};
 
 use crate::cycle::Cycle;
-use crate::same::same_on;
-use letters::read::read_round;
+use crate::same::same_nodes;
+use letters::read::read_letters;
 use tree::nodes::Tree;
 use word::lookups::Lookups;
 
@@ -15,14 +15,11 @@ fn read_rounds(lookups: &Lookups, k: u8, v: &[u8], count: u64, tree: Tree) -> Tr
     ensures { Ahead lookups.now k v.now count tree result }
 {
     let mut root_first = true;
-    let mut sides = tree.laid();
-    let mut now = tree.on_first_side();
-    let mut round = 0u64;
-    while round < count {
-        now = read_round(lookups, k, v, &mut sides, now, &mut root_first);
-        round += 1;
+    let mut buffer = tree.laid();
+    for _round in 0..count {
+        read_letters(lookups, k, v, &mut buffer, &mut root_first);
     }
-    Tree::taken(&sides, now)
+    Tree::taken(&buffer)
 }
 
 // The entry from `low` to `high`, where `first` is t(low) and `later` is the tree a period further.
@@ -41,24 +38,21 @@ fn entry_between(
     let mut root_first = true;
     let mut here = first.laid();
     let mut there = later.laid();
-    let mut now = first.on_first_side();
-    let mut ahead = later.on_first_side();
-    let mut place = low;
-    while place < high {
-        if same_on(&here, now, &there, ahead) {
+    for place in low..high {
+        if same_nodes(here.nodes(), there.nodes()) {
             return place;
         }
-        place += 1;
-        if place == high {
+        if place + 1 == high {
             return high;
         }
-        now = read_round(lookups, k, v, &mut here, now, &mut root_first);
-        ahead = read_round(lookups, k, v, &mut there, ahead, &mut root_first);
+        read_letters(lookups, k, v, &mut here, &mut root_first);
+        read_letters(lookups, k, v, &mut there, &mut root_first);
     }
     high
 }
 
-// The tree t(place): from the tree that is saved, t(high), where that is no later, else from an earlier one, t(from).
+// The tree t(place): from the tree that is saved, t(high), where that is no later, else from an earlier one, t(from). The number of a round
+// and its tree go side by side: it is counted with the one and read from the other.
 fn read_to(
     lookups: &Lookups,
     k: u8,

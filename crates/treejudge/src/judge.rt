@@ -1,5 +1,6 @@
 // The tree judge: entry and period of the first repeated tree at a round end, and the verdict with its node.
 ghost use Rattle.std.specs.Prelude.{◌≡◌, ◌≤◌, length};
+ghost use Rattle.base.specs.Refusals.{refusal_number};
 ghost use Rattle.rule.specs.Rule.{Rule};
 ghost use Rattle.word.specs.Judging.{ask_room};
 ghost use Rattle.word.specs.Inner.Prepared.{Prepared};
@@ -7,17 +8,17 @@ ghost use Rattle.treejudge.specs.JudgeCall.{Judged, TreeAnswers, TreeCall, name_
 
 use crate::name::{first_node, node_name, store_name};
 use crate::repeat::find_repeat;
+use base::refusal::Refusal;
 use letters::read::read_letters;
 use rule::limits::LETTERS;
 use rule::lookup::ENTRIES;
 use table::header::Header;
-use table::reader::Reading;
 use tree::nodes::Tree;
 use word::lookups::Lookups;
 use word::questions::walk_questions;
 use word::walk::letters_left;
 
-// The tree judge's answer: 0, the verdict (1 yes, 0 no), entry and period, and the length of the node's name (255 on no); or the
+// The tree judge's answer, as C has it: 0, the verdict (1 yes, 0 no), entry and period, and the length of the node's name (255 on no); or the
 // number of the question that failed and zeros.
 #[repr(C)]
 #[derive(Clone, Copy)]
@@ -27,6 +28,27 @@ pub struct TreeAnswer {
     pub entry: u64,
     pub period: u64,
     pub length: u8,
+}
+
+// A refusal: its number and zero for all else. It is promised for every number, so it stands beside the `From`.
+pub fn tree_refusal(number: u8) -> TreeAnswer
+    ensures { result ≡ record { number = number; verdict = 0; entry = 0; period = 0; length = 0 } }
+{
+    TreeAnswer {
+        number,
+        verdict: 0,
+        entry: 0,
+        period: 0,
+        length: 0,
+    }
+}
+
+impl From<Refusal> for TreeAnswer {
+    ghost from_gives = { λ refusal answer. answer ≡ record { number = refusal_number refusal; verdict = 0; entry = 0; period = 0; length = 0 } };
+
+    fn from(refusal: Refusal) -> TreeAnswer {
+        tree_refusal(refusal.into())
+    }
 }
 
 // A name length that is none: "On no, the length is 255".
@@ -44,18 +66,18 @@ fn judge_walk<'a>(
     ensures { (R : Rule) → Prepared R header lookups.now u.now v.now
         → Judged R u.now v.now names.old result names.new }
 {
+    // at most four sets
     let k = header.sets as u8;
     // t(0) follows u
-    let start = Tree::start(header.start);
-    let mut sides = start.laid();
-    let led = read_letters(
+    let mut buffer = Tree::start(header.start).laid();
+    read_letters(
         lookups,
         k,
         letters_left(u, v, false, 0),
-        &mut sides,
-        start.on_first_side(),
+        &mut buffer,
+        &mut true,
     );
-    let first = Tree::taken(&sides, led);
+    let first = Tree::taken(&buffer);
     let found = find_repeat(lookups, k, u, v, first);
     if found.witnesses == 0 {
         return TreeAnswer {
@@ -67,26 +89,13 @@ fn judge_walk<'a>(
         };
     }
     let name = node_name(found.tree, first_node(found.witnesses));
-    store_name(name, names);
+    store_name(&name.numbers[..name.length], names);
     TreeAnswer {
         number: 0,
         verdict: 1,
         entry: found.entry,
         period: found.period,
         length: name.length as u8,
-    }
-}
-
-// A refusal: its number and zero for all else.
-pub fn tree_refusal(number: u8) -> TreeAnswer
-    ensures { result ≡ record { number = number; verdict = 0; entry = 0; period = 0; length = 0 } }
-{
-    TreeAnswer {
-        number: number,
-        verdict: 0,
-        entry: 0,
-        period: 0,
-        length: 0,
     }
 }
 
@@ -105,18 +114,19 @@ pub fn judge_prepared<'a>(
         result names.new }
 {
     if names.len() < Tree::NAME {
-        return tree_refusal(10);
+        return Refusal::NoRoom.into();
     }
     judge_walk(lookups, header, u, v, names)
 }
 
 // THE TREE JUDGE: questions 1 to 6 to the table, 7 and 8 to the walk, 10 to the name buffer, then the verdict.
+#[tactic(auto, unfolding(crate::specs::JudgeCall::tree_outcome, word::specs::Judging::judge_questions))]
 pub fn tree_judge<'a>(table: &[u8], u: &'a [u8], v: &'a [u8], names: &mut [u8]) -> TreeAnswer
     ensures { TreeCall table.now u.now v.now names.old result names.new }
 {
     let mut lookups = [[0u64; ENTRIES]; LETTERS];
     match walk_questions(table, u, v, &mut lookups) {
-        Reading::Refused(number) => tree_refusal(number),
-        Reading::Rule(header) => judge_prepared(&lookups, header, u, v, names),
+        Err(refusal) => refusal.into(),
+        Ok(header) => judge_prepared(&lookups, header, u, v, names),
     }
 }

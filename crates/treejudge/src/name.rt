@@ -1,28 +1,25 @@
 // The name of a node, in a lent buffer. Nodes are numbered in dictionary order, so the first of a map is the lowest member.
-ghost use Rattle.std.specs.Prelude.{◌≡◌, ◌≤◌, length, take};
+ghost use Rattle.std.specs.Prelude.{◌≡◌, ◌≤◌, length};
 ghost use Rattle.base.specs.LentBuffer.{stored};
-ghost use Rattle.treejudge.specs.JudgeCall.{name_room};
 ghost use Rattle.treejudge.specs.Inner.NodeNames.{Lowest, SomeNode, IsName};
 
 use tree::nodes::Tree;
 use tree::packed::unpack;
 
-// A node's name: its numbers are the first `length` ones.
+// A node's name: its numbers are the first `length` ones. An array has them, since the library has no heap.
 #[derive(Clone, Copy)]
 pub struct Name {
     pub numbers: [u8; Tree::NODES],
     pub length: usize,
 }
 
-// The lowest member of a map, or Tree::NODES where there is none below.
+// The lowest member of a map.
+#[tactic(auto, using(crate::proofs::NodeNames::lowest_node))]
 pub fn first_node(map: u16) -> usize
     ensures { Lowest map result }
 {
-    let mut j = 0usize;
-    while j < Tree::NODES && (map >> j) % 2 == 0 {
-        j += 1;
-    }
-    j
+    // `usize` has no `From` of `u32`.
+    map.trailing_zeros() as usize
 }
 
 // The name of the node of that number. Each node's name comes from that of the node in front of it: it keeps the numbers above
@@ -31,38 +28,22 @@ pub fn node_name(tree: Tree, number: usize) -> Name
     requires { SomeNode tree number }
     ensures { IsName tree number result }
 {
-    let nodes = tree.preorder();
     let mut numbers = [0u8; Tree::NODES];
     let mut length = 0usize;
-    let mut i = 0usize;
-    while i < number {
-        i += 1;
-        let node = unpack(nodes[i]);
-        let depth = node.depth as usize;
+    for word in &tree.nodes()[1..number + 1] {
+        let depth = usize::from(unpack(*word).depth);
         let last = depth - 1;
-        if last < length {
-            numbers[last] = numbers[last] + 1;
-        } else {
-            numbers[last] = 0;
-        }
+        numbers[last] = if last < length { numbers[last] + 1 } else { 0 };
         length = depth;
     }
-    Name {
-        numbers: numbers,
-        length: length,
-    }
+    Name { numbers, length }
 }
 
 // "numbers in a lent 7-byte buffer, the rest of it unchanged"
-pub fn store_name(name: Name, buffer: &mut [u8])
-    requires { (name.length ≤ name_room) × (name_room ≤ length buffer.old) }
-    ensures { buffer.new ≡ stored 0 (take name.length name.numbers) buffer.old }
+#[tactic(auto, unfolding(base::specs::LentBuffer::stored))]
+pub fn store_name(name: &[u8], buffer: &mut [u8])
+    requires { length name.now ≤ length buffer.old }
+    ensures { buffer.new ≡ stored 0 name.now buffer.old }
 {
-    let numbers = name.numbers;
-    let length = name.length;
-    let mut i = 0usize;
-    while i < length {
-        buffer[i] = numbers[i];
-        i += 1;
-    }
+    buffer[..name.len()].copy_from_slice(name);
 }

@@ -1,15 +1,14 @@
 -- The questions to a table and a walk, and those of a judge: each way that they can go, and what is known where they accept a rule.
-use mathlib.Core.Path.{◌≡◌, sym, ◌∙◌, ap}
+use mathlib.Core.Path.{◌≡◌}
 use mathlib.Core.Bool.{◌&&◌}
 use mathlib.Core.List.{List, []}
-use Prim.Native.Nat.{ℕ, ◌≤◌, ◌<◌}
+use Prim.Native.Nat.{ℕ, ◌≤◌}
 use borrow.Author.Tests.{le-leb}
 use lib.Dec.{leb}
 use lib.ListN.{length}
-use Rattle.base.specs.Lists.{Every, all_below}
-use Rattle.base.specs.Outcome.{refused, accepted, number_of}
+use Rattle.base.specs.Lists.{all_below}
+use Rattle.base.specs.Outcome.{refused, accepted, ◌then◌}
 use Rattle.base.proofs.Accepted.{IfAccepted, itself, of_accepted, asked, followed, then_accepted}
-use Rattle.rule.specs.Limits.{max_letters}
 use Rattle.rule.specs.Rule.{Grid, Rule}
 use Rattle.rule.specs.WellFormed.{WellFormed}
 use Rattle.table.specs.Table.{read_rule}
@@ -19,7 +18,7 @@ use Rattle.word.specs.Walk.{lengths_fit, ask_walk, walk_outcome}
 use Rattle.word.specs.Inner.WalkLookups.{Lookups, lookups_after}
 use Rattle.word.specs.Judging.{walk_questions, judge_questions}
 use Rattle.word.specs.Inner.Prepared.{Prepared}
-use Rattle.word.proofs.WalkQuestions.{fit_nonempty, walk_accepted, walk_next, walk_refused}
+use Rattle.word.proofs.WalkQuestions.{fit_nonempty, walk_letters, walk_then}
 use Rattle.word.proofs.WalkLookups.{walk_prepared}
 
 -- what the questions to the table and to the walk say on yes
@@ -37,31 +36,21 @@ module _ (table u v : List ℕ) where
   unfolding walk_questions
   walk_no_table e = rw e
 
-  module _ {header : Header} {cells : Grid} {words : List (List ℕ)} (r : RuleRead table header cells words)
-      {number : ℕ} (e : number ≡ number_of (walk_outcome header.letters u v)) where
-    behind : walk_questions table u v ≡ ask_walk header.letters u v (accepted r.rule)
+  module _ {header : Header} {cells : Grid} {words : List (List ℕ)} (r : RuleRead table header cells words) where
+    behind : walk_questions table u v ≡ (walk_outcome header.letters u v then λ _. accepted r.rule)
     unfolding walk_questions
-    behind = rw (r.reads, r.holds.numbers)
+    behind = rw (r.reads, r.holds.numbers.letters) (walk_then r.rule.letters u v (accepted r.rule))
 
     -- 7 and 8
-    pub walk_no : (number ≡ 0 → ⊥) → walk_questions table u v ≡ refused number
-    walk_no some = behind ∙ walk_refused header.letters u v (accepted r.rule) (λ z. some (e ∙ z)) ∙ ap (λ (x : ℕ). refused x) (sym e)
+    pub walk_no : {number : ℕ} → walk_outcome header.letters u v ≡ refused number → walk_questions table u v ≡ refused number
+    walk_no e = rw (behind, e)
 
-    -- all are answered yes
-    pub walk_yes : number ≡ 0 → walk_questions table u v ≡ accepted r.rule
-    walk_yes none = behind ∙ walk_next header.letters u v (accepted r.rule) (sym e ∙ none)
-
-    -- then the letters are below m, which is within the limit
-    pub walk_letters : number ≡ 0 → (header.letters ≤ max_letters) × Every (λ a. a < header.letters) u × Every (λ a. a < header.letters) v
-    walk_letters none =
-        let (_, _, _, below, below') = walk_accepted header.letters u v (sym e ∙ none) in
-        (rw r.holds.numbers r.holds.limits.letters, below, below')
-
-    -- and the walk is prepared, once they have their look-ups
-    pub walk_ready : number ≡ 0 → (before : Lookups) {lookups : Lookups} → lookups ≡ lookups_after words u v before → Prepared r.rule header lookups u v
-    walk_ready none before {lookups} made =
-        let (_, below, below') = walk_letters none in
-        walk_prepared r.holds u v below below' before lookups made
+    -- all are answered yes, and the walk is prepared once its letters have their look-ups
+    pub walk_yes : walk_outcome header.letters u v ≡ accepted tt → (before : Lookups) {lookups : Lookups} → lookups ≡ lookups_after words u v before
+        → (R : Rule) × (walk_questions table u v ≡ accepted R) × Prepared R header lookups u v
+    walk_yes e before {lookups} made =
+        let (lead, tail) = walk_letters header.letters u v e in
+        (r.rule, rw (behind, e), walk_prepared r.holds u v lead tail before lookups made)
 
   -- AN ACCEPTED WALK
 

@@ -1,18 +1,17 @@
 -- The look-ups of a walk: the letters that occur in it, the look-ups made from their words, and that each letter has its look-up.
 use mathlib.Core.Path.{◌≡◌, refl, sym, ◌∙◌, ap, ap₂}
-use mathlib.Core.Logic.{◌⊎◌, ⊎_elim}
-use mathlib.Core.Bool.{Bool, true, false, ◌&&◌, ◌||◌, cond, or_assoc, or-false}
+use mathlib.Core.Logic.{⊎_elim}
+use mathlib.Core.Bool.{Bool, true, ◌&&◌, ◌||◌, cond, or_assoc, or-false}
 use mathlib.Core.List.{List, [], ◌∷◌, ◌++◌}
-use Prim.Native.Nat.{ℕ, zero, suc, ◌+◌, ◌-◌, ◌%◌, ◌^◌, ◌≤◌, ◌<◌}
+use Prim.Native.Nat.{ℕ, zero, suc, ◌+◌, ◌-◌, ◌/◌, ◌%◌, ◌^◌, ◌≤◌, ◌<◌}
 use native.Mathlib.Decide.{ℕ_discrete}
 use native.Mathlib.Numerals.{add-one}
 use native.Mathlib.Omega.{arith}
-use borrow.Author.Tests.{eqb-true, eq-eqb, lt-ltb}
-use lib.Bits.{bit_and, bit_or, and_le_r, or_zero_r}
-use lib.Count.{count_trailing_zeros}
+use borrow.Author.Tests.{eqb-true, eq-eqb, ne_eqb, lt-ltb}
+use lib.Bits.{bit_or, or_zero_r}
 use lib.Dec.{eqb, ltb}
 use lib.ListN.{length, get_or, take, set, length-set}
-use lib.Seq.{take-suc, take_all, ext_get_or, get_or-set_same, get_or-set_other}
+use lib.Seq.{take-suc, ext_get_or, get_or-set_same, get_or-set_other}
 use Rattle.base.specs.BitSet.{member, Subset, collect}
 use Rattle.base.specs.Lists.{Every, tabulate}
 use Rattle.base.proofs.BitSet.{
@@ -28,8 +27,7 @@ use Rattle.base.proofs.BitSet.{
   member_all,
 }
 use Rattle.base.proofs.Every.{every_weaker, every_both}
-use Rattle.base.proofs.Logic.{look, clash, never, and_both, and_in, or_l, or_r, or_in}
-use Rattle.base.proofs.LowestBit.{lowest_inside, lowest_stands, cleared_others, cleared_keeps}
+use Rattle.base.proofs.Logic.{clash, and_both, and_in, or_l, or_r, or_in}
 use Rattle.base.proofs.Tabulate.{length_tabulate, get_d_tabulate, tabulate_ext}
 use Rattle.rule.specs.Limits.{max_letters}
 use Rattle.rule.specs.Rule.{Rule}
@@ -86,29 +84,22 @@ letters_front at w a h =
         (λ later. or_r (eqb (b % max_letters) a) (occurs w a) (front at w a later))
         (or_in (eqb (b % max_letters) a) (occurs (take at w) a) h)
 
--- the map of the first `at` letters of w, joined to the others
-pub record LettersUpTo (others : ℕ) (w : List ℕ) (at letters : ℕ) : Type 0 where
-  pub upto : at ≤ length w
-  pub map : letters ≡ bit_or others (letters_of (take at w))
+-- the map of the first `at` letters of w, joined to the others: at the start, and after one letter more
+abbrev pub LettersUpTo : ℕ → List ℕ → ℕ → ℕ → Type 0
+LettersUpTo others w at letters = letters ≡ bit_or others (letters_of (take at w))
 
--- at the start, after one letter more, and at the end
 pub letters_none : (others : ℕ) (w : List ℕ) → LettersUpTo others w 0 others
 unfolding occurs collect
-letters_none others w = record { upto = omega arith; map = sym (or_zero_r others) }
+letters_none others w = sym (or_zero_r others)
 
-module _ (others : ℕ) (w : List ℕ) (at letters : ℕ) (v : LettersUpTo others w at letters) where
+module _ (others : ℕ) (w : List ℕ) (at letters : ℕ) (upto : LettersUpTo others w at letters) where
   pub letters_next : at < length w → LettersUpTo others w (at + 1) (bit_or letters (2 ^ (get_or w at 0 % max_letters)))
-  letters_next h = record {
-    upto = omega arith;
-    map = rw (v.map, add-one, take-suc w at 0 h, letters_more (take at w) (get_or w at 0)) (sym (union_assoc others (letters_of (take at w)) _));
-  }
+  letters_next h =
+      rw (upto, add-one, take-suc w at 0 h, letters_more (take at w) (get_or w at 0)) (sym (union_assoc others (letters_of (take at w)) _))
 
-  pub letters_end : length w ≤ at → letters ≡ bit_or others (letters_of w)
-  letters_end h = v.map ∙ ap (λ (x : List ℕ). bit_or others (letters_of x)) (take_all at w h)
-
-  -- or when all that can come have come
+  -- when all that can come have come, no other comes
   pub letters_all : (all : ℕ) → Subset (bit_or others (letters_of w)) all → letters ≡ all → letters ≡ bit_or others (letters_of w)
-  letters_all all inside e = subset_antisym letters (bit_or others (letters_of w)) (rw v.map so_far) (rw e inside)
+  letters_all all inside e = subset_antisym letters (bit_or others (letters_of w)) (rw upto so_far) (rw e inside)
     where
       so_far : Subset (bit_or others (letters_of (take at w))) (bit_or others (letters_of w))
       so_far = union_subset others (letters_of (take at w)) (bit_or others (letters_of w))
@@ -137,65 +128,45 @@ module _ (m all : ℕ) (few : m ≤ max_letters) (is : all ≡ 2 ^ m - 1) where
 
 -- THEIR LOOK-UPS
 
--- look-ups as they were, but for those of the letters of a map that are no longer in `rest`
-pub record LookupsBut (letters rest : ℕ) (words : List (List ℕ)) (before lookups : Lookups) : Type 0 where
+-- what the look-up of a letter becomes
+abbrev entry : ℕ → List (List ℕ) → Lookups → ℕ → List ℕ
+entry letters words before a = cond (member letters a) (joined_lookup (get_or words a [])) (get_or before a [])
+
+-- look-ups as they were, but for those of the letters below `at` that are in a map
+pub record LookupsUpTo (letters : ℕ) (words : List (List ℕ)) (before : Lookups) (at : ℕ) (lookups : Lookups) : Type 0 where
   pub places : length lookups ≡ max_letters
-  pub few : rest < 2 ^ max_letters
-  pub inside : Subset rest letters
-  pub made : (a : ℕ) → member letters a ≡ true → member rest a ≡ false → get_or lookups a [] ≡ joined_lookup (get_or words a [])
-  pub stays : (a : ℕ) → member letters a ≡ false → get_or lookups a [] ≡ get_or before a []
+  pub made : (a : ℕ) → a < at → get_or lookups a [] ≡ entry letters words before a
+  pub stays : (a : ℕ) → at ≤ a → get_or lookups a [] ≡ get_or before a []
 
--- at the start
-pub lookups_none : (letters : ℕ) (words : List (List ℕ)) (lookups : Lookups) → letters < 2 ^ max_letters → length lookups ≡ max_letters
-    → LookupsBut letters letters words lookups lookups
-lookups_none letters words lookups few h = record {
-  places = h;
-  few = few;
-  inside = λ a m. m;
-  made = λ a m out. clash out m;
-  stays = λ a out. refl;
-}
+module _ (letters : ℕ) (words : List (List ℕ)) (before : Lookups) (at : ℕ) (lookups : Lookups) (v : LookupsUpTo letters words before at lookups) where
+  -- the next letter is in the map, and its look-up is made
+  pub lookups_made : at < max_letters → letters / 2 ^ at % 2 ≡ 1 → (lookup : List ℕ) → lookup ≡ joined_lookup (get_or words at [])
+      → LookupsUpTo letters words before (at + 1) (set lookups at lookup)
+  unfolding member
+  lookups_made inside chosen lookup is = record {
+    places = length-set lookups at lookup ∙ v.places;
+    made = λ a l. go a l (ℕ_discrete a at);
+    stays = λ a l. get_or-set_other lookups at a lookup [] (λ e. omega arith) ∙ v.stays a (omega arith);
+  }
+    where
+      go : (a : ℕ) → a < at + 1 → Dec (a ≡ at) → get_or (set lookups at lookup) a [] ≡ entry letters words before a
+      go a l (yes e) = rw (e, eq-eqb _ 1 chosen) (get_or-set_same lookups at lookup [] (omega (arith, v.places, inside)) ∙ is)
+      go a l (no e) = get_or-set_other lookups at a lookup [] e ∙ v.made a (omega arith)
 
-module _ (letters rest : ℕ) (words : List (List ℕ)) (before lookups : Lookups) (v : LookupsBut letters rest words before lookups) where
-  module _ (some : rest ≡ 0 → ⊥) where
-    abbrev letter : ℕ
-    letter = count_trailing_zeros max_letters rest
-
-    -- the next letter of the map
-    pub letter_inside : letter < max_letters
-    letter_inside = lowest_inside max_letters max_letters rest (omega arith) (omega arith) v.few
-
-    letter_of : member letters letter ≡ true
-    letter_of = v.inside letter (lowest_stands max_letters max_letters rest (omega arith) (omega arith) v.few)
-
-    -- with its look-up
-    pub lookups_more : (lookup : List ℕ) → lookup ≡ joined_lookup (get_or words letter [])
-        → LookupsBut letters (bit_and rest (rest - 1)) words before (set lookups letter lookup)
-    lookups_more lookup is = record {
-      places = length-set lookups letter lookup ∙ v.places;
-      few = omega (arith, v.few, and_le_r rest (rest - 1));
-      inside = λ a m. v.inside a (cleared_others max_letters max_letters rest (omega arith) (omega arith) v.few a m).0;
-      made = λ a m out. go a m out (ℕ_discrete a letter);
-      stays = λ a out. get_or-set_other lookups letter a lookup [] (λ e. clash out (rw e letter_of)) ∙ v.stays a out;
-    }
-      where
-        go : (a : ℕ) → member letters a ≡ true → member (bit_and rest (rest - 1)) a ≡ false → Dec (a ≡ letter)
-            → get_or (set lookups letter lookup) a [] ≡ joined_lookup (get_or words a [])
-        go a m out (yes e) = rw e (get_or-set_same lookups letter lookup [] (omega (arith, v.places, letter_inside)) ∙ is)
-        go a m out (no e) = get_or-set_other lookups letter a lookup [] e ∙ v.made a m
-            (never (member rest a) (λ stands. clash out (cleared_keeps max_letters max_letters rest (omega arith) (omega arith) v.few a stands e)))
+  -- or it is not, and its look-up stays
+  pub lookups_kept : (letters / 2 ^ at % 2 ≡ 1 → ⊥) → LookupsUpTo letters words before (at + 1) lookups
+  unfolding member
+  lookups_kept out = record { places = v.places; made = λ a l. go a l (ℕ_discrete a at); stays = λ a l. v.stays a (omega arith) }
+    where
+      go : (a : ℕ) → a < at + 1 → Dec (a ≡ at) → get_or lookups a [] ≡ entry letters words before a
+      go a l (yes e) = rw (e, ne_eqb _ 1 out) (v.stays at (omega arith))
+      go a l (no e) = v.made a (omega arith)
 
   -- at the end
-  pub lookups_end : rest ≡ 0 → lookups ≡ refilled (member letters) words before
+  pub lookups_end : max_letters ≤ at → lookups ≡ refilled (member letters) words before
   unfolding refilled
-  lookups_end none = ext_get_or [] lookups (tabulate max_letters entry) (v.places ∙ sym (length_tabulate max_letters entry))
-      (λ a h. go a (look (member letters a)) ∙ sym (get_d_tabulate max_letters entry a [] (omega (arith, v.places))))
-    where
-      entry : ℕ → List ℕ
-      entry a = cond (member letters a) (joined_lookup (get_or words a [])) (get_or before a [])
-
-      go : (a : ℕ) → (member letters a ≡ true) ⊎ (member letters a ≡ false) → get_or lookups a [] ≡ entry a
-      go a = ⊎_elim (λ m. rw m (v.made a m (rw none (member_none a)))) (λ out. rw out (v.stays a out))
+  lookups_end over = ext_get_or [] lookups (tabulate max_letters (entry letters words before)) (v.places ∙ sym (length_tabulate max_letters _))
+      (λ a l. v.made a (omega (arith, v.places)) ∙ sym (get_d_tabulate max_letters _ a [] (omega (arith, v.places))))
 
 -- THE LETTERS OF A WALK
 
@@ -222,7 +193,7 @@ module _ {R : Rule} {header : Header} {words : List (List ℕ)} (h : HoldsRule R
   has_lookup : (a : ℕ) → a < header.letters → (occurs u (a % max_letters) || occurs v (a % max_letters)) ≡ true → HasLookup R lookups a
   unfolding lookups_after refilled
   has_lookup a less m =
-      let below : a < R.letters = rw h.numbers at less in
+      let below : a < R.letters = rw h.numbers.letters at less in
       let small : a < max_letters = omega (arith, h.limits.letters) in
       let same : a % max_letters ≡ a = omega arith in
       record {

@@ -1,5 +1,5 @@
 // The look-ups of a walk: those of the letters that occur in it, each made once.
-ghost use Rattle.std.specs.Prelude.{◌≡◌, ◌-◌, ◌^◌, ◌<◌, ◌≤◌, length};
+ghost use Rattle.std.specs.Prelude.{◌≡◌, ◌-◌, ◌^◌, ◌<◌, ◌≤◌};
 ghost use Rattle.std.specs.Int.Bits.{bit_or};
 ghost use Rattle.base.specs.BitSet.{Subset, collect, member};
 ghost use Rattle.base.specs.Lists.{Every};
@@ -12,7 +12,7 @@ use rule::lookup::{Lookup, fill_lookup};
 // A look-up for each letter.
 pub type Lookups = [Lookup; LETTERS];
 
-// The map of all letters of a rule that has m of them.
+// The map of all letters of a rule that has m of them. It is made in a wider word, since 2^16 is no u16.
 fn all_letters(m: usize) -> u16
     requires { m ≤ max_letters }
     ensures { result ≡ 2 ^ m - 1 }
@@ -27,31 +27,30 @@ fn occurring(w: &[u8], others: u16, all: u16) -> u16
     ensures { result ≡ bit_or others (collect max_letters (occurs w.now)) }
 {
     let mut letters = others;
-    let mut at = 0usize;
-    while at < w.len() && letters != all {
-        letters = letters | (1u16 << (w[at] % LETTERS as u8));
-        at += 1;
+    for letter in w {
+        if letters == all {
+            break;
+        }
+        letters |= 1u16 << (usize::from(*letter) % LETTERS);
     }
     letters
 }
 
 // The look-ups of a map of letters, made in place from the words of their states; those of other letters stay.
 fn fill_lookups(words: &Words, letters: u16, lookups: &mut Lookups)
-    requires { length lookups.old ≡ max_letters }
     ensures { lookups.new ≡ refilled (member letters) words.now lookups.old }
 {
-    let mut rest = letters;
-    while rest != 0 {
-        let letter = u16::trailing_zeros(rest) as usize;
-        fill_lookup(&words[letter], &mut lookups[letter]);
-        rest = rest & (rest - 1);
+    for letter in 0..LETTERS {
+        if (letters >> letter) % 2 == 1 {
+            fill_lookup(&words[letter], &mut lookups[letter]);
+        }
     }
 }
 
 // The look-ups of the letters that occur in a walk, made in place; those of other letters stay. The rule has m letters. Both judges read
 // letters by them.
 pub fn walk_lookups(words: &Words, m: usize, u: &[u8], v: &[u8], lookups: &mut Lookups)
-    requires { (m ≤ max_letters) × Every (λ a. a < m) u.now × Every (λ a. a < m) v.now × (length lookups.old ≡ max_letters) }
+    requires { (m ≤ max_letters) × Every (λ a. a < m) u.now × Every (λ a. a < m) v.now }
     ensures { lookups.new ≡ lookups_after words.now u.now v.now lookups.old }
 {
     let all = all_letters(m);

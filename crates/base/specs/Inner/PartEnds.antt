@@ -1,14 +1,12 @@
 -- The places where parts end that stand behind their length.
-use Rattle.std.specs.Prelude.{List, ℕ, ◌+◌, ◌-◌, length, take, drop}
+use Rattle.std.specs.Prelude.{List, ℕ, ◌+◌, ◌-◌, Option, Some, None, length, take, drop}
 use Rattle.base.specs.Outcome.{Outcome, refused, accepted, ◌then◌}
 use Rattle.base.specs.Reading.{read_part}
-use Rattle.base.specs.declared.part.End.{End}
-use Rattle.base.specs.declared.part.End.TheVariants.{Past, At}
 
--- the number and the value for each case of an `End`, where a part that is not whole is refused by `number`
-abbrev pub end_as : ℕ → End → Outcome ℕ
-end_as number Past = refused number
-end_as number (At place) = accepted place
+-- the place where a part ends, or the number that refuses one that is not whole
+abbrev pub end_as : ℕ → Option ℕ → Outcome ℕ
+end_as number None = refused number
+end_as number (Some place) = accepted place
 
 -- where a part ends whose length stands at a place
 unfoldable pub part_end : ℕ → ℕ → List ℕ → Outcome ℕ

@@ -1,11 +1,11 @@
 -- The places where a job's parts end.
-use Rattle.std.specs.Prelude.{◌≡◌, List, ℕ, ◌+◌, ◌≤◌, length}
-use Rattle.base.specs.Outcome.{Outcome, refused, accepted}
+use Rattle.std.specs.Prelude.{◌≡◌, List, ℕ, ◌+◌, ◌≤◌, Result, length}
+use Rattle.base.specs.Outcome.{Outcome}
 use Rattle.base.specs.Inner.PartEnds.{between}
+use Rattle.base.specs.Refusals.{Answers}
+use Rattle.base.specs.declared.refusal.Refusal.{Refusal}
 use Rattle.job.specs.JobCall.{Parts}
 use Rattle.job.specs.declared.split.Ends.{Ends}
-use Rattle.job.specs.declared.split.Split.{Split}
-use Rattle.job.specs.declared.split.Split.TheVariants.{Refused, Parts as Split-as-Parts}
 
 -- the parts of a job stand between these places, each behind the two bytes of its length
 pub record EndsAt (job : List ℕ) (p : Parts) (ends : Ends) : Type 0 where
@@ -17,6 +17,5 @@ pub record EndsAt (job : List ℕ) (p : Parts) (ends : Ends) : Type 0 where
   pub tail : p.tail ≡ between (ends.lead + 2) (length job) job
 
 -- question 12's answer
-abbrev pub Splits : Outcome Parts → List ℕ → Split → Type 0
-Splits (refused number) job split = (number ≡ 12) × (split ≡ Refused)
-Splits (accepted p) job split = (ends : Ends) × (split ≡ Split-as-Parts ends) × EndsAt job p ends
+abbrev pub Splits : Outcome Parts → List ℕ → Result Ends Refusal → Type 0
+Splits o job split = Answers o (EndsAt job) split

@@ -3,16 +3,18 @@ use Rattle.std.specs.Prelude.{◌≡◌, cond, List, ℕ, ◌+◌, ◌≤◌, eq
 use Rattle.base.specs.LentBuffer.{stored}
 use Rattle.history.specs.Finding.{Finding, yes_node, no_node}
 use Rattle.treejudge.specs.declared.judge.TreeAnswer.{TreeAnswer}
+use Rattle.job.specs.JobCall.{text_room}
 use Rattle.job.specs.declared.call.Text.{Text}
 
 -- a text with more bytes at its end
 unfoldable pub appended : Text → List ℕ → Text
 appended text more = record { bytes = stored text.length more text.bytes; length = text.length + length more }
 
--- at most so many bytes more
+-- the same to a text with its whole array, and it is at most so many bytes longer
 pub record Appends (text : Text) (more : List ℕ) (most : ℕ) (result : Text) : Type 0 where
+  pub size : length text.bytes ≡ text_room
   pub same : result ≡ appended text more
-  pub short : length more ≤ most
+  pub long : result.length ≤ text.length + most
 
 -- the node that a tree judge's answer names: its numbers are the first ones of the name buffer
 unfoldable pub finding_of : TreeAnswer → List ℕ → Finding

@@ -1,6 +1,6 @@
 -- Letters read for the root alone: what the contracts of the tree judge's own functions say of it. The definitions are those of the root
 -- by itself (crates/history/specs/Inner/Root.antt), here by look-ups.
-use Rattle.std.specs.Prelude.{◌≡◌, Bool, false, cond, List, [], ◌∷◌, ℕ, ◌/◌, ◌%◌, ◌^◌, ◌≤◌, ◌<◌, eqb, length, get_or, take}
+use Rattle.std.specs.Prelude.{◌≡◌, false, cond, List, [], ◌∷◌, ℕ, ◌/◌, ◌%◌, ◌^◌, ◌≤◌, ◌<◌, eqb, length, get_or, take, Option, Some, None, MatchOption}
 use Rattle.std.specs.Int.Bits.{bit_and, bit_or}
 use Rattle.base.specs.Lists.{Every}
 use Rattle.rule.specs.Limits.{max_letters, max_sets}
@@ -16,6 +16,8 @@ use Rattle.letters.specs.Inner.Reading.{ReadsTo}
 use Rattle.letters.specs.Inner.Names.{FollowsTo}
 use Rattle.letters.specs.declared.follow.Maps.{Maps}
 use Rattle.letters.specs.declared.root.Root.{Root as CodeRoot}
+use Rattle.letters.specs.declared.root.RootAt.{RootAt}
+use Rattle.letters.specs.declared.root.Skipped.{Skipped}
 
 -- the root as the code carries it
 abbrev pub root_as : CodeRoot → Root
@@ -43,17 +45,27 @@ pub record Passable (k : ℕ) (w : List ℕ) (r : Root) : Type 0 where
   pub letters : Every (λ a. a < max_letters) w
   pub short : length w ≤ max_length
 
--- r is the root behind the first `place` letters of w, and has no child there; or it is the root begun with, at place 0
+-- r is the root behind the first `place` letters of w, and has no child there
 pub record AloneAt (lookups : Lookups) (k : ℕ) (w : List ℕ) (first : Root) (place : ℕ) (r : Root) : Type 0 where
+  pub some : 0 < place
   pub upto : place ≤ length w
   pub root : r ≡ roots_by lookups k (take place w) first
-  pub alone : 0 < place → r.kids ≡ 0
+  pub alone : r.kids ≡ 0
 
--- and it has a child behind each longer part of the first n letters
-pub record LastAlone (lookups : Lookups) (k : ℕ) (w : List ℕ) (first : Root) (n place : ℕ) (r : Root) : Type 0 where
-  pub here : AloneAt lookups k w first place r
-  pub within : place ≤ n
-  pub last : (i : ℕ) → place < i → i ≤ n → (roots_by lookups k (take i w) first).kids ≡ 0 → ⊥
+-- where a place was found, the root is alone there
+abbrev pub FoundAlone : Lookups → ℕ → List ℕ → Root → Option RootAt → Type 0
+FoundAlone lookups k w first found = MatchOption found Unit (λ r. AloneAt lookups k w first r.place (root_as r.root))
+
+-- the place that was found, or 0
+abbrev pub place_found : Option RootAt → ℕ
+place_found None = 0
+place_found (Some r) = r.place
+
+-- and the root has a child behind each longer part of the first n letters
+pub record LastAlone (lookups : Lookups) (k : ℕ) (w : List ℕ) (first : Root) (n : ℕ) (found : Option RootAt) : Type 0 where
+  pub here : FoundAlone lookups k w first found
+  pub within : place_found found ≤ n
+  pub last : (i : ℕ) → place_found found < i → i ≤ n → (roots_by lookups k (take i w) first).kids ≡ 0 → ⊥
 
 -- A PLACE AND ITS ROOT IN ONE WORD: the label, the active set, whether it was accepting, and the place, from the lowest bits up
 
@@ -64,9 +76,10 @@ unfoldable pub root_in : ℕ → Root
 root_in word =
     record { label = word % 2 ^ 16; kids = 0; active = word / 2 ^ 16 % 2 ^ 8; accepted = eqb (word / 2 ^ 24 % 2 ^ 8) 1 }
 
--- the root of a word; before the first place there is none, and the root is the one begun with
-unfoldable pub root_found : ℕ → Root → Root
-root_found word first = cond (eqb (place_in word) 0) first (root_in word)
+-- the place and the root of a word; at place 0 there is none
+abbrev pub InWord : ℕ → Option RootAt → Type 0
+InWord word found =
+    MatchOption found (place_in word ≡ 0) (λ r. (0 < place_in word) × (r.place ≡ place_in word) × (root_as r.root ≡ root_in word))
 
 -- TREES IN PLACE
 
@@ -83,14 +96,19 @@ pub record IsLone (r : Root) (x : CodeTree) : Type 0 where
   pub counts : x.count ≡ size (lone_tree r)
   pub are : AreNodes (counted_nodes x) (lone_tree r)
 
--- both maps where only the root is left to follow: there are `count` roots, one or none; at place 0 they are as they were
-unfoldable pub root_maps : ℕ → ℕ → Bool → Maps → Maps
-root_maps place count accepted m =
-    cond (eqb place 0) m
-    (record { kept = count; witnesses = bit_and (bit_or m.witnesses (cond accepted 1 0)) count })
+-- how many letters are skipped
+abbrev pub place_of : Option Skipped → ℕ
+place_of None = 0
+place_of (Some there) = there.place
 
--- x leads to y by the first `place` letters of w, and its followed nodes to those of the maps at that place
-pub record SkipsTo (lookups : Lookups) (k : ℕ) (w : List ℕ) (x y : CodeTree) (place : ℕ) (accepted : Bool) : Type 0 where
-  pub upto : place ≤ length w
-  pub reads : ReadsTo lookups k (take place w) x y
-  pub follows : (m : Maps) → FollowsTo lookups k (take place w) x m y (root_maps place y.count accepted m)
+-- both maps where only the root is left to follow: there are `count` roots, one or none; where nothing is skipped they are as they were
+abbrev pub root_maps : Option Skipped → ℕ → Maps → Maps
+root_maps None count m = m
+root_maps (Some there) count m =
+    record { kept = count; witnesses = bit_and (bit_or m.witnesses (cond there.accepted 1 0)) count }
+
+-- x leads to y by the letters of w that are skipped, and its followed nodes to those of the maps at that place
+pub record SkipsTo (lookups : Lookups) (k : ℕ) (w : List ℕ) (x y : CodeTree) (skipped : Option Skipped) : Type 0 where
+  pub upto : place_of skipped ≤ length w
+  pub reads : ReadsTo lookups k (take (place_of skipped) w) x y
+  pub follows : (m : Maps) → FollowsTo lookups k (take (place_of skipped) w) x m y (root_maps skipped y.count m)

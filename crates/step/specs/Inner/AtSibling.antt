@@ -9,17 +9,18 @@ use Rattle.tree.specs.Inner.Nodes.{AreNodes}
 use Rattle.tree.specs.declared.nodes.Node.{Node as CodeNode}
 use Rattle.step.specs.RunningSet.{RunningSet}
 use Rattle.step.specs.Inner.Pass.{closed_to, read_nodes, at_start}
-use Rattle.step.specs.Inner.LevelArrays.{LevelArrays, pass_at}
+use Rattle.step.specs.Inner.LevelArrays.{pass_at}
+use Rattle.step.specs.declared.pass.Levels.{Levels}
 use Rattle.step.specs.declared.pass.Standing.{Standing}
 
 -- what is known where a sibling is reached: the variables are those of a pass that has read the first i of some nodes, and has closed the
 -- levels deeper than `top`
 pub record AtSibling (lookup : Lookup) (k : ℕ) (nodes : List CodeNode) (i : ℕ) (at : Standing) : Type 0 where
   pub side : List ℕ
-  pub arrays : LevelArrays
+  pub levels : Levels
   pub accepting : ℕ
   pub stable : ℕ
-  pub pass : pass_at side arrays at accepting stable ≡ closed_to at.top (read_nodes (look_up lookup) k 0 at_start (take i nodes))
+  pub pass : pass_at side levels at accepting stable ≡ closed_to at.top (read_nodes (look_up lookup) k 0 at_start (take i nodes))
 
 -- for every rule, letter and tree whose look-up and nodes these are: "when a sibling is reached, this set is the union of its older
 -- siblings' labels, both as they were before these siblings lost states to one another and as they are after"

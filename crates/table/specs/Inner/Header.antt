@@ -1,7 +1,16 @@
--- Questions 2 and 3 as the code puts them: the number of the first that is answered no, or 0.
-use Rattle.std.specs.Prelude.{cond, ℕ}
-use Rattle.rule.specs.WellFormed.{start_fits}
-use Rattle.table.specs.Table.{in_range}
+-- The numbers of a rule as the code holds them, and questions 2 and 3 to them.
+use Rattle.std.specs.Prelude.{◌≡◌, ℕ}
+use Rattle.base.specs.Outcome.{Outcome, accepted}
+use Rattle.table.specs.Table.{ask_header}
+use Rattle.table.specs.declared.header.Header.{Header}
 
-unfoldable pub header_number : ℕ → ℕ → ℕ → ℕ → ℕ
-header_number n m k start = cond (in_range n m k) (cond (start_fits n start) 0 3) 2
+-- a header has these numbers
+pub record HasNumbers (n m k map : ℕ) (header : Header) : Type 0 where
+  pub states : header.states ≡ n
+  pub letters : header.letters ≡ m
+  pub sets : header.sets ≡ k
+  pub start : header.start ≡ map
+
+-- questions 2 and 3 by themselves
+unfoldable pub header_outcome : ℕ → ℕ → ℕ → ℕ → Outcome (Unit {0})
+header_outcome n m k start = ask_header n m k start (accepted tt)

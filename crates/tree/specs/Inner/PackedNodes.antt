@@ -21,3 +21,7 @@ nodes_in words = map unpacked words
 -- the nodes of a tree: those that count
 abbrev pub counted_nodes : CodeTree → List CodeNode
 counted_nodes x = take x.count (nodes_in x.nodes)
+
+-- their words
+abbrev pub counted_words : CodeTree → List ℕ
+counted_words x = take x.count x.nodes

@@ -7,12 +7,9 @@ use Rattle.rule.specs.Limits.{max_states}
 use Rattle.history.specs.Record.{members}
 use Rattle.tree.specs.Inner.Nodes.{blank_node}
 use Rattle.tree.specs.Inner.PackedNodes.{nodes_in}
+use Rattle.tree.specs.Inner.Places.{places}
 use Rattle.tree.specs.declared.nodes.Node.{Node as CodeNode}
 use Rattle.tree.specs.declared.nodes.Tree.{Tree as CodeTree}
-
--- the number of nodes that the code holds
-abbrev pub places : ℕ
-places = 2 * max_states
 
 -- the node of a starting tree: that of the root alone
 unfoldable pub start_nodes : ℕ → List CodeNode
@@ -64,9 +61,9 @@ unfoldable pub nodes_record : ℕ → List CodeNode → List ℕ
 nodes_record n [] = 0 ∷ []
 nodes_record n (root ∷ nodes) = root.label ∷ (host_bytes (root ∷ nodes) n root.label ++ tag_bytes (root ∷ nodes))
 
--- a tree can be recorded: there is a byte for the root's label and for each tag
-pub record Recordable (n : ℕ) (x : CodeTree) : Type 0 where
+-- a tree's nodes can be recorded: there is a byte for the root's label and for each tag
+pub record Recordable (n : ℕ) (nodes : List CodeNode) : Type 0 where
   pub states : n ≤ max_states
-  pub few : x.count ≤ max_states
-  pub root : 0 < x.count → (get_or (nodes_in x.nodes) 0 blank_node).label < 256
-  pub tags : (i : ℕ) → i < x.count → tag_of (get_or (nodes_in x.nodes) i blank_node) < 256
+  pub few : length nodes ≤ max_states
+  pub root : 0 < length nodes → (get_or nodes 0 blank_node).label < 256
+  pub tags : (i : ℕ) → i < length nodes → tag_of (get_or nodes i blank_node) < 256

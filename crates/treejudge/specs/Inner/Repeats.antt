@@ -1,5 +1,5 @@
 -- The first repeat as the code finds it: what the contracts of the tree judge's own functions say of it.
-use Rattle.std.specs.Prelude.{◌≡◌, true, false, List, [], ℕ, ◌<◌, get_or}
+use Rattle.std.specs.Prelude.{◌≡◌, true, false, List, [], ℕ, ◌<◌, get_or, Option, MatchOption}
 use Rattle.base.specs.BitSet.{member}
 use Rattle.rule.specs.Rule.{Rule}
 use Rattle.word.specs.Inner.WalkLookups.{Lookups}
@@ -10,8 +10,6 @@ use Rattle.history.specs.Verdict.{Witness, FirstWitness}
 use Rattle.tree.specs.Inner.Nodes.{HoldsTree}
 use Rattle.tree.specs.declared.nodes.Tree.{Tree as CodeTree}
 use Rattle.treejudge.specs.Inner.Cycles.{AtRound}
-use Rattle.treejudge.specs.declared.repeat.Early.{Early}
-use Rattle.treejudge.specs.declared.repeat.Early.TheVariants.{Repeat as EarlyRepeat, Nothing}
 use Rattle.treejudge.specs.declared.repeat.Repeat.{Repeat}
 
 -- entry and period are those of the first repeat, and the map has the witnesses among the nodes of a tree: its lowest number is that
@@ -29,8 +27,6 @@ pub record RepeatOf (R : Rule) (u v : List ℕ) (r : Repeat) : Type 0 where
 unfoldable pub RepeatFound : Lookups → ℕ → List ℕ → CodeTree → Repeat → Type 0
 RepeatFound lookups k v first r = (R : Rule) (u : List ℕ) → AtRound R u v lookups k 0 first → RepeatOf R u v r
 
--- what each case of an early answer says, beside the tree at the cut: the first repeat was found, and its period is 1; or nothing
-abbrev pub FoundEarly : Lookups → ℕ → List ℕ → CodeTree → CodeTree → Early → Type 0
-FoundEarly lookups k v first cut (EarlyRepeat entry witnesses) =
-    RepeatFound lookups k v first (record { tree = cut; witnesses = witnesses; entry = entry; period = 1 })
-FoundEarly lookups k v first cut Nothing = Unit
+-- what an early answer says: the first repeat was found, and its period is 1; or nothing
+abbrev pub FoundEarly : Lookups → ℕ → List ℕ → CodeTree → Option Repeat → Type 0
+FoundEarly lookups k v first found = MatchOption found Unit (λ r. (r.period ≡ 1) × RepeatFound lookups k v first r)

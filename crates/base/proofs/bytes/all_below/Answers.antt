@@ -1,12 +1,10 @@
 -- Bytes below a limit: the largest one tells.
-use borrow.Author.Tests.{eq-eqb, ne_eqb}
+use mathlib.Core.Path.{sym, ◌∙◌}
 use Rattle.base.proofs.Largest.{largest_below}
 use Rattle.base.proofs.bytes.all_below.Goals as goal
 
-pub returns-then-bytes-eq0 : goal.returns-then-bytes-eq0
-returns-then-bytes-eq0 c =
-    rw (largest_below, eq-eqb _ _ c.if-bytes-eq0.true)
+pub returns-then-is_empty : goal.returns-then-is_empty
+returns-then-is_empty c = let e = sym c.is_empty.ensures ∙ c.if-is_empty.true in rw (largest_below, e) c.if-is_empty.true
 
-pub returns-else-bytes-eq0 : goal.returns-else-bytes-eq0
-returns-else-bytes-eq0 c =
-    rw (largest_below, ne_eqb _ _ c.if-bytes-eq0.false, c.largest.ensures)
+pub returns-else-is_empty : goal.returns-else-is_empty
+returns-else-is_empty c = let e = sym c.is_empty.ensures ∙ c.if-is_empty.false in rw (largest_below, e, c.from.ensures, c.largest.ensures)

@@ -1,29 +1,14 @@
--- A number among bytes: at each place the answer is that of the bytes from there on.
+-- A number among bytes.
 use borrow.Author.Rules.{rules}
-use Prim.Native.Nat.{ℕ}
-use native.Mathlib.Omega.{arith}
-use native.Mathlib.Numerals.{add-one}
-use borrow.Author.Tests.{eq-eqb, ne_eqb}
-use lib.ListN.{drop_of_length-le}
-use Rattle.base.specs.Lists.{any_of}
-use Rattle.base.proofs.Every.{any_from}
+use borrow.Author.Tests.{tests}
+use mathlib.Core.Path.{◌∙◌}
+use lib.Dec.{eqb}
+use Rattle.std.proofs.lemmas.Iterator.{YieldsList-from_slice}
+use Rattle.std.proofs.lemmas.Iterator.Search.{any_from_yields_List}
+use Rattle.base.proofs.Every.{any_listed}
 use Rattle.base.proofs.bytes.contains.Goals as goal
 
-pub overflow_cast-bytes : goal.overflow_cast-bytes
-overflow_cast-bytes c =
-    omega (arith, c.type_inv.bytes c.loop-at.at)
-
-pub returns-then-bytes-at : goal.returns-then-bytes-at
-returns-then-bytes-at c =
-    rw (any_from {A = ℕ} _ _ _ 0 c.loop-at-test.true, eq-eqb _ _ c.if-bytes-at.true) at c.loop-at.invariant.1
-
-pub loop-at-preserved : goal.loop-at-preserved
-loop-at-preserved c = (
-  search rules,
-  rw add-one (rw (any_from {A = ℕ} _ _ _ 0 c.loop-at-test.true, ne_eqb _ _ c.if-bytes-at.false) at c.loop-at.invariant.1),
-)
-
 pub returns : goal.returns
-unfolding any_of
 returns c =
-    rw (drop_of_length-le _ c.loop-at-test.false) at c.loop-at.invariant.1
+    any_from_yields_List (λ x. eqb x c.args.number) _ _ c.any.result c.any.ensures.ran (YieldsList-from_slice c.args.bytes.now cc) (λ x b q k. search (rules, tests))
+    ∙ any_listed _ c.args.bytes.now

@@ -1,39 +1,21 @@
 -- Where a part ends.
-use Prim.Native.Nat.{◌+◌}
 use native.Mathlib.Omega.{arith}
 use Rattle.base.proofs.PartEnds.{end_none, end_past, end_at}
 use Rattle.base.proofs.part.part_end.Goals as goal
 
-pub returns-then-bytes-lt2 : goal.returns-then-bytes-lt2
-returns-then-bytes-lt2 c number =
-    end_none number _ _ (omega arith)
+pub returns-in_err-get : goal.returns-in_err-get
+returns-in_err-get c number = rw c.from_residual.ensures (end_none number _ _ (omega (arith, c.in_err-get.ensures.lookup)))
 
-pub returns-then-bytes-at : goal.returns-then-bytes-at
-returns-then-bytes-at c number =
-    end_none number _ _ (omega arith)
+pub returns-in_default : goal.returns-in_default
+returns-in_default c number = end_none number _ _ (omega (arith, c.in_ok-get.ensures.lookup))
 
-pub overflow_cast-low : goal.overflow_cast-low
-overflow_cast-low c =
-    omega (arith, c.type_inv.bytes c.args.at)
-
-pub overflow_cast-high : goal.overflow_cast-high
-overflow_cast-high c =
-    omega (arith, c.type_inv.bytes (c.args.at + 1))
-
-pub overflow_mul-size : goal.overflow_mul-size
-overflow_mul-size c =
-    let at = c.args.at in
-    omega (arith, c.type_inv.bytes at, c.type_inv.bytes (at + 1))
-
-pub overflow_add-size : goal.overflow_add-size
-overflow_add-size c =
-    let at = c.args.at in
-    omega (arith, c.type_inv.bytes at, c.type_inv.bytes (at + 1))
-
-pub returns-then-bytes-from : goal.returns-then-bytes-from
-returns-then-bytes-from c number =
-    end_past number _ _ (omega arith) (omega (arith, c.if-bytes-from.true))
+pub returns-then-rest-size : goal.returns-then-rest-size
+returns-then-rest-size c number =
+    end_past number c.args.bytes.now c.args.at c.in_ok-get.field-0.now c.in_ok-get.ensures.lookup.0.2 c.in-len2-up.len_at_least
+    (omega (arith, c.if-rest-size.true))
 
 pub returns : goal.returns
 returns c number =
-    end_at number _ _ (omega arith) (omega (arith, c.if-bytes-from.false))
+    rw (c.from.ensures, c.from-2.ensures)
+    (end_at number c.args.bytes.now c.args.at c.in_ok-get.field-0.now c.in_ok-get.ensures.lookup.0.2 c.in-len2-up.len_at_least
+    (omega (arith, c.if-rest-size.false)))

@@ -8,7 +8,7 @@ use Rattle.job.proofs.call.judge_parts.Goals as goal
 
 pub returns-then-tree-ne0 : goal.returns-then-tree-ne0
 returns-then-tree-ne0 c =
-    parts_refused _ _ _ _ _ _ c.judge_both-answers.ensures.tree (length-replicate {A = ℕ} 7 0) _ c.if-tree-ne0.true c.refusal.ensures
+    parts_refused _ _ _ _ _ _ c.judge_both-answers.ensures.tree (length-replicate {A = ℕ} 7 0) _ c.if-tree-ne0.true c.refusal_line.ensures
 
 pub five_lines-requires : goal.five_lines-requires
 five_lines-requires c =

@@ -1,28 +1,23 @@
 -- `read_each_letter` meets its contract. The loop has the tree after the letters that it has passed.
-use native.Mathlib.Omega.{arith}
 use Rattle.letters.proofs.LettersRead.{letter_small, upto_none, upto_ready, upto_more, upto_all}
 use Rattle.letters.proofs.read.read_each_letter.Goals as goal
 
-pub loop-at-init : goal.loop-at-init
-loop-at-init c =
-    upto_none _ _ _ _ _ c.requires.0
+pub loop-letter-init : goal.loop-letter-init
+loop-letter-init c =
+    upto_none _ _ _ _
 
-pub bounds-lookups-w : goal.bounds-lookups-w
-bounds-lookups-w c =
-    letter_small _ _ _ _ c.requires.1 _ c.loop-at-test.true
+pub bounds-lookups-from : goal.bounds-lookups-from
+bounds-lookups-from c =
+    rw c.from.ensures (letter_small _ _ _ _ c.requires _ c.loop-letter-test.true)
 
-pub step_nodes-next-requires : goal.step_nodes-next-requires
-step_nodes-next-requires c =
-    upto_ready _ _ _ _ _ _ _ c.loop-at.invariant c.requires.1
+pub step_nodes-requires : goal.step_nodes-requires
+step_nodes-requires c =
+    upto_ready _ _ _ _ _ _ c.loop-letter.invariant c.requires
 
-pub overflow_sub-on : goal.overflow_sub-on
-overflow_sub-on c =
-    omega (arith, c.loop-at.invariant.stands.1)
-
-pub loop-at-preserved : goal.loop-at-preserved
-loop-at-preserved c =
-    upto_more _ _ _ _ _ _ _ c.loop-at.invariant c.loop-at-test.true _ _ c.step_nodes-next.ensures
+pub loop-letter-preserved : goal.loop-letter-preserved
+loop-letter-preserved c =
+    upto_more _ _ _ _ _ _ c.loop-letter.invariant c.loop-letter-test.true _ _ (rw c.from.ensures at c.step_nodes.ensures)
 
 pub returns : goal.returns
 returns c =
-    upto_all _ _ _ _ _ _ _ c.loop-at.invariant c.loop-at-test.false
+    upto_all _ _ _ _ _ _ c.loop-letter.invariant c.loop-letter-test.false

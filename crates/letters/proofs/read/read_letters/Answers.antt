@@ -5,18 +5,10 @@ use Rattle.letters.proofs.read.read_letters.Goals as goal
 
 pub read_each_letter-requires : goal.read_each_letter-requires
 read_each_letter-requires c =
-    let skipped = c.skip_to_alone-skipped in
-    let (sides, skips) = skipped.ensures in (
-      (sides, c.requires.0.1),
-      rw (to_end skipped.result.place c.args.w.now)
-          (behind_readable _ _ c.args.w.now _ _ _ _ skips c.requires.1),
-    )
+    rw (to_end c.place_of.result c.args.w.now, c.place_of.ensures)
+    (behind_readable _ _ c.args.w.now _ _ _ c.skip_while_sparing-skipped.ensures c.requires)
 
 pub returns : goal.returns
 returns c =
-    let skipped = c.skip_to_alone-skipped in
-    let (stands, reads) = c.read_each_letter.ensures in (
-      stands,
-      reads_join _ _ c.args.w.now _ _ _ _ skipped.ensures.1 _
-          (rw (to_end skipped.result.place c.args.w.now) at reads),
-    )
+    reads_join _ _ c.args.w.now _ _ _ c.skip_while_sparing-skipped.ensures _
+    (rw (to_end c.place_of.result c.args.w.now, c.place_of.ensures) at c.read_each_letter.ensures)

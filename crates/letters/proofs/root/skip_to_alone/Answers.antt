@@ -3,22 +3,18 @@ use borrow.Author.Rules.{rules}
 use Rattle.letters.proofs.RootTrees.{root_passable, skips_none, skips_alone}
 use Rattle.letters.proofs.root.skip_to_alone.Goals as goal
 
-pub find_alone-found-requires : goal.find_alone-found-requires
-find_alone-found-requires c =
-    root_passable _ _ c.args.w.now _ c.requires.1 (search rules) _ c.root_on.ensures
+pub returns-then-w-gt-MAX_LENGTH : goal.returns-then-w-gt-MAX_LENGTH
+returns-then-w-gt-MAX_LENGTH c =
+    skips_none _ _ _ _
 
-pub returns-then-place-gt0 : goal.returns-then-place-gt0
-returns-then-place-gt0 c =
-    let (stands, lone) = c.lay_alone-alone.ensures in (
-      stands,
-      skips_alone _ _ c.args.w.now _ _ _ _ (rw c.root_on.ensures at c.find_alone-found.ensures)
-          c.if-place-gt0.true lone,
-    )
+pub find_alone-requires : goal.find_alone-requires
+find_alone-requires c =
+    root_passable _ _ c.args.w.now _ c.requires (search rules) _ c.root_on.ensures
 
-pub returns-else-place-gt0 : goal.returns-else-place-gt0
-returns-else-place-gt0 c =
-    (c.requires.0.0, skips_none _ _ _ _)
+pub returns-in_err-found : goal.returns-in_err-found
+returns-in_err-found c =
+    rw c.from_residual.ensures (skips_none _ _ _ _)
 
-pub returns-else-w-le-MAX_LENGTH : goal.returns-else-w-le-MAX_LENGTH
-returns-else-w-le-MAX_LENGTH c =
-    (c.requires.0.0, skips_none _ _ _ _)
+pub returns : goal.returns
+returns c =
+    skips_alone _ _ c.args.w.now _ _ _ _ (rw c.root_on.ensures at c.in_ok-found.ensures) c.lay_alone.ensures

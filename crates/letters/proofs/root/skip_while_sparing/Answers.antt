@@ -4,4 +4,4 @@ use Rattle.letters.proofs.root.skip_while_sparing.Goals as goal
 
 pub returns-then-not-root_first : goal.returns-then-not-root_first
 returns-then-not-root_first c =
-    (c.requires.0.0, skips_none _ _ _ _)
+    skips_none _ _ _ _

@@ -1,17 +1,35 @@
--- The byte string that a text has.
-use borrow.Author.Tests.{not-true, not-false}
-use Rattle.notation.proofs.ByteAnswers.{answer_no, answer_yes, bytes_within}
+-- A byte string, by its form.
+use Rattle.std.proofs.Common.{◌∙◌, sym, arith}
+use Rattle.notation.specs.Hexadecimal.{byte_string, no_longer}
+use Rattle.notation.proofs.Testing.{tests_not}
+use Rattle.notation.proofs.ByteTexts.{empty_fits, a_dash, a_star, only_pairs}
 use Rattle.notation.proofs.hexadecimal.bytes_of.Goals as goal
 
-pub returns-then-not-put : goal.returns-then-not-put
-returns-then-not-put c =
-    let room = c.room-bytes in
-    let wrong = not-true _ c.if-not-put.true in
-    let same = answer_no _ _ room.ensures.0 room.ensures.1 _ _ c.put_bytes-put.ensures wrong _ c.room-bytes-then-not-put.ensures.0 in
-    (same, bytes_within _ _ same)
+pub returns-then-same : goal.returns-then-same
+unfolding byte_string
+returns-then-same c =
+    rw (a_dash _ (c.same.ensures.0 c.if-same.true), c.repeat.ensures) (sym empty_fits)
 
-pub returns-else-not-put : goal.returns-else-not-put
-returns-else-not-put c =
-    let room = c.room-bytes in
-    let same = answer_yes _ _ room.ensures.0 room.ensures.1 _ _ c.put_bytes-put.ensures (not-false _ c.if-not-put.false) in
-    (same, bytes_within _ _ same)
+pub returns-in_default : goal.returns-in_default
+unfolding byte_string
+returns-in_default c =
+    let few = c.in_default.len_below in
+    c.pairs.ensures ∙ rw (only_pairs c.args.text.now (tests_not c.same.ensures c.if-same.false) (λ three is. omega arith))
+
+pub returns-then-third-ne42 : goal.returns-then-third-ne42
+unfolding byte_string
+returns-then-third-ne42 c =
+    c.pairs-then-third-ne42.ensures
+    ∙ rw (only_pairs c.args.text.now (tests_not c.same.ensures c.if-same.false) (λ three. c.if-third-ne42.true))
+
+pub returns-in_err-pair : goal.returns-in_err-pair
+unfolding byte_string no_longer
+returns-in_err-pair c =
+    let star = a_star c.args.text.now c.in-len3-up.len_at_least c.if-third-ne42.false in
+    c.from_residual.ensures ∙ rw (star, ← c.pair.ensures, c.in_err-pair.was)
+
+pub returns : goal.returns
+unfolding byte_string
+returns c =
+    let star = a_star c.args.text.now c.in-len3-up.len_at_least c.if-third-ne42.false in
+    c.run.ensures ∙ rw (star, ← c.pair.ensures, c.in_ok-pair.was)

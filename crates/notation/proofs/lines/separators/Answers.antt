@@ -1,19 +1,10 @@
--- How many separators there are: those that the loop has passed, and those of the rest.
-use native.Mathlib.Omega.{arith}
-use Rattle.notation.proofs.TextParts.{stop_count, more_count, end_count}
+-- How many separators there are.
+use Rattle.std.proofs.Common.{rules, ◌≡◌, ℕ, sym, eqb}
+use Rattle.std.specs.List.{count_by}
+use Rattle.std.proofs.lemmas.List.Splits.{length-slice_split}
 use Rattle.notation.proofs.lines.separators.Goals as goal
-use Rattle.notation.proofs.lines.separators.Goals.{then-text-at, else-text-at}
-
-pub loop-at-preserved : goal.loop-at-preserved
-loop-at-preserved c =
-    let text = c.args.text.now in
-    let at = c.loop-at.at in
-    elim c.if-text-at.branch [
-      | then-text-at w ↦ omega (arith, stop_count c.args.separator text at c.loop-at-test.true w.if-text-at.true)
-      | else-text-at w ↦ omega (arith, more_count c.args.separator text at c.loop-at-test.true w.if-text-at.false)
-    ]
 
 pub returns : goal.returns
 returns c =
-    let args = c.args in
-    omega (arith, end_count args.separator args.text.now c.loop-at.at c.loop-at-test.false)
+    let counted : c.count.result ≡ count_by (λ letter. eqb letter c.args.separator) c.args.text.now = search rules in
+    rw counted (sym (length-slice_split {X = ℕ} (λ letter. eqb letter c.args.separator) c.args.text.now))

@@ -1,29 +1,22 @@
--- A text on one line. The letters that the loop has passed stand at the front of the line, and the rest goes on.
-use native.Mathlib.Omega.{arith}
-use Rattle.notation.proofs.TextParts.{behind}
+-- A text on one line. The letters that the loop has passed stand at the front of the line: the line is the text just if the rest is the rest.
+use Rattle.std.proofs.Common.{sym, ◌∙◌}
 use Rattle.notation.proofs.Testing.{tests_no}
-use Rattle.notation.proofs.OneLines.{fronts_within, fronts_no, fronts_yes, line_start, line_other, line_more, line_end}
+use Rattle.notation.proofs.OneLines.{line_other, line_more, line_end}
 use Rattle.notation.proofs.texts.text_is.Goals as goal
 
-pub loop-at-init : goal.loop-at-init
-loop-at-init c =
-    line_start _ _
+pub returns-in_default : goal.returns-in_default
+returns-in_default c =
+    let l = c.loop-letter in
+    tests_no (λ e. line_other c.args.text.now l.rest.now l.letter-index c.loop-letter-test.true c.in_default.ensures (l.invariant.0 e))
 
-pub returns-then-count-eq0 : goal.returns-then-count-eq0
-returns-then-count-eq0 c =
-    tests_no (line_other c.loop-at.invariant c.loop-at-test.true (fronts_no _ _ _ c.letters_for-count.ensures c.if-count-eq0.true))
-
-pub slice_bounds-rest-count : goal.slice_bounds-rest-count
-slice_bounds-rest-count c =
-    omega (arith, fronts_within _ _ _ c.letters_for-count.ensures)
-
-pub loop-at-preserved : goal.loop-at-preserved
-loop-at-preserved c =
-    let rest = c.loop-at.rest.now in
-    let count = c.letters_for-count.result in
-    rw (behind count rest)
-    (line_more c.loop-at.invariant c.loop-at-test.true count (fronts_yes _ _ _ c.letters_for-count.ensures c.if-count-eq0.false))
+pub loop-letter-preserved : goal.loop-letter-preserved
+loop-letter-preserved c =
+    let l = c.loop-letter in
+    let more = line_more c.args.text.now l.rest.now l.letter-index c.loop-letter-test.true _ c.in-Some.ensures in
+    (λ e. more.0 (l.invariant.0 e), λ e. l.invariant.1 (more.1 e))
 
 pub returns : goal.returns
 returns c =
-    line_end c.loop-at.invariant c.loop-at-test.false
+    let l = c.loop-letter in
+    let all = line_end c.args.text.now l.rest.now l.letter-index c.loop-letter-test.false in
+    (λ e. l.invariant.1 (all.0 (sym c.is_empty.ensures ∙ e)), λ e. c.is_empty.ensures ∙ all.1 (l.invariant.0 e))

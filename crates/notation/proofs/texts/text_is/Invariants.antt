@@ -1,11 +1,7 @@
--- A text on one line. The letters that the loop has passed stand at the front of the line, and the rest goes on.
-use Prim.Native.Nat.{◌-◌}
-use lib.ListN.{length}
-use Rattle.notation.proofs.OneLines.{LinePassed}
+-- A text on one line. The letters that the loop has passed stand at the front of the line: the line is the text just if the rest is the rest.
+use Rattle.std.proofs.Common.{◌≡◌, ◌↔◌, drop}
+use Rattle.notation.specs.OneLine.{on_one_line}
 use Rattle.notation.proofs.texts.text_is.Given as goal
 
-abbrev pub invariant-loop-at : goal.invariant-loop-at
-invariant-loop-at l = LinePassed l.line l.text l.rest l.at
-
-abbrev pub decreases-loop-at : goal.decreases-loop-at
-decreases-loop-at l = length l.text - l.at
+abbrev pub invariant-loop-letter : goal.invariant-loop-letter
+invariant-loop-letter l = (l.line ≡ on_one_line l.text) ↔ (l.rest ≡ on_one_line (drop l.letter-index l.text))

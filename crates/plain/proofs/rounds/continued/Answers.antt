@@ -2,9 +2,9 @@
 use native.Mathlib.Omega.{arith}
 use mathlib.Core.Path.{◌≡◌, ◌∙◌, ap}
 use Prim.Native.Nat.{ℕ, suc, ◌*◌}
-use Rattle.rule.specs.Inner.Lanes.{map_of, each_lane, lanes_with, lanes}
+use Rattle.rule.specs.Inner.Lanes.{map_of, each_lane, lanes_with}
 use Rattle.rule.specs.Limits.{max_sets}
-use Rattle.rule.proofs.LaneLaws.{kept_le, chosen_kept, stands, lanes_with_lem, lanes_with_le}
+use Rattle.rule.proofs.LaneLaws.{kept_le, chosen_kept, stands, lanes_with_lem}
 use Rattle.plain.specs.Inner.Rounds.{continued}
 use Rattle.plain.proofs.rounds.continued.Goals as goal
 use Rattle.plain.proofs.rounds.continued.Goals.{After-lanes_with-way}
@@ -19,14 +19,10 @@ overflow_mul-result c =
     let args = c.args in
     let to = stands args.row args.middle in
     let are = way (goal.at.overflow_mul-result c).After-lanes_with-way ∙ lanes_with_lem args.row args.middle (suc max_sets) in
-    let bit = c.map_of.ensures ∙ ap (λ (x : ℕ). map_of x 0) are in
+    let bit = c.from.ensures ∙ c.map_of.ensures ∙ ap (λ (x : ℕ). map_of x 0) are in
     omega (arith, ap (args.behind *◌) bit ∙ chosen_kept args.behind (suc max_sets) to 0 (omega arith), kept_le args.behind (to 0))
-
-pub in_lanes-requires : goal.in_lanes-requires
-in_lanes-requires c =
-    (omega (arith, c.map_of-2.ensures), rw (way (goal.at.in_lanes-requires c).After-lanes_with-way) (lanes_with_le _ _ (suc max_sets) lanes (omega arith)))
 
 pub returns : goal.returns
 unfolding continued
 returns c =
-    rw (c.in_lanes.ensures, c.map_of-2.ensures, c.map_of.ensures, way (goal.at.returns c).After-lanes_with-way)
+    rw (c.in_lanes.ensures, c.map_of-2.ensures, c.from.ensures, c.map_of.ensures, way (goal.at.returns c).After-lanes_with-way)

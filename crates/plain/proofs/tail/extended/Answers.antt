@@ -1,17 +1,15 @@
 -- `extended` meets its contract. Where each map of the row has all of its states or none, at once; else the loop has joined the maps of the
 -- relations that it has passed.
-use borrow.Author.Rules.{rules}
 use native.Mathlib.Omega.{arith}
 use mathlib.Core.Path.{◌≡◌, ◌∙◌, ap, ap₂}
 use Prim.Native.Nat.{ℕ, suc}
 use lib.Bits.{bit_or}
-use lib.Count.{count_trailing_zeros, trailing_le}
-use Rattle.rule.specs.Inner.Lanes.{map_of, each_lane, lanes_with, in_lane, in_lanes, lanes}
+use lib.Count.{count_trailing_zeros}
+use Rattle.rule.specs.Inner.Lanes.{map_of, each_lane, lanes_with, in_lane, in_lanes}
 use Rattle.rule.specs.Limits.{max_sets}
 use Rattle.rule.specs.Inner.Lookup.{images_by}
-use Rattle.rule.proofs.LaneLaws.{lanes_with_le}
 use Rattle.plain.specs.Inner.Letters.{onward, extended}
-use Rattle.plain.proofs.LetterLaws.{onward_lt, extended_first, extended_more, extended_full}
+use Rattle.plain.proofs.LetterLaws.{extended_first, extended_more, extended_full}
 use Rattle.plain.proofs.tail.extended.Goals as goal
 use Rattle.plain.proofs.tail.extended.Goals.{After-lanes_with-full, After-look_up-images}
 
@@ -23,22 +21,6 @@ own-images c = c.look_up-images.ensures ∙ ap (images_by _) c.map_of-states.ens
 full : (c : After-lanes_with-full) → c.lanes_with-full.result ≡ lanes_with c.args.row (count_trailing_zeros 16 c.map_of-states.result) (each_lane (suc max_sets))
 full c = c.lanes_with-full.ensures ∙ ap (lanes_with _ _) c.lanes_to.ensures
 
-pub overflow_cast-states : goal.overflow_cast-states
-overflow_cast-states c =
-    omega (arith, trailing_le 16 c.map_of-states.result)
-
-pub lanes_with-full-requires : goal.lanes_with-full-requires
-lanes_with-full-requires c =
-    omega (arith, trailing_le 16 c.map_of-states.result)
-
-pub in_lanes-requires : goal.in_lanes-requires
-in_lanes-requires c =
-    (omega (arith, c.map_of-states.ensures), rw (full (goal.at.in_lanes-requires c).After-lanes_with-full) (lanes_with_le _ _ (suc max_sets) lanes (omega arith)))
-
-pub in_lanes-requires-then-row-in_lanes : goal.in_lanes-requires-then-row-in_lanes
-in_lanes-requires-then-row-in_lanes c =
-    (omega (arith, c.map_of.ensures), rw (full (goal.at.in_lanes-requires-then-row-in_lanes c).After-lanes_with-full) (lanes_with_le _ _ (suc max_sets) lanes (omega arith)))
-
 pub returns-then-row-in_lanes : goal.returns-then-row-in_lanes
 returns-then-row-in_lanes c =
     let own = own-images (goal.at.returns-then-row-in_lanes c).After-look_up-images in
@@ -48,20 +30,16 @@ returns-then-row-in_lanes c =
 
 pub loop-relation-init : goal.loop-relation-init
 loop-relation-init c =
-    (omega arith, own-images (goal.at.loop-relation-init c).After-look_up-images ∙ extended_first _ _)
-
-pub in_lane-all-requires : goal.in_lane-all-requires
-in_lane-all-requires c =
-    (rw c.onward-further.ensures (onward_lt _ _), search rules)
+    own-images (goal.at.loop-relation-init c).After-look_up-images ∙ extended_first _ _
 
 pub loop-relation-preserved : goal.loop-relation-preserved
 loop-relation-preserved c =
     let further = c.onward-further.ensures ∙ ap (onward _) c.map_of-in-loop-relation.ensures in
     let more = c.in_lane-all.ensures ∙ ap (λ (x : ℕ). in_lane x c.loop-relation.relation) further in
-    (omega arith, extended_more _ _ c.loop-relation.relation _ _ c.loop-relation.invariant.1 more)
+    extended_more _ _ c.loop-relation.relation _ _ c.loop-relation.invariant more
 
 pub returns : goal.returns
 unfolding extended
 returns c =
     let e : c.loop-relation.relation ≡ suc max_sets = omega arith in
-    rw e at c.loop-relation.invariant.1
+    rw e at c.loop-relation.invariant

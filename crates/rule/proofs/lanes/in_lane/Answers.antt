@@ -8,4 +8,4 @@ use Rattle.rule.proofs.lanes.in_lane.Goals as goal
 pub returns : goal.returns
 unfolding in_lane
 returns c =
-    shl_exact lane_width (lane_width * c.args.lane) 64 c.requires.0 (omega arith)
+    rw c.from.ensures (shl_exact lane_width (lane_width * c.args.lane) 64 c.requires.0 (omega arith))

@@ -9,7 +9,7 @@ use Rattle.rule.proofs.lanes.in_lanes.Goals as goal
 pub overflow_mul-result : goal.overflow_mul-result
 unfolding each_lane chosen_lanes word_of
 overflow_mul-result c =
-    omega (arith, mul-le-mul {n₁ = c.args.map} {n₂ = 2 ^ lane_width - 1} (omega arith) c.requires.1)
+    rw c.from.ensures (omega (arith, mul-le-mul {n₁ = c.args.map} {n₂ = 2 ^ lane_width - 1} (omega arith) c.requires.1))
 
 pub returns : goal.returns
 unfolding in_lanes

@@ -10,4 +10,4 @@ use Rattle.rule.proofs.lanes.spread.Goals as goal
 pub returns : goal.returns
 unfolding spread chosen_lanes word_of member some
 returns c =
-    same_below (2 ^ suc set_lanes) (λ x. bit_and (x * 0x40810204081) 0x1010101010101) spread refl _ c.requires
+    rw c.from.ensures (same_below (2 ^ suc set_lanes) (λ x. bit_and (x * 0x40810204081) 0x1010101010101) spread refl _ c.requires)

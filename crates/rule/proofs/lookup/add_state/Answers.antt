@@ -12,15 +12,15 @@ loop-j-init c =
     let q = c.args.q in
     let made : 1 * 2 ^ q % 2 ^ 64 ≡ 2 ^ q = shl_exact {a = 1} 1 q 64 (omega arith) (omega arith) ∙ one-mul (2 ^ q) in
     let small : 2 ^ q ≤ 8 = pow_mono {i = q} {j = 3} (omega arith) in
-    (made, omega arith, omega arith, added_none _ q _ c.requires.1)
+    (made, omega arith, added_none _ q _ c.requires.1)
 
 pub loop-j-preserved : goal.loop-j-preserved
 loop-j-preserved c =
     let inv = c.loop-j.invariant in
-    (inv.0, inv.1, omega arith, added_more _ _ _ _ _ _ inv.3 inv.0 (omega arith) (omega arith))
+    (inv.0, inv.1, added_more _ _ _ _ _ _ inv.2 inv.0 (omega arith) (omega arith))
 
 pub returns : goal.returns
 returns c =
     let inv = c.loop-j.invariant in
     let all : c.loop-j.j ≡ 2 ^ c.args.q = omega arith in
-    rw all at inv.3
+    rw all at inv.2

@@ -3,7 +3,7 @@ use Rattle.step.proofs.ClosingLoop.{ClosedSoFar}
 use Rattle.step.proofs.pass.close_levels.Given as goal
 
 abbrev pub invariant-loop-top : goal.invariant-loop-top
-invariant-loop-top l = ClosedSoFar l.above l.waiting l.sprout l.to l.depth (record { top = l.initial.top; running = l.initial.running; written = l.initial.written }) l.initial.sides l.sides l.top l.running l.written
+invariant-loop-top l = ClosedSoFar l.levels l.depth l.fn.at l.initial.next l.next l.top l.running l.written
 
 abbrev pub decreases-loop-top : goal.decreases-loop-top
 decreases-loop-top l = l.top

@@ -12,6 +12,7 @@ returns c =
       c.map_of-kids.ensures,
       c.look_up.ensures,
       c.map_of-sprout.ensures,
+      c.from.ensures,
       c.map_of-label.ensures,
       c.look_up-images.ensures,
     )

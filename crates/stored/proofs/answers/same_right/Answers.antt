@@ -1,37 +1,23 @@
 -- The comparison of two walks, its answer compared.
-use mathlib.Core.Path.{refl}
-use lib.ListN.{take}
-use Rattle.notation.proofs.ByteAnswers.{bytes_hold}
-use Rattle.notation.proofs.Testing.{four_true, and_yes}
+use Rattle.std.proofs.Common.{refl, ◌∷◌, []}
 use Rattle.stored.specs.declared.calls.Call.TheVariants.{Same}
-use Rattle.stored.proofs.Comparing.{compared}
+use Rattle.stored.proofs.Comparing.{compared_some, present}
 use Rattle.stored.proofs.answers.same_right.Goals as goal
 
 pub returns : goal.returns
 returns c =
-    let tail2 = bytes_hold _ _ c.field_bytes-v2.ensures.0 in
-    let lead2 = bytes_hold _ _ c.field_bytes-u2.ensures.0 in
-    let tail = bytes_hold _ _ c.field_bytes-v.ensures.0 in
-    let lead = bytes_hold _ _ c.field_bytes-u.ensures.0 in
-    let all =
-    four_true c.field_bytes-u.result.right c.field_bytes-v.result.right c.field_bytes-u2.result.right
-    c.field_bytes-v2.result.right in
-    compared Same _ _ _ _ _ _ _
-    (λ right. record {
-      u = take c.field_bytes-u.result.end c.field_bytes-u.result.room;
-      v = take c.field_bytes-v.result.end c.field_bytes-v.result.room;
-      u' = take c.field_bytes-u2.result.end c.field_bytes-u2.result.room;
-      v' = take c.field_bytes-v2.result.end c.field_bytes-v2.result.room;
-      has_lead = lead.only (all right).0;
-      has_tail = tail.only (all right).1;
-      has_lead' = lead2.only (all right).2;
-      has_tail' = tail2.only (all right).3;
+    compared_some Same _ _ _ _ _ (c.from.result ∷ c.from-2.result ∷ []) c.numbers_are.ensures
+    (record {
+      u = c.as_slice.result.now;
+      v = c.as_slice-2.result.now;
+      u' = c.as_slice-3.result.now;
+      v' = c.as_slice-4.result.now;
+      has_lead = present c.in_ok-u.was c.field_bytes.ensures c.as_slice.ensures;
+      has_tail = present c.in_ok-v.was c.field_bytes-2.ensures c.as_slice-2.ensures;
+      has_lead' = present c.in_ok-u2.was c.field_bytes-3.ensures c.as_slice-3.ensures;
+      has_tail' = present c.in_ok-v2.was c.field_bytes-4.ensures c.as_slice-4.ensures;
       answer = c.same_walk-given.result;
       compared = c.same_walk-given.ensures;
-      answers = refl;
+      answers = rw (c.from.ensures, c.from-2.ensures);
       leaves = refl;
     })
-    (λ ms left G.
-    and_yes (and_yes (and_yes (lead.found G.u G.has_lead).0 (tail.found G.v G.has_tail).0)
-    (lead2.found G.u' G.has_lead').0) (tail2.found G.v' G.has_tail').0)
-    c.numbers_are.ensures

@@ -1,30 +1,29 @@
 -- The writer's answer compared.
-use mathlib.Core.Path.{ap}
-use lib.ListN.{take}
-use Rattle.notation.proofs.ByteAnswers.{bytes_hold}
-use Rattle.notation.proofs.Testing.{both_true, and_yes}
-use Rattle.stored.specs.Calls.{write_numbers}
+use Rattle.std.proofs.Common.{sym, ap, subst, ◌∷◌, []}
+use Rattle.stored.specs.Calls.{write_numbers, RuleText}
 use Rattle.stored.specs.declared.calls.Call.TheVariants.{Write}
-use Rattle.stored.proofs.Comparing.{field_rule, compared}
+use Rattle.stored.proofs.Comparing.{compared_none, compared_some, present}
 use Rattle.stored.proofs.answers.write_right.Goals as goal
+
+pub returns-in_err-rule : goal.returns-in_err-rule
+returns-in_err-rule c =
+    compared_none Write _ _ _ _ c.from_residual.ensures
+    (λ ms left G. c.in_err-rule.ensures G.n G.m G.k G.start
+    (subst (λ text. RuleText text G.n G.m G.k G.start) (sym c.field.ensures) G.has_rule))
 
 pub returns : goal.returns
 returns c =
-    let grid = bytes_hold _ _ c.field_bytes-g.ensures.0 in
-    let rule = field_rule _ _ _ _ c.field.ensures c.rule_of-rule.ensures in
-    let ok = c.rule_of-rule.result in
-    let both = both_true ok.right c.field_bytes-g.result.right in
-    compared Write _ _ _ _ _ _ _
-    (λ right. record {
-      n = ok.n;
-      m = ok.m;
-      k = ok.k;
-      start = ok.start;
-      grid = take c.field_bytes-g.result.end c.field_bytes-g.result.room;
-      has_rule = rule.only (both right).0;
-      has_grid = grid.only (both right).1;
-      answers = ap write_numbers c.write-given.ensures.0;
+    let given = c.write-given.result in
+    let rule = c.in_ok-rule.rule in
+    compared_some Write _ _ _ _ _ (c.from.result ∷ given.written ∷ []) c.numbers_are.ensures
+    (record {
+      n = rule.n;
+      m = rule.m;
+      k = rule.k;
+      start = rule.start;
+      grid = c.as_slice.result.now;
+      has_rule = subst (λ text. RuleText text rule.n rule.m rule.k rule.start) c.field.ensures c.in_ok-rule.ensures;
+      has_grid = present c.in_ok-grid.was c.field_bytes.ensures c.as_slice.ensures;
+      answers = rw c.from.ensures (ap write_numbers c.write-given.ensures.0);
       leaves = c.write-given.ensures.1;
     })
-    (λ ms left G. and_yes (rule.found G.n G.m G.k G.start G.has_rule).0 (grid.found G.grid G.has_grid).0)
-    c.numbers_are.ensures

@@ -1,21 +1,25 @@
 -- A stored call: its line.
-use Rattle.notation.proofs.ByteAnswers.{bytes_hold}
+use Rattle.std.proofs.Common.{◌∙◌, sym}
 use Rattle.notation.proofs.Testing.{tests_no}
-use Rattle.stored.proofs.RightLines.{not_named, is_named, not_whole, line_tests}
+use Rattle.stored.proofs.Comparing.{present}
+use Rattle.stored.proofs.RightLines.{not_named, not_whole, not_lent, line_tests}
 use Rattle.stored.proofs.calls.call_right.Goals as goal
 
 pub returns-in_default : goal.returns-in_default
 returns-in_default c =
-    tests_no (not_named _ _ _ c.field.ensures c.call_named.ensures c.in_default.is)
+    tests_no (not_named _ _ c.field.ensures c.in_default.ensures)
 
 pub returns-then-separators-arguments : goal.returns-then-separators-arguments
 returns-then-separators-arguments c =
-    let is = is_named _ _ _ c.call_named.ensures c.in-Known.is in
     tests_no
-    (not_whole _ _ _ _ _ c.field.ensures is c.arguments_of-arguments.ensures.0 c.separators.ensures c.if-separators-arguments.true)
+    (not_whole _ _ c.field.ensures _ _ c.in-Some.ensures c.arguments-arguments.ensures.0 _ c.separators.ensures c.if-separators-arguments.true)
+
+pub returns-in_default-field_bytes : goal.returns-in_default-field_bytes
+returns-in_default-field_bytes c =
+    tests_no
+    (not_lent _ _ c.field.ensures _ _ c.in-Some.ensures c.arguments-arguments.ensures.0 (sym c.field_bytes.ensures ∙ c.in_default-field_bytes.is))
 
 pub returns : goal.returns
 returns c =
-    let is = is_named _ _ _ c.call_named.ensures c.in-Known.is in
-    line_tests _ _ _ _ _ _ _ c.field.ensures is c.arguments_of-arguments.ensures.0 c.separators.ensures
-    c.if-separators-arguments.false (bytes_hold _ _ c.field_bytes-lent.ensures.0) c.lent_right.ensures
+    line_tests _ _ c.field.ensures _ _ c.in-Some.ensures c.arguments-arguments.ensures.0 _ _ _ c.separators.ensures c.if-separators-arguments.false
+    (present c.in-Some-field_bytes.is c.field_bytes.ensures c.as_mut_slice.ensures) c.lent_right.ensures

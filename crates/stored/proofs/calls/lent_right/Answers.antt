@@ -4,5 +4,5 @@ use Rattle.stored.proofs.calls.lent_right.Goals as goal
 
 pub returns : goal.returns
 returns c =
-    answered _ _ _ _ _ _ _ _ _ c.arguments_of-arguments.ensures.0 c.field.ensures c.field-2.ensures
-    c.numbers_right-right.ensures c.bytes_are.ensures
+    answered _ _ _ _ _ _ _ _ _ _ c.arguments-arguments.ensures.0 c.field.ensures c.field-2.ensures c.numbers_right.ensures c.unwrap_or-right.ensures
+    c.bytes_are.ensures

@@ -1,12 +1,14 @@
 -- All lines. There are no more differences than cases, cases than lines, lines than letters passed.
-use Prim.Native.Nat.{◌≤◌, ◌-◌}
-use lib.ListN.{length}
+use Rattle.std.proofs.Common.{◌≤◌, ◌+◌, length}
+use Rattle.std.specs.Fn.{FnReturnsAt}
+use Rattle.stored.specs.Tallies.{Kind, TestsLines}
 use Rattle.stored.proofs.Tallying.{Counting}
 use Rattle.stored.proofs.files.run_lines.Given as goal
 
-abbrev pub invariant-loop-at : goal.invariant-loop-at
-invariant-loop-at g l =
-    ((l.tally.differences ≤ l.tally.cases) × (l.tally.cases ≤ l.number)) × (((l.number ≤ l.at) × (l.at ≤ length l.text)) × Counting l.kind l.text l.tally l.at)
+abbrev pub invariant-loop-line : goal.invariant-loop-line
+invariant-loop-line g l =
+    ((l.tally.differences ≤ l.tally.cases) × (l.tally.cases ≤ l.number) × (l.number + length l.rest ≤ length l.text))
+    × ((kind : Kind) → TestsLines (FnReturnsAt g.F.Fn l.right) kind → Counting kind l.text l.tally l.rest)
 
-abbrev pub decreases-loop-at : goal.decreases-loop-at
-decreases-loop-at g l = length l.text - l.at
+abbrev pub decreases-loop-line : goal.decreases-loop-line
+decreases-loop-line g l = length l.rest

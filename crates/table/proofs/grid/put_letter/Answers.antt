@@ -1,38 +1,26 @@
 -- The rows of a square, one behind the other.
 use mathlib.Core.Path.{◌≡◌}
+use mathlib.Core.List.{[]}
 use native.Mathlib.Omega.{arith}
-use native.Mathlib.Nat.{suc-mul, mul-le-mul_right}
-use borrow.Author.Rules.{rules}
-use Rattle.base.proofs.Storing.{pieces_start, pieces_next, pieces_size, pieces_done}
-use Rattle.table.specs.Inner.GridBytes.{square_bytes}
-use Rattle.table.proofs.GridWriting.{rows_up_to, rows_none, rows_more}
+use native.Mathlib.Nat.{suc-mul}
+use lib.ListN.{length-take}
+use Rattle.base.proofs.EachStored.{each_start, each_next, each_done}
+use Rattle.table.proofs.GridWriting.{square_by_rows, rows_length}
 use Rattle.table.proofs.grid.put_letter.Goals as goal
 
-pub loop-state-init : goal.loop-state-init
-loop-state-init c =
-    (omega arith, pieces_start (rows_none _ _) (omega arith))
+pub loop-row-init : goal.loop-row-init
+loop-row-init c =
+    let n = c.args.header.states in
+    (omega arith, each_start (omega (arith, rows_length n n c.args.square.now)))
 
-pub put_row-at-requires : goal.put_row-at-requires
-put_row-at-requires c =
-    let n = c.args.n in
-    (search rules, omega (arith, suc-mul c.loop-state.state n, mul-le-mul_right n c.loop-state-test.true, pieces_size c.loop-state.invariant.1))
-
-pub loop-state-preserved : goal.loop-state-preserved
-loop-state-preserved c =
-    let n = c.args.n in
-    let e = c.put_row-at.ensures in (
-      omega (arith, suc-mul c.loop-state.state n),
-      rw (e.1.1, e.0) (pieces_next c.loop-state.invariant.1 c.loop-state-test.true _ (rows_more n _ _)
-          (omega (arith, suc-mul c.loop-state.state n, mul-le-mul_right n c.loop-state-test.true))),
-    )
-
-pub shape_of-out : goal.shape_of-out
-shape_of-out c =
-    pieces_size c.loop-state.invariant.1
+pub loop-row-preserved : goal.loop-row-preserved
+loop-row-preserved c =
+    let e = c.put_row-at.ensures in
+    (omega (arith, suc-mul c.loop-row.row-index c.args.header.states), rw (e.1.1, e.0) (each_next c.loop-row.invariant.1 [] c.loop-row-test.true))
 
 pub returns : goal.returns
-unfolding rows_up_to square_bytes
 returns c =
-    let (same, place) = pieces_done c.loop-state.invariant.1 c.loop-state-test.false in
-    let e : c.loop-state.state ≡ c.args.n = omega arith in
-    (place, (rw e at c.loop-state.invariant.0, same))
+    let n = c.args.header.states in
+    let (same, place) = each_done c.loop-row.invariant.1 c.loop-row-test.false in
+    let e : c.loop-row.row-index ≡ n = omega (arith, length-take n c.args.square.now) in
+    rw (← square_by_rows n c.args.square.now) (place, (rw e at c.loop-row.invariant.0, same))

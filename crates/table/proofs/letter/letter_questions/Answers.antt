@@ -1,28 +1,22 @@
 -- The questions to a table and a letter, by the laws of LetterAsked.
-use mathlib.Core.Path.{refl}
+use Prim.Native.Nat.{◌<◌}
 use native.Mathlib.Omega.{arith}
-use Rattle.table.proofs.Asked.{arrays_blank, read_no, read_yes, prepares_no, prepares_yes}
-use Rattle.table.proofs.LetterAsked.{letter_no_table, letter_no, letter_yes, letter_inside, letter_prepared}
+use Rattle.std.proofs.lemmas.Result.{err_from_is_err_and}
+use Rattle.table.proofs.Asked.{read_yes}
+use Rattle.table.proofs.LetterAsked.{letter_no_table, letter_no, letter_yes, letter_prepared}
 use Rattle.table.proofs.letter.letter_questions.Goals as goal
 
-pub read_rule-requires : goal.read_rule-requires
-read_rule-requires c =
-    arrays_blank
+pub returns-in_err-header : goal.returns-in_err-header
+returns-in_err-header c =
+    let p = err_from_is_err_and c.from_residual.result c.from_residual.ensures.1 in
+    rw (p.1, p.2) (letter_no_table _ _ c.in_err-header.ensures.answers)
 
 pub returns-then-header-a : goal.returns-then-header-a
 returns-then-header-a c =
-    prepares_no (letter_no (read_yes c.in-Rule.ensures refl) _ (omega (arith, c.if-header-a.true)))
+    letter_no (read_yes c.in_ok-header.ensures) _ (omega (arith, c.if-header-a.true))
 
-pub bounds-words-a : goal.bounds-words-a
-bounds-words-a c =
-    letter_inside (read_yes c.in-Rule.ensures refl) _ (omega (arith, c.if-header-a.false))
-
-pub returns-in-Refused : goal.returns-in-Refused
-returns-in-Refused c =
-    prepares_no (letter_no_table _ _ (read_no c.in-Refused.ensures refl))
-
-pub returns-else-header-a : goal.returns-else-header-a
-returns-else-header-a c =
-    let v = read_yes c.in-Rule.ensures refl in
-    let small = c.if-header-a.false in
-    prepares_yes (letter_yes v _ small) v.holds.numbers (letter_prepared v _ small c.fill_lookup.ensures)
+pub returns : goal.returns
+returns c =
+    let v = read_yes c.in_ok-header.ensures in
+    let small : c.args.letter < c.in_ok-header.header.letters = omega (arith, c.if-header-a.false) in
+    (v.rule, letter_yes v _ small, letter_prepared v _ small (rw c.from-a.ensures at c.fill_lookup.ensures))

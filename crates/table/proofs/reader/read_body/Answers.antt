@@ -1,23 +1,21 @@
 -- The cells and the end of the table, by the laws of RuleReading.
-use mathlib.Core.Path.{◌∙◌}
-use native.Mathlib.Omega.{arith}
+use Rattle.std.proofs.lemmas.Result.{err_from_is_err_and}
 use Rattle.table.proofs.RuleReading.{body_refused, body_unended, body_read}
 use Rattle.table.proofs.reader.read_body.Goals as goal
 
-pub returns-then-end-table : goal.returns-then-end-table
-returns-then-end-table c =
-    let told = c.in-At.ensures.0 in
-    let says = body_unended _ _ _ _ _ c.requires.0.0 c.args.table.now c.in-At.end.at _ told (omega (arith, c.if-end-table.true)) in
-    record { answers = says.0; arrays = c.blank-then-end-table.ensures.0 ∙ says.1; images = c.blank-then-end-table.ensures.1 }
+pub returns-in_err-read_cells : goal.returns-in_err-read_cells
+returns-in_err-read_cells c =
+    let e = rw c.new-reader.ensures at c.in_err-read_cells.ensures in
+    let p = err_from_is_err_and c.from_residual.result c.from_residual.ensures.1 in
+    rw (p.1, p.2) (body_refused _ _ _ _ _ c.args.header.few_states _ e.0)
 
-pub returns-in-Refused : goal.returns-in-Refused
-returns-in-Refused c =
-    let told = c.in-Refused.ensures.0 in
-    let says = body_refused _ _ _ _ _ c.requires.0.0 _ told in
-    record { answers = says.0; arrays = c.blank.ensures.0 ∙ says.1; images = c.blank.ensures.1 }
+pub returns-in-Some : goal.returns-in-Some
+returns-in-Some c =
+    let e = rw c.new-reader.ensures at c.in_ok-read_cells.ensures in
+    body_unended _ _ _ _ _ c.args.header.few_states _ _ e.0 _ _ c.in-Some.ensures.steps
 
-pub returns-else-end-table : goal.returns-else-end-table
-returns-else-end-table c =
-    let told = c.in-At.ensures.0 in
-    let says = body_read _ _ _ _ _ c.requires.0.0 c.args.table.now c.in-At.end.at _ told (omega (arith, c.if-end-table.false)) in
-    record { answers = says.0; arrays = says.1; images = c.read_cells.ensures.1 }
+pub returns-in-None : goal.returns-in-None
+returns-in-None c =
+    let e = rw c.new-reader.ensures at c.in_ok-read_cells.ensures in
+    let (R, is, arrays) = body_read _ _ _ _ _ c.args.header.few_states _ _ e.0 c.in-None.ensures.steps in
+    (R, is, (arrays, e.1))

@@ -1,44 +1,28 @@
 -- Questions 1 to 3, then the cells, by the laws of RuleReading.
-use mathlib.Core.Path.{sym, ◌∙◌}
-use native.Mathlib.Omega.{arith}
-use Rattle.table.proofs.Ranges.{in_range_lem}
-use Rattle.table.proofs.RuleReading.{header_accepted, rule_short, rule_header, rule_body}
+use mathlib.Core.Path.{refl, ◌∙◌}
+use Rattle.std.proofs.lemmas.Result.{err_from_is_err_and}
+use Rattle.rule.proofs.RowWords.{words_blank}
+use Rattle.table.proofs.RuleReading.{into_no, into_yes, body_numbers, rule_short, rule_header, rule_body}
 use Rattle.table.proofs.reader.read_rule.Goals as goal
 
-pub returns-then-table-lt4 : goal.returns-then-table-lt4
-returns-then-table-lt4 c =
-    let says = rule_short _ c.if-table-lt4.true in
-    let (blank, images) = c.requires in
-    record { answers = says.0; arrays = blank ∙ says.1; images = images }
+pub returns-in_default : goal.returns-in_default
+returns-in_default c =
+    into_no (rule_short _ c.in_default.len_below) c.requires
 
-pub overflow_cast-header : goal.overflow_cast-header
-overflow_cast-header c =
-    omega (arith, c.type_inv.table 0)
+pub returns-in_err-header : goal.returns-in_err-header
+returns-in_err-header c =
+    let asks = rw (c.from.ensures, c.from-2.ensures, c.from-3.ensures, c.from-4.ensures) at c.in_err-header.ensures in
+    let p = err_from_is_err_and c.from_residual.result c.from_residual.ensures.1 in
+    rw (p.1, p.2) (into_no (rule_header _ c.in-len4-up.len_at_least _ asks) c.requires)
 
-pub overflow_cast-header-2 : goal.overflow_cast-header-2
-overflow_cast-header-2 c =
-    omega (arith, c.type_inv.table 1)
-
-pub overflow_cast-header-3 : goal.overflow_cast-header-3
-overflow_cast-header-3 c =
-    omega (arith, c.type_inv.table 2)
-
-pub overflow_cast-header-4 : goal.overflow_cast-header-4
-overflow_cast-header-4 c =
-    omega (arith, c.type_inv.table 3)
-
-pub returns-then-number-ne0 : goal.returns-then-number-ne0
-returns-then-number-ne0 c =
-    let says = rule_header _ c.if-table-lt4.false _ c.header_number-number.ensures c.if-number-ne0.true in
-    let (blank, images) = c.requires in
-    record { answers = says.0; arrays = blank ∙ says.1; images = images }
-
-pub read_body-requires : goal.read_body-requires
-read_body-requires c =
-    let e = sym c.header_number-number.ensures ∙ c.if-number-ne0.false in
-    let r = in_range_lem (header_accepted _ _ _ _ e).0 in
-    (omega arith, c.requires)
+pub returns-in-Err : goal.returns-in-Err
+returns-in-Err c =
+    let (any, asks, has) = rw (c.from.ensures, c.from-2.ensures, c.from-3.ensures, c.from-4.ensures) at c.in_ok-header.ensures in
+    let body = rw (has.states, has.letters, has.sets, has.start) at c.in-Err.ensures in
+    into_no (rule_body _ c.in-len4-up.len_at_least any asks ∙ body) (refl, words_blank)
 
 pub returns : goal.returns
 returns c =
-    rw (rule_body _ c.if-table-lt4.false (sym c.header_number-number.ensures ∙ c.if-number-ne0.false)) c.read_body.ensures
+    let (any, asks, has) = rw (c.from.ensures, c.from-2.ensures, c.from-3.ensures, c.from-4.ensures) at c.in_ok-header.ensures in
+    let (R, body, (arrays, images)) = rw (has.states, has.letters, has.sets, has.start) at c.in_default-read_body.ensures in
+    into_yes (rule_body _ c.in-len4-up.len_at_least any asks ∙ body) (body_numbers _ _ _ _ _ _ body has) arrays images

@@ -1,31 +1,24 @@
 -- Question 11 at each byte, and the count, by the laws of RowWriting.
+use mathlib.Core.Path.{sym, ◌∙◌}
 use native.Mathlib.Omega.{arith}
-use lib.Pow.{shl_exact}
-use Rattle.table.proofs.RowWriting.{count_start, count_skip, count_one, count_misfit, count_done}
+use borrow.Author.Tests.{ltb-true, ltb-false}
+use Rattle.table.proofs.RowWriting.{count_skip, count_one, count_misfit, count_done}
 use Rattle.table.proofs.writer.count_transitions.Goals as goal
 
-pub loop-i-init : goal.loop-i-init
-loop-i-init c =
-    count_start _ _
+pub loop-sets-preserved-then-sets : goal.loop-sets-preserved-then-sets
+loop-sets-preserved-then-sets c =
+    count_skip c.loop-sets.invariant c.loop-sets-test.true c.if-sets.true
 
-pub loop-i-preserved-then-sets : goal.loop-i-preserved-then-sets
-loop-i-preserved-then-sets c =
-    count_skip c.loop-i.invariant c.loop-i-test.true c.if-sets.true
+pub returns-then-not-fits : goal.returns-then-not-fits
+returns-then-not-fits c =
+    let large = ltb-false _ _ (sym c.fits.ensures ∙ c.if-not-fits.true) in
+    count_misfit c.loop-sets.invariant c.loop-sets-test.true c.if-sets.false (omega arith)
 
-pub overflow_cast-sets : goal.overflow_cast-sets
-overflow_cast-sets c =
-    omega (arith, c.type_inv.grid c.loop-i.i)
-
-pub returns-then-limit-sets : goal.returns-then-limit-sets
-returns-then-limit-sets c =
-    let limit = shl_exact {a = 1} 1 c.args.k 16 (omega arith) (omega arith) in
-    count_misfit c.loop-i.invariant c.loop-i-test.true c.if-sets.false (omega (arith, limit))
-
-pub loop-i-preserved : goal.loop-i-preserved
-loop-i-preserved c =
-    let limit = shl_exact {a = 1} 1 c.args.k 16 (omega arith) (omega arith) in
-    count_one c.loop-i.invariant c.loop-i-test.true c.if-sets.false (omega (arith, limit))
+pub loop-sets-preserved : goal.loop-sets-preserved
+loop-sets-preserved c =
+    let small = ltb-true _ _ (sym c.fits.ensures ∙ c.if-not-fits.false) in
+    count_one c.loop-sets.invariant c.loop-sets-test.true c.if-sets.false (omega arith)
 
 pub returns : goal.returns
 returns c =
-    count_done c.loop-i.invariant c.loop-i-test.false
+    count_done c.loop-sets.invariant c.loop-sets-test.false

@@ -1,7 +1,6 @@
 -- A cell: its map byte, then its set bytes.
 use mathlib.Core.Path.{◌∙◌}
 use native.Mathlib.Omega.{arith}
-use borrow.Author.Rules.{rules}
 use lib.ListN.{length-set}
 use Rattle.table.specs.Table.{cell_bytes}
 use Rattle.table.proofs.TableWriting.{cell_stored}
@@ -12,11 +11,6 @@ unfolding cell_bytes
 bounds-table-from c =
     omega arith
 
-pub overflow_add-from : goal.overflow_add-from
-unfolding cell_bytes
-overflow_add-from c =
-    search rules
-
 pub put_sets-requires : goal.put_sets-requires
 unfolding cell_bytes
 put_sets-requires c =
@@ -26,4 +20,4 @@ pub returns : goal.returns
 unfolding cell_bytes
 returns c =
     let e = c.put_sets.ensures in
-    (omega (arith, e.0), e.1 ∙ rw c.row_map-map.ensures (cell_stored _ _ _ c.requires.1))
+    (omega (arith, e.0), e.1 ∙ rw c.row_map.ensures (cell_stored _ _ _ c.requires.1))

@@ -1,20 +1,11 @@
 -- The cells of the rows, one behind the other.
 use native.Mathlib.Omega.{arith}
-use Rattle.base.proofs.Storing.{pieces_size}
-use Rattle.table.proofs.TableWriting.{cells_start, row_end, row_length, cells_room, cells_next, cells_done}
+use Rattle.table.proofs.TableWriting.{cells_start, row_length, cells_room, cells_next, cells_done}
 use Rattle.table.proofs.writer.put_cells.Goals as goal
 
 pub loop-row-init : goal.loop-row-init
 loop-row-init c =
-    cells_start _ _ _ _ c.requires.0.1 c.requires.1
-
-pub overflow_mul-from : goal.overflow_mul-from
-overflow_mul-from c =
-    omega (arith, row_end c.loop-row.invariant c.loop-row-test.true)
-
-pub overflow_add-to : goal.overflow_add-to
-overflow_add-to c =
-    omega (arith, row_end c.loop-row.invariant c.loop-row-test.true)
+    cells_start _ _ _ _ c.requires.0 c.requires.1
 
 pub put_cell-at-requires : goal.put_cell-at-requires
 put_cell-at-requires c =
@@ -25,10 +16,6 @@ pub loop-row-preserved : goal.loop-row-preserved
 loop-row-preserved c =
     let e = c.put_cell-at.ensures in
     rw (e.1, e.0) (cells_next c.loop-row.invariant c.loop-row-test.true)
-
-pub shape_of-table : goal.shape_of-table
-shape_of-table c =
-    pieces_size c.loop-row.invariant.each.pieces
 
 pub returns : goal.returns
 returns c =

@@ -1,27 +1,20 @@
--- The map byte, from the highest state down, by the laws of RowWriting.
+-- The map byte, from the lowest state up, by the laws of RowWriting.
+use mathlib.Core.Path.{◌∙◌}
 use native.Mathlib.Omega.{arith}
-use Rattle.table.proofs.RowWriting.{map_start, map_room, map_skip, map_one, map_done}
+use native.Mathlib.Nat.{one-mul}
+use lib.Pow.{shl_exact}
+use Rattle.table.proofs.RowWriting.{map_skip, map_one, map_done}
 use Rattle.table.proofs.writer.row_map.Goals as goal
-
-pub loop-r-init : goal.loop-r-init
-loop-r-init c =
-    map_start _ c.requires
-
-pub overflow_mul-map : goal.overflow_mul-map
-overflow_mul-map c =
-    omega (arith, map_room c.loop-r.invariant c.loop-r-test.true)
-
-pub overflow_add-map : goal.overflow_add-map
-overflow_add-map c =
-    omega (arith, map_room c.loop-r.invariant c.loop-r-test.true)
-
-pub loop-r-preserved-then-row-r : goal.loop-r-preserved-then-row-r
-loop-r-preserved-then-row-r c =
-    map_one c.loop-r.invariant c.loop-r-test.true c.if-row-r.true
+use Rattle.table.proofs.writer.row_map.Goals.{then-sets, else-sets}
 
 pub loop-r-preserved : goal.loop-r-preserved
 loop-r-preserved c =
-    map_skip c.loop-r.invariant c.loop-r-test.true c.if-row-r.false
+    let r = c.loop-r.r in
+    let bit = shl_exact {a = 1} 1 r 8 (omega arith) (omega arith) ∙ one-mul _ in
+    elim c.if-sets.branch [
+      | then-sets w ↦ rw (w.map-is, bit) (map_one c.loop-r.invariant c.loop-r-test.true w.if-sets.true)
+      | else-sets w ↦ rw w.map-is (map_skip c.loop-r.invariant c.loop-r-test.true w.if-sets.false)
+    ]
 
 pub returns : goal.returns
 returns c =

@@ -1,9 +1,6 @@
--- The map byte, from the highest state down, by the laws of RowWriting.
+-- The map byte, from the lowest state up, by the laws of RowWriting.
 use Rattle.table.proofs.RowWriting.{MapSoFar}
 use Rattle.table.proofs.writer.row_map.Given as goal
 
 abbrev pub invariant-loop-r : goal.invariant-loop-r
 invariant-loop-r l = MapSoFar l.row l.map l.r
-
-abbrev pub decreases-loop-r : goal.decreases-loop-r
-decreases-loop-r l = l.r

@@ -3,7 +3,7 @@ use borrow.Author.Rules.{rules}
 use Rattle.tree.proofs.PackedWords.{node_packed}
 use Rattle.tree.proofs.packed.pack.Goals as goal
 
--- src/packed.rt:11:1
 pub returns : goal.returns
 returns c =
-    node_packed _ (search rules) (search rules) (search rules) (search rules) (search rules)
+    rw (c.from.ensures, c.from-2.ensures, c.from-3.ensures, c.from-4.ensures, c.from-5.ensures)
+    (node_packed c.args.x (search rules) (search rules) (search rules) (search rules) (search rules))

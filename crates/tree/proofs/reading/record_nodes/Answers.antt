@@ -13,10 +13,6 @@ unfolding unpacked
 loop-number-init c =
     nodes_start _ _ _ refl c.requires.1
 
-pub overflow_cast-depth : goal.overflow_cast-depth
-overflow_cast-depth c =
-    omega (arith, c.type_inv.tags c.loop-number.number)
-
 pub overflow_add-end : goal.overflow_add-end
 overflow_add-end c =
     let number = c.loop-number.number in
@@ -28,8 +24,8 @@ loop-number-preserved c =
     let number = c.loop-number.number in
     let tags = c.args.tags.now in
     nodes_next c.loop-number.invariant c.loop-number-test.true _ _ _ _ (to_end (number + 1) tags) c.deeper.ensures
-    c.hosted-label.ensures c.hosted-kids.ensures _
-    (node_written c.loop-number.nodes number c.pack.result c.pack.ensures)
+    c.hosted.ensures c.hosted-in-loop-number.ensures _
+    (node_written c.loop-number.nodes number c.pack.result (rw c.from.ensures at c.pack.ensures))
 
 pub returns : goal.returns
 returns c =

@@ -1,24 +1,34 @@
 -- The tags, by the laws of WritingInTurn.
-use mathlib.Core.List.{[]}
+use mathlib.Core.Path.{◌≡◌, refl}
 use Prim.Native.Nat.{◌+◌, ◌*◌, ◌<◌}
 use native.Mathlib.Omega.{arith}
-use lib.ListN.{get_or}
-use Rattle.base.proofs.Storing.{pieces_size}
-use Rattle.tree.proofs.PackedWords.{node_read}
-use Rattle.tree.proofs.TreeNodes.{side_nodes}
+use lib.ListN.{get_or, length}
+use Rattle.tree.specs.Inner.PackedNodes.{nodes_in}
+use Rattle.tree.specs.Inner.Nodes.{blank_node}
+use Rattle.tree.proofs.PackedWords.{node_read, nodes_many}
 use Rattle.tree.proofs.WritingInTurn.{tags_start, tag_small, tags_fits, tags_put, tags_done}
 use Rattle.tree.proofs.writing.put_tags.Goals as goal
 use Rattle.tree.proofs.writing.put_tags.Goals.{After-unpack-node}
 
 pub loop-number-init : goal.loop-number-init
 loop-number-init c =
-    tags_start _ _ _ _ c.requires.0 c.requires.2
+    tags_start _ _ _ _ c.requires.0 (rw (nodes_many c.args.nodes.now refl) c.requires.1)
 
--- the tag is a byte
-small : (c : After-unpack-node) → 16 * c.unpack-node.result.depth + c.unpack-node.result.active < 256
-small c =
-    tag_small c.loop-number.invariant c.loop-number-test.true _
-    (node_read (get_or c.args.sides.now c.args.on.side []) c.loop-number.number c.unpack-node.ensures)
+-- a node is read
+module _ (c : After-unpack-node) where
+  inside : c.loop-number.number < length (nodes_in c.args.nodes.now)
+  inside = rw (nodes_many c.args.nodes.now refl) c.loop-number-test.true
+
+  read : c.unpack-node.result ≡ get_or (nodes_in c.args.nodes.now) c.loop-number.number blank_node
+  read = node_read c.args.nodes.now c.loop-number.number c.unpack-node.ensures
+
+  -- its tag is a byte
+  small : 16 * c.unpack-node.result.depth + c.unpack-node.result.active < 256
+  small = tag_small c.loop-number.invariant inside _ read
+
+  -- and there is room for it
+  room : c.args.from + c.loop-number.number < length c.loop-number.out
+  room = tags_fits c.loop-number.invariant inside
 
 pub overflow_mul-out : goal.overflow_mul-out
 overflow_mul-out c =
@@ -32,24 +42,15 @@ pub overflow_add-out : goal.overflow_add-out
 overflow_add-out c =
     omega (arith, small (goal.at.overflow_add-out c).After-unpack-node)
 
-pub bounds-out-at : goal.bounds-out-at
-bounds-out-at c =
-    tags_fits c.loop-number.invariant c.loop-number-test.true
-
-pub overflow_add-at : goal.overflow_add-at
-overflow_add-at c =
-    omega (arith, tags_fits c.loop-number.invariant c.loop-number-test.true)
+pub bounds-out-from : goal.bounds-out-from
+bounds-out-from c =
+    room (goal.at.bounds-out-from c).After-unpack-node
 
 pub loop-number-preserved : goal.loop-number-preserved
 loop-number-preserved c =
-    tags_put c.loop-number.invariant c.loop-number-test.true _
-    (node_read (get_or c.args.sides.now c.args.on.side []) c.loop-number.number c.unpack-node.ensures)
-    (side_nodes c.requires.1)
-
-pub shape_of-out : goal.shape_of-out
-shape_of-out c =
-    pieces_size c.loop-number.invariant.pieces
+    let q = (goal.at.loop-number-preserved c).After-unpack-node in
+    tags_put c.loop-number.invariant (inside q) _ (read q)
 
 pub returns : goal.returns
 returns c =
-    tags_done c.loop-number.invariant c.loop-number-test.false
+    rw (← nodes_many c.args.nodes.now refl) (tags_done c.loop-number.invariant (rw (nodes_many c.args.nodes.now refl) c.loop-number-test.false))

@@ -1,26 +1,22 @@
 -- `judge_walk` meets its contract, by the laws of Judging.
-use native.Mathlib.Omega.{arith}
 use mathlib.Core.List.{[]}
 use Rattle.rule.specs.Rule.{Rule}
 use Rattle.word.specs.Inner.Prepared.{Prepared}
 use Rattle.history.specs.Tree.{start_tree}
-use Rattle.tree.specs.Inner.Sides.{tree_on}
+use Rattle.tree.specs.Inner.Sides.{tree_in}
 use Rattle.letters.specs.Inner.Reading.{Reads, Readable, ReadsTo}
 use Rattle.treejudge.specs.Inner.Cycles.{AtRound, FirstRound}
 use Rattle.treejudge.specs.Inner.Repeats.{RepeatFound}
-use Rattle.letters.proofs.LettersRead.{laid_first, reads_taken}
-use Rattle.treejudge.proofs.Judging.{sets_small, lead_reads, first_round, says_no, some_node, says_yes}
+use Rattle.treejudge.proofs.Judging.{lead_reads, first_round, says_no, some_node, says_yes}
 use Rattle.treejudge.proofs.judge.judge_walk.Goals as goal
-use Rattle.treejudge.proofs.judge.judge_walk.Goals.{After-on_first_side, After-taken-first}
+use Rattle.treejudge.proofs.judge.judge_walk.Goals.{After-letters_left, After-taken-first}
 
 -- u is read from the starting tree, over a rule that the look-ups are of
-lead-read : (c : After-on_first_side) →
+lead-read : (c : After-letters_left) →
     let args = c.args in
     (R : Rule) → Prepared R args.header args.lookups.now args.u.now args.v.now
-    → Reads R (start_tree R) args.lookups.now args.header.sets c.letters_left.result.now
-    (tree_on c.laid-sides.result c.on_first_side.result)
-lead-read c R p =
-    lead_reads p _ c.start-start.ensures _ c.letters_left.ensures _ (laid_first c.laid-sides.ensures c.on_first_side.ensures).1
+    → Reads R (start_tree R) args.lookups.now args.header.sets c.letters_left.result.now (tree_in c.laid-buffer.result)
+lead-read c R p = lead_reads p _ c.start.ensures _ c.letters_left.ensures _ c.laid-buffer.ensures.tree
 
 -- t(0) of the walk
 first_place : (c : After-taken-first) →
@@ -28,25 +24,23 @@ first_place : (c : After-taken-first) →
     (R : Rule) → Prepared R args.header args.lookups.now args.u.now args.v.now
     → AtRound R args.u.now args.v.now args.lookups.now args.header.sets 0 c.taken-first.result
 first_place c R p =
-    first_round p _ c.start-start.ensures _ c.letters_left.ensures _
-    (reads_taken _ _ _ (laid_first c.laid-sides.ensures c.on_first_side.ensures).1 c.taken-first.ensures c.read_letters-led.ensures.1)
+    rw c.taken-first.ensures
+    (first_round p _ c.start.ensures _ c.letters_left.ensures _ (rw c.laid-buffer.ensures.tree at c.read_letters.ensures))
 
-pub overflow_cast-k : goal.overflow_cast-k
-overflow_cast-k c =
-    omega (arith, sets_small c.requires.0.1)
-
-pub read_letters-led-requires : goal.read_letters-led-requires
+pub read_letters-requires : goal.read_letters-requires
 unfolding Readable
-read_letters-led-requires c =
-    let (R, p) = c.requires.0 in
-    ((laid_first c.laid-sides.ensures c.on_first_side.ensures).0, (R, start_tree R, lead-read (goal.at.read_letters-led-requires c).After-on_first_side R p))
+read_letters-requires c =
+    let (R, p) = c.requires.0 in (R, start_tree R, lead-read (goal.at.read_letters-requires c).After-letters_left R p)
 
 pub taken-first-requires : goal.taken-first-requires
 unfolding ReadsTo
 taken-first-requires c =
     let (R, p) = c.requires.0 in
-    let (on, to) = c.read_letters-led.ensures in
-    record { stands = on; rule = R; tree = _; holds = to R (start_tree R) (lead-read (goal.at.taken-first-requires c).After-on_first_side R p) }
+    record {
+      rule = R;
+      tree = _;
+      holds = c.read_letters.ensures R (start_tree R) (lead-read (goal.at.taken-first-requires c).After-letters_left R p);
+    }
 
 pub find_repeat-found-requires : goal.find_repeat-found-requires
 unfolding FirstRound
@@ -64,10 +58,6 @@ node_name-name-requires c =
     let (R, p) = c.requires.0 in
     some_node R _ _ _ (c.find_repeat-found.ensures R _ (first_place (goal.at.node_name-name-requires c).After-taken-first R p)) [] p.limits.states
     c.if-found-eq0.false _ c.first_node.ensures
-
-pub store_name-requires : goal.store_name-requires
-store_name-requires c =
-    (c.node_name-name.ensures.short, c.requires.1)
 
 pub returns : goal.returns
 unfolding RepeatFound

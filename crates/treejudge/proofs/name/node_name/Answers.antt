@@ -1,72 +1,44 @@
 -- The name of a node, by the laws of NodeNames.
-use mathlib.Core.Path.{◌≡◌, refl, ap}
-use Prim.Native.Nat.{◌+◌}
-use lib.ListN.{get_or}
-use Rattle.tree.specs.Inner.PackedNodes.{nodes_in}
-use Rattle.tree.specs.Inner.Nodes.{blank_node}
-use Rattle.tree.specs.declared.nodes.Node.{Node as CodeNode}
-use Rattle.tree.proofs.PackedWords.{node_read}
+use Prim.Native.Nat.{◌+◌, ◌-◌, ◌<◌}
 use native.Mathlib.Omega.{arith}
-use Rattle.treejudge.proofs.NodeNames.{NamedSoFar, name_start, node_few, depth_low, depth_short, number_small, name_beside, name_deeper, name_done}
+use mathlib.Core.Path.{◌≡◌, refl, ◌∙◌}
+use Rattle.treejudge.proofs.NodeNames.{node_depth, name_start, node_behind, depth_low, depth_short, number_small, name_beside, name_deeper}
 use Rattle.treejudge.proofs.name.node_name.Goals as goal
-use Rattle.treejudge.proofs.name.node_name.Goals.{After-unpack-node, At-loop-i}
+use Rattle.treejudge.proofs.name.node_name.Goals.{After-from-depth, then-last-length, else-last-length}
 
--- the name so far, by the tree's nodes
-so_far : (c : At-loop-i) → let args = c.args in
-    NamedSoFar args.tree.nodes args.number c.loop-i.numbers c.loop-i.length c.loop-i.i
-so_far c = rw c.preorder-nodes.ensures at c.loop-i.invariant
+-- the node that is read, and its depth
+here : (c : After-from-depth) → let i = c.loop-word.word-index in
+    (i < c.args.number) × (c.from-depth.result ≡ node_depth c.args.tree (i + 1))
+here c =
+    let n = c.args.number + 1 - 1 in
+    let same : n ≡ c.args.number = omega arith in
+    let (before, read) = node_behind c.requires c.nodes.ensures n _ same c.loop-word-test.true c.unpack.ensures in
+    (before, c.from-depth.ensures ∙ read)
 
--- the depth of the node that is read
-depth : (c : After-unpack-node)
-    → c.unpack-node.result.depth ≡ (get_or (nodes_in c.args.tree.nodes) (c.loop-i.i + 1) blank_node).depth
-depth c = ap (λ (r : CodeNode). r.depth) (node_read c.args.tree.nodes (c.loop-i.i + 1)
-    (rw c.preorder-nodes.ensures at c.unpack-node.ensures))
-
-pub loop-i-init : goal.loop-i-init
-loop-i-init c =
+pub loop-word-init : goal.loop-word-init
+loop-word-init c =
     name_start _ _ _ refl
-
-pub offset_bounds-nodes-i : goal.offset_bounds-nodes-i
-offset_bounds-nodes-i c =
-    omega (arith, node_few c.requires)
-
-pub bounds-nodes-i : goal.bounds-nodes-i
-bounds-nodes-i c =
-    omega (arith, node_few c.requires)
-
-pub overflow_cast-depth : goal.overflow_cast-depth
-overflow_cast-depth c =
-    omega (arith, depth (goal.at.overflow_cast-depth c).After-unpack-node, depth_short c.requires (so_far (goal.at.overflow_cast-depth c).At-loop-i) c.loop-i-test.true)
 
 pub overflow_sub-last : goal.overflow_sub-last
 overflow_sub-last c =
-    rw (depth (goal.at.overflow_sub-last c).After-unpack-node) (depth_low c.requires (so_far (goal.at.overflow_sub-last c).At-loop-i) c.loop-i-test.true)
-
-pub bounds-numbers-last : goal.bounds-numbers-last
-bounds-numbers-last c =
-    omega (arith, depth (goal.at.bounds-numbers-last c).After-unpack-node, depth_short c.requires (so_far (goal.at.bounds-numbers-last c).At-loop-i) c.loop-i-test.true)
+    let (before, depth) = here (goal.at.overflow_sub-last c).After-from-depth in
+    rw depth (depth_low c.requires c.loop-word.invariant before)
 
 pub overflow_add-numbers : goal.overflow_add-numbers
 overflow_add-numbers c =
-    let small = number_small c.requires (so_far (goal.at.overflow_add-numbers c).At-loop-i) c.loop-i-test.true (rw (depth (goal.at.overflow_add-numbers c).After-unpack-node) at c.if-last-length.true) in
-    omega (arith, rw (← depth (goal.at.overflow_add-numbers c).After-unpack-node) at small)
+    let (before, depth) = here (goal.at.overflow_add-numbers c).After-from-depth in
+    let small = number_small c.requires c.loop-word.invariant before (rw depth at c.if-last-length.true) in
+    omega (arith, rw (← depth) at small)
 
-pub bounds-numbers-last-then-last-length : goal.bounds-numbers-last-then-last-length
-bounds-numbers-last-then-last-length c =
-    omega (arith, depth (goal.at.bounds-numbers-last-then-last-length c).After-unpack-node, depth_short c.requires (so_far (goal.at.bounds-numbers-last-then-last-length c).At-loop-i) c.loop-i-test.true)
+pub bounds-numbers-last-in-loop-word : goal.bounds-numbers-last-in-loop-word
+bounds-numbers-last-in-loop-word c =
+    let (before, depth) = here (goal.at.bounds-numbers-last-in-loop-word c).After-from-depth in
+    omega (arith, depth, depth_short c.requires c.loop-word.invariant before)
 
-pub bounds-numbers-last-else-last-length : goal.bounds-numbers-last-else-last-length
-bounds-numbers-last-else-last-length c =
-    omega (arith, depth (goal.at.bounds-numbers-last-else-last-length c).After-unpack-node, depth_short c.requires (so_far (goal.at.bounds-numbers-last-else-last-length c).At-loop-i) c.loop-i-test.true)
-
-pub loop-i-preserved-then-last-length : goal.loop-i-preserved-then-last-length
-loop-i-preserved-then-last-length c =
-    rw (c.preorder-nodes.ensures, depth (goal.at.loop-i-preserved-then-last-length c).After-unpack-node) (name_beside c.requires (so_far (goal.at.loop-i-preserved-then-last-length c).At-loop-i) c.loop-i-test.true (rw (depth (goal.at.loop-i-preserved-then-last-length c).After-unpack-node) at c.if-last-length.true))
-
-pub loop-i-preserved : goal.loop-i-preserved
-loop-i-preserved c =
-    rw (c.preorder-nodes.ensures, depth (goal.at.loop-i-preserved c).After-unpack-node) (name_deeper c.requires (so_far (goal.at.loop-i-preserved c).At-loop-i) c.loop-i-test.true (rw (depth (goal.at.loop-i-preserved c).After-unpack-node) at c.if-last-length.false))
-
-pub returns : goal.returns
-returns c =
-    name_done c.requires (so_far (goal.at.returns c).At-loop-i) c.loop-i-test.false
+pub loop-word-preserved : goal.loop-word-preserved
+loop-word-preserved c =
+    let (before, depth) = here (goal.at.loop-word-preserved c).After-from-depth in
+    elim c.if-last-length.branch [
+      | then-last-length w ↦ rw (w.numbers-is, depth) (name_beside c.requires c.loop-word.invariant before (rw depth at w.if-last-length.true))
+      | else-last-length w ↦ rw (w.numbers-is, depth) (name_deeper c.requires c.loop-word.invariant before (rw depth at w.if-last-length.false))
+    ]

@@ -1,9 +1,6 @@
--- `fill_lookups` meets its contract. The loop fills the look-up of each letter of the map, the lowest first.
-use Rattle.word.proofs.WalkLookups.{LookupsBut}
+-- `fill_lookups` meets its contract. The loop fills the look-ups of the map's letters, one letter after the other.
+use Rattle.word.proofs.WalkLookups.{LookupsUpTo}
 use Rattle.word.proofs.lookups.fill_lookups.Given as goal
 
-abbrev pub invariant-loop-rest : goal.invariant-loop-rest
-invariant-loop-rest l = LookupsBut l.letters l.rest l.words l.initial.lookups l.lookups
-
-abbrev pub decreases-loop-rest : goal.decreases-loop-rest
-decreases-loop-rest l = l.rest
+abbrev pub invariant-loop-letter : goal.invariant-loop-letter
+invariant-loop-letter l = LookupsUpTo l.letters l.words l.initial.lookups l.letter l.lookups

@@ -5,12 +5,12 @@ use Rattle.word.proofs.lookups.walk_lookups.Goals as goal
 
 pub occurring-lead_letters-requires : goal.occurring-lead_letters-requires
 occurring-lead_letters-requires c =
-    let (few, lead, _, _) = c.requires in
+    let (few, lead, _) = c.requires in
     lead_among _ _ few c.all_letters-all.ensures _ lead
 
 pub occurring-letters-requires : goal.occurring-letters-requires
 occurring-letters-requires c =
-    let (few, lead, tail, _) = c.requires in
+    let (few, lead, tail) = c.requires in
     walk_among _ _ few c.all_letters-all.ensures _ lead _ tail _ c.occurring-lead_letters.ensures
 
 pub returns : goal.returns

@@ -1,28 +1,29 @@
 -- The questions to a table and a walk, by the laws of JudgeQuestions.
-use mathlib.Core.Path.{refl}
-use Rattle.table.proofs.Asked.{arrays_blank, read_no, read_yes, prepares_no, prepares_yes}
-use Rattle.word.proofs.JudgeQuestions.{walk_no_table, walk_no, walk_yes, walk_letters, walk_ready}
+use Rattle.std.proofs.lemmas.Result.{err_from_is_err_and}
+use Rattle.table.proofs.Asked.{arrays_blank, read_yes}
+use Rattle.word.proofs.JudgeQuestions.{walk_no_table, walk_no, walk_yes}
+use Rattle.word.proofs.WalkQuestions.{walk_letters}
 use Rattle.word.proofs.questions.walk_questions.Goals as goal
 
 pub read_rule-requires : goal.read_rule-requires
 read_rule-requires c =
     arrays_blank
 
-pub returns-then-number-ne0 : goal.returns-then-number-ne0
-returns-then-number-ne0 c =
-    prepares_no (walk_no _ _ _ (read_yes c.in-Rule.ensures refl) c.walk_number-number.ensures c.if-number-ne0.true)
+pub returns-in_err-header : goal.returns-in_err-header
+returns-in_err-header c =
+    let p = err_from_is_err_and c.from_residual.result c.from_residual.ensures.1 in
+    rw (p.1, p.2) (walk_no_table _ _ _ c.in_err-header.ensures.answers)
+
+pub returns-in_err-check_walk : goal.returns-in_err-check_walk
+returns-in_err-check_walk c =
+    let p = err_from_is_err_and c.from_residual-in_err-check_walk.result c.from_residual-in_err-check_walk.ensures.1 in
+    rw (p.1, p.2) (walk_no _ _ _ (read_yes c.in_ok-header.ensures) c.in_err-check_walk.ensures)
 
 pub walk_lookups-requires : goal.walk_lookups-requires
 walk_lookups-requires c =
-    let (few, lead, tail) = walk_letters _ _ _ (read_yes c.in-Rule.ensures refl) c.walk_number-number.ensures c.if-number-ne0.false in
-    (few, lead, tail, c.requires)
+    let (lead, tail) = walk_letters _ _ _ c.in_ok-check_walk.ensures.1 in
+    (c.in_ok-header.header.few_letters, lead, tail)
 
-pub returns-in-Refused : goal.returns-in-Refused
-returns-in-Refused c =
-    prepares_no (walk_no_table _ _ _ (read_no c.in-Refused.ensures refl))
-
-pub returns-else-number-ne0 : goal.returns-else-number-ne0
-returns-else-number-ne0 c =
-    let v = read_yes c.in-Rule.ensures refl in
-    let number = c.walk_number-number.ensures in
-    prepares_yes (walk_yes _ _ _ v number c.if-number-ne0.false) v.holds.numbers (walk_ready _ _ _ v number c.if-number-ne0.false _ c.walk_lookups.ensures)
+pub returns : goal.returns
+returns c =
+    walk_yes _ _ _ (read_yes c.in_ok-header.ensures) c.in_ok-check_walk.ensures.1 _ c.walk_lookups.ensures

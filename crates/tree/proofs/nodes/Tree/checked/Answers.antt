@@ -1,93 +1,106 @@
 -- Question 9 and the tree's nodes, by the laws of NodesOfRecord.
-use mathlib.Core.Path.{◌≡◌, sym, ◌∙◌}
+use mathlib.Core.Path.{◌≡◌, refl, sym, ◌∙◌}
 use mathlib.Core.List.{List, []}
 use mathlib.Core.Bool.{true, ◌&&◌}
-use Prim.Native.Nat.{ℕ, ◌+◌, ◌≤◌, ◌<◌}
+use Prim.Native.Nat.{ℕ, ◌+◌, ◌-◌, ◌^◌, ◌≤◌, ◌<◌}
 use native.Mathlib.Omega.{arith}
 use lib.Count.{ones}
 use lib.Dec.{leb}
-use lib.ListN.{length, get_or}
+use lib.ListN.{length, take, drop, length-drop, length-take}
 use Rattle.base.proofs.Flattening.{to_end}
 use Rattle.history.specs.Inner.RecordChecks.{record_checks}
 use Rattle.rule.specs.Limits.{max_sets, max_states}
+use Rattle.tree.specs.Inner.Places.{places}
 use Rattle.tree.proofs.NodesOfRecord.{passed_long, passed_parts, checked_yes, checked_no, behind_first, limits_no, limits_fit, limits_yes}
 use Rattle.tree.proofs.nodes.Tree.checked.Goals as goal
+use Rattle.tree.proofs.nodes.Tree.checked.Goals.{After-from-map, then-not-within_limits-via-then-not-within_limits, then-not-within_limits-via-else-not-within_limits+then-not-record_fits}
 
 -- n and k are within the limits
 fit : (n k : ℕ) → (leb n max_states && leb k max_sets) ≡ true → (n ≤ max_states) × (k < 16)
 fit n k within = limits_fit n k [] within
 
--- bytes that pass have a map and a host for each of its states
-long : (n k : ℕ) (bytes : List ℕ) → (leb n max_states && leb k max_sets) ≡ true → record_checks n k bytes ≡ true
-    → 1 + ones (get_or bytes 0 0) ≤ length bytes
-long n k bytes within passed = passed_long n k bytes (fit n k within).1 passed
-
 pub returns-then-not-within_limits : goal.returns-then-not-within_limits
 returns-then-not-within_limits c =
     let args = c.args in
-    rw (limits_no args.n args.k args.bytes.now (sym c.within_limits.ensures ∙ c.if-not-within_limits.true))
-    c.no_record.ensures
-
-pub record_fits-requires : goal.record_fits-requires
-record_fits-requires c =
-    omega (arith, fit c.args.n c.args.k (sym c.within_limits.ensures ∙ c.if-not-within_limits.false))
-
-pub returns-then-not-record_fits : goal.returns-then-not-record_fits
-returns-then-not-record_fits c =
-    let args = c.args in
     let bytes = args.bytes.now in
-    rw (
-      limits_yes args.n args.k bytes (sym c.within_limits.ensures ∙ c.if-not-within_limits.false),
-      checked_no args.n args.k bytes (fit c.args.n c.args.k (sym c.within_limits.ensures ∙ c.if-not-within_limits.false)).1 (sym c.record_fits.ensures ∙ c.if-not-record_fits.true),
-    )
-    c.no_record-then-not-record_fits.ensures
+    elim c.then-not-within_limits.branch [
+      | then-not-within_limits-via-then-not-within_limits w ↦
+          rw (limits_no args.n args.k bytes (sym c.within_limits.ensures ∙ w.if-not-within_limits.true)) c.no_record.ensures
+      | then-not-within_limits-via-else-not-within_limits+then-not-record_fits w ↦
+          let within = sym c.within_limits.ensures ∙ w.if-not-within_limits.false in
+          rw (limits_yes args.n args.k bytes within, checked_no args.n args.k bytes (fit args.n args.k within).1 (sym w.record_fits.ensures ∙ w.if-not-record_fits.true))
+          c.no_record.ensures
+    ]
+
+-- once the bytes have passed
+module _ (c : After-from-map) where
+  abbrev bytes : List ℕ
+  bytes = c.args.bytes.now
+
+  abbrev map : ℕ
+  map = c.from-map.result
+
+  abbrev hosts : List ℕ
+  hosts = take (1 + ones map - 1) (drop 1 bytes)
+
+  abbrev tags : List ℕ
+  tags = take (length bytes - (1 + ones map)) (drop (1 + ones map) bytes)
+
+  within : (leb c.args.n max_states && leb c.args.k max_sets) ≡ true
+  within = sym c.within_limits.ensures ∙ c.if-not-within_limits.false
+
+  passed : record_checks c.args.n c.args.k bytes ≡ true
+  passed = sym c.record_fits.ensures ∙ c.if-not-record_fits.false
+
+  -- they have a map and a host for each of its states
+  long : 1 + ones map ≤ length bytes
+  long = passed_long _ _ bytes (fit c.args.n c.args.k within).1 map c.from-map.ensures passed
+
+  parts : (map < 2 ^ c.args.n) × ((ones map ≤ length hosts) × (length tags ≤ c.args.n))
+  parts = passed_parts _ _ bytes (fit c.args.n c.args.k within).1 map c.from-map.ensures passed hosts tags (behind_first (ones map) bytes) (to_end (1 + ones map) bytes)
+
+  -- and no more tags than there are states
+  few : length bytes - (1 + ones map) ≤ places
+  few = omega (arith, parts.1.1, (fit c.args.n c.args.k within).0, length-take (length bytes - (1 + ones map)) (drop (1 + ones map) bytes), length-drop (1 + ones map) bytes)
 
 pub bounds-bytes-0 : goal.bounds-bytes-0
 bounds-bytes-0 c =
-    omega (arith, long c.args.n c.args.k c.args.bytes.now (sym c.within_limits.ensures ∙ c.if-not-within_limits.false) (sym c.record_fits.ensures ∙ c.if-not-record_fits.false))
-
-pub overflow_cast-map : goal.overflow_cast-map
-overflow_cast-map c =
-    omega (arith, c.type_inv.bytes 0)
-
-pub overflow_cast-tags : goal.overflow_cast-tags
-overflow_cast-tags c =
-    omega (arith, long c.args.n c.args.k c.args.bytes.now (sym c.within_limits.ensures ∙ c.if-not-within_limits.false) (sym c.record_fits.ensures ∙ c.if-not-record_fits.false))
-
-pub overflow_add-tags : goal.overflow_add-tags
-overflow_add-tags c =
-    omega (arith, long c.args.n c.args.k c.args.bytes.now (sym c.within_limits.ensures ∙ c.if-not-within_limits.false) (sym c.record_fits.ensures ∙ c.if-not-record_fits.false))
+    omega (
+      arith,
+      passed_long c.args.n c.args.k c.args.bytes.now (fit c.args.n c.args.k (sym c.within_limits.ensures ∙ c.if-not-within_limits.false)).1 _ refl
+          (sym c.record_fits.ensures ∙ c.if-not-record_fits.false),
+    )
 
 pub overflow_sub-count : goal.overflow_sub-count
 overflow_sub-count c =
-    omega (arith, long c.args.n c.args.k c.args.bytes.now (sym c.within_limits.ensures ∙ c.if-not-within_limits.false) (sym c.record_fits.ensures ∙ c.if-not-record_fits.false))
+    long (goal.at.overflow_sub-count c).After-from-map
 
 pub slice_bounds-record_nodes-end : goal.slice_bounds-record_nodes-end
 slice_bounds-record_nodes-end c =
-    omega (arith, long c.args.n c.args.k c.args.bytes.now (sym c.within_limits.ensures ∙ c.if-not-within_limits.false) (sym c.record_fits.ensures ∙ c.if-not-record_fits.false))
+    omega (arith, long (goal.at.slice_bounds-record_nodes-end c).After-from-map)
 
 pub slice_bounds-record_nodes-start-2 : goal.slice_bounds-record_nodes-start-2
 slice_bounds-record_nodes-start-2 c =
-    omega (arith, long c.args.n c.args.k c.args.bytes.now (sym c.within_limits.ensures ∙ c.if-not-within_limits.false) (sym c.record_fits.ensures ∙ c.if-not-record_fits.false))
+    omega (arith, long (goal.at.slice_bounds-record_nodes-start-2 c).After-from-map)
 
 pub slice_bounds-record_nodes-count-2 : goal.slice_bounds-record_nodes-count-2
 slice_bounds-record_nodes-count-2 c =
-    omega (arith, long c.args.n c.args.k c.args.bytes.now (sym c.within_limits.ensures ∙ c.if-not-within_limits.false) (sym c.record_fits.ensures ∙ c.if-not-record_fits.false))
+    long (goal.at.slice_bounds-record_nodes-count-2 c).After-from-map
 
 pub record_nodes-nodes-requires : goal.record_nodes-nodes-requires
 record_nodes-nodes-requires c =
-    let bytes = c.args.bytes.now in
-    let m = ones (get_or bytes 0 0) in
-    let (states, sets) = fit c.args.n c.args.k (sym c.within_limits.ensures ∙ c.if-not-within_limits.false) in
-    let (small, (many, few)) = passed_parts _ _ bytes sets (sym c.record_fits.ensures ∙ c.if-not-record_fits.false) _ _
-    (behind_first m bytes) (to_end (1 + m) bytes) in
+    let q = (goal.at.record_nodes-nodes-requires c).After-from-map in
+    let (small, (many, few)) = parts q in
+    let most = (fit c.args.n c.args.k (within q)).0 in
     ((omega arith, (small, many)), omega arith)
+
+pub invariant_of-result : goal.invariant_of-result
+invariant_of-result c =
+    record { within = few (goal.at.invariant_of-result c).After-from-map }
 
 pub returns : goal.returns
 returns c =
-    let args = c.args in
-    let bytes = args.bytes.now in
-    let m = ones (get_or bytes 0 0) in
-    rw (limits_yes args.n args.k bytes (sym c.within_limits.ensures ∙ c.if-not-within_limits.false))
-    (checked_yes _ _ bytes (fit c.args.n c.args.k (sym c.within_limits.ensures ∙ c.if-not-within_limits.false)).1 (sym c.record_fits.ensures ∙ c.if-not-record_fits.false)
-    _ _ _ (behind_first m bytes) (to_end (1 + m) bytes) c.record_nodes-nodes.ensures)
+    let q = (goal.at.returns c).After-from-map in
+    rw (limits_yes _ _ (bytes q) (within q))
+    (checked_yes _ _ (bytes q) (fit c.args.n c.args.k (within q)).1 _ c.from-map.ensures (passed q)
+    (hosts q) (tags q) _ (behind_first _ (bytes q)) (to_end _ (bytes q)) c.record_nodes-nodes.ensures _)
