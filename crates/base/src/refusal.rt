@@ -26,6 +26,7 @@ impl From<Refusal> for u8 {
     ghost from_gives = { λ refusal given. given ≡ refusal_number refusal };
 
     fn from(refusal: Refusal) -> u8 {
+        // the number of the case: std has no `From` of an enum
         refusal as u8
     }
 }

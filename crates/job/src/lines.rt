@@ -62,7 +62,7 @@ pub fn five_lines(tree: TreeAnswer, names: [u8; Tree::NAME], plain: u8) -> Text
     text
 }
 
-// "A refusal prints one line, as `refused 5`."
+// "A refusal prints one line, as `refused 5`." The number is that of an answer for C.
 pub fn refusal_line(number: u8) -> Text
     ensures { result ≡ text_of (refusal_text number) }
 {

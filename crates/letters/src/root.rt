@@ -33,7 +33,8 @@ pub struct RootAt {
     pub root: Root,
 }
 
-// Step 4 at the root, from its new label and the union of its children's new labels.
+// Step 4 at the root, from its new label and the union of its children's new labels. A `Root` has no depth and no old number, and carries
+// whether it was accepting: one function for it and for a `Node` (`settled_node` of `step`) would take all fields apart.
 #[tactic(auto, unfolding(history::specs::Inner::Root::settled_root))]
 fn settled_root(k: u8, label: u16, kids: u16, root: Root) -> Root
     requires { root.active ≤ max_sets }

@@ -17,7 +17,7 @@ fn pair(high: u8, low: u8) -> Option<u8>
     Some(16 * high + low)
 }
 
-// The bytes of pairs of digits.
+// The bytes of pairs of digits. The text is cut as it is read; a digit that is left over is no byte.
 fn pairs(text: &[u8]) -> Option<Bytes>
     ensures { result ≡ no_longer longest (hexadecimal text.now) }
 {

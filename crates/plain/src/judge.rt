@@ -42,7 +42,8 @@ impl From<Refusal> for PlainAnswer {
     }
 }
 
-// The verdict on a walk, right for every rule with these numbers and these look-ups of the walk's letters.
+// The verdict on a walk, right for every rule with these numbers and these look-ups of the walk's letters. `Prepared` is asked in each function:
+// look-ups are arrays of arrays, which no struct can hold with it.
 fn walk_verdict<'a>(lookups: &Lookups, header: Header, u: &'a [u8], v: &'a [u8]) -> bool
     requires { (R : Rule) × Prepared R header lookups.now u.now v.now }
     ensures { (R : Rule) → Prepared R header lookups.now u.now v.now

@@ -37,7 +37,7 @@ pub struct NewLabels {
     pub sprout: u16,
 }
 
-// The states of one set that another does not hold.
+// The states of one set that another does not hold, by the name of its definition: std has no method for it.
 fn minus(a: u16, b: u16) -> u16
     ensures { result ≡ minus a b }
 {
@@ -216,6 +216,7 @@ pub fn step_nodes(lookup: &Lookup, k: u8, buffer: &mut DoubleBuffer) -> Stepped
         running: 0u16,
         written: 0,
     };
+    // Only nodes with a label are written, so their place is counted beside i.
     for i in 0..buffer.count {
         let x = unpack(buffer.sides[from].nodes[i]);
         let depth = usize::from(x.depth);

@@ -18,6 +18,8 @@ use table::writer::write;
 use tree::start::start;
 use treejudge::judge::tree_judge;
 
+// Line, numbers and buffer go side by side: a struct of three lent slices would be taken apart in each function.
+//
 // A length goes to a `u64` and a number of the line to the call's type by `as`: std has no `From` there, and the check proves that it fits.
 
 // The reader: number n m k start.

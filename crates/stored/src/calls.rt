@@ -65,7 +65,7 @@ impl Call {
         None
     }
 
-    // How many arguments a call has.
+    // How many arguments a call has: a number for each case, of which a table would be no plainer.
     #[tactic(auto, unfolding(crate::specs::Calls::arguments))]
     fn arguments(self) -> usize
         ensures { (result ≡ arguments self) × (result ≤ 4) }

@@ -34,7 +34,8 @@ fn next_line(text: &[u8]) -> Option<(&[u8], &[u8])>
     Some((line, text.get(line.len() + 1..).unwrap_or(&[])))
 }
 
-// Runs the case of a line, if it has one, and counts it. A difference is named by file and line.
+// Runs the case of a line, if it has one, and counts it. A difference is named by file and line. That the test can be called is asked in each
+// function: the type of a function cannot carry it.
 fn run_line<P: Print, F: Fn(&[u8]) -> bool>(
     rt: &P,
     name: &str,
@@ -100,6 +101,7 @@ pub fn run_file<R: Files + Alloc + Print + Eprint, F: Fn(&[u8]) -> bool>(
             return;
         }
     };
+    // std has no `From` of `usize` to `u64`
     let mut text = Vec::new(rt.alloc());
     if file.take(ROOM as u64).read_to_end(&mut text).is_err() {
         let _ = println!(rt; "{name}: not read");

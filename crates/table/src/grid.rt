@@ -7,7 +7,7 @@ ghost use Rattle.table.specs.Inner.GridBytes.{narrow, square_bytes};
 use crate::header::Header;
 use rule::limits::{Cells, Row, Square};
 
-// The first n bytes of a row, stored from a place on. Answers the place behind them.
+// The first n bytes of a row, stored from a place on. Answers the place behind them. Buffer and place go side by side, as in the definition `stored`.
 #[tactic(auto, using(crate::proofs::GridWriting::part_stored))]
 fn put_row(row: &Row, header: Header, out: &mut [u8], from: usize) -> usize
     requires { from + header.states ≤ length out.old }

@@ -15,6 +15,7 @@ pub fn letter_questions(table: &[u8], letter: u8, lookup: &mut Lookup) -> Result
     ensures { Answers (letter_questions table.now letter)
         (λ R header. PreparedLetter R header letter lookup.new) result }
 {
+    // blank, on this stack: see `read_rule`
     let mut cells = [[[NO_TRANSITION; STATES]; STATES]; LETTERS];
     let mut words = [[0; STATES]; LETTERS];
     let header = read_rule(table, &mut cells, &mut words)?;

@@ -58,7 +58,8 @@ fn read_body(
     }
 }
 
-// Questions 1 to 6, with blank arrays. Cells and words go side by side: both are arrays of arrays, which no struct can hold here. On yes they hold the rule's grid; on no they are blank. The words are those of the grid.
+// Questions 1 to 6, with blank arrays. On yes they hold the rule's grid; on no they are blank. The words are those of the grid. Cells and words go
+// side by side: both are arrays of arrays, which no struct can hold here. Each caller makes them blank on its own stack, so none is copied.
 pub fn read_rule(table: &[u8], cells: &mut Cells, words: &mut Words) -> Result<Header, Refusal>
     requires { Blank cells.old words.old }
     ensures { ReadInto (read_rule table.now) result cells.new words.new }
@@ -85,6 +86,7 @@ pub fn read_rule(table: &[u8], cells: &mut Cells, words: &mut Words) -> Result<H
 fn put_grid(table: &[u8], grid: &mut [u8]) -> Result<Header, Refusal>
     ensures { Answers (read_outcome table.now grid.old) NumbersOf result × (grid.new ≡ grid_after (read_outcome table.now grid.old) grid.old) }
 {
+    // blank, on this stack: see `read_rule`
     let mut cells = [[[NO_TRANSITION; STATES]; STATES]; LETTERS];
     let mut words = [[0; STATES]; LETTERS];
     let header = read_rule(table, &mut cells, &mut words)?;

@@ -34,7 +34,7 @@ impl From<Refusal> for WriteAnswer {
     }
 }
 
-// Question 11's "each 255 or below 2^k", and the number of transitions.
+// Question 11's "each 255 or below 2^k", and the number of transitions. The loop ends at the first misfit, so it is no filter and count.
 fn count_transitions(grid: &[u8], k: usize) -> Option<usize>
     requires { k < 16 }
     ensures { counted_as result ≡ transition_count k grid.now }
@@ -158,7 +158,7 @@ fn put_table(
     Ok(length)
 }
 
-// THE WRITER: a rule's numbers and grid bytes to table bytes in a lent buffer. Questions 2, 3 and 11, then 10; only then
+// THE WRITER: a rule's numbers and grid bytes to table bytes in a lent buffer. C lends four numbers; they are a `Header` once they are asked. Questions 2, 3 and 11, then 10; only then
 // the table is written.
 #[tactic(auto, unfolding(crate::specs::WriteCall::write_answer))]
 pub fn write(n: usize, m: usize, k: usize, start: u16, grid: &[u8], table: &mut [u8]) -> WriteAnswer

@@ -73,5 +73,6 @@ pub fn record_fits(n: usize, k: usize, bytes: &[u8]) -> bool
     if map == 0 {
         return left.is_empty();
     }
+    // `table` has this test for its own maps, as `fits`
     map < 1u16 << n && (u16::count_ones(map) as usize) < left.len() && body_fits(k, map, left)
 }

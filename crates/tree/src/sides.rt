@@ -43,7 +43,7 @@ impl DoubleBuffer {
         unpack(self.sides[self.side].nodes[number])
     }
 
-    // One node, or none, in the place of the tree.
+    // One node, or none, in the place of the tree. The count is the one that the buffer keeps; an `Option` would only be counted again.
     pub fn lay_root(&mut self, root: Node, count: usize)
         requires { count ≤ 1 }
         ensures { (self.new.count ≡ count)

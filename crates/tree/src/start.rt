@@ -35,6 +35,7 @@ impl From<Refusal> for StartAnswer {
 pub fn start(table: &[u8], buffer: &mut [u8]) -> StartAnswer
     ensures { StartCall table.now buffer.old result buffer.new }
 {
+    // blank, on this stack: see `read_rule`
     let mut cells = [[[NO_TRANSITION; STATES]; STATES]; LETTERS];
     let mut words = [[0; STATES]; LETTERS];
     match read_rule(table, &mut cells, &mut words) {

@@ -19,7 +19,7 @@ fn hosts_state(node: Node, state: usize) -> bool
     (node.label >> state) % 2 == 1 && (node.kids >> state) % 2 != 1
 }
 
-// The number of a state's host, which fits a byte.
+// The number of a state's host, which fits a byte; where no node hosts it, how many there are, as the definition says.
 fn host_node(nodes: &[u64], state: usize) -> u8
     requires { (length nodes.now ≤ places) × (state < 16) }
     ensures { result ≡ host_node 0 (nodes_in nodes.now) state }
@@ -29,6 +29,8 @@ fn host_node(nodes: &[u64], state: usize) -> u8
         .position(|word| hosts_state(unpack(*word), state));
     place.unwrap_or(nodes.len()) as u8
 }
+
+// Buffer and place go side by side in these functions, as in the definition `stored`.
 
 // "for each standing bit, lowest first, the number of its host", stored from a place on. Answers the place behind them.
 fn put_hosts(nodes: &[u64], states: u16, n: usize, out: &mut [u8], from: usize) -> usize

@@ -22,7 +22,7 @@ fn read_rounds(lookups: &Lookups, k: u8, v: &[u8], count: u64, tree: Tree) -> Tr
     Tree::taken(&buffer)
 }
 
-// The entry from `low` to `high`, where `first` is t(low) and `later` is the tree a period further.
+// The entry from `low` to `high`, where `first` is t(low) and `later` is the tree a period further. Number and tree side by side, as in `read_to`.
 fn entry_between(
     lookups: &Lookups,
     k: u8,

@@ -54,7 +54,8 @@ impl From<Refusal> for TreeAnswer {
 // A name length that is none: "On no, the length is 255".
 const NO_NAME: u8 = 255;
 
-// The answer to a walk whose look-ups are ready, with room for a name. It is right for every rule that the look-ups are of.
+// The answer to a walk whose look-ups are ready, with room for a name. It is right for every rule that the look-ups are of. `Prepared` is asked in
+// each function: look-ups are arrays of arrays, which no struct can hold with it.
 fn judge_walk<'a>(
     lookups: &Lookups,
     header: Header,

@@ -12,7 +12,7 @@ use rule::lookup::{Lookup, fill_lookup};
 // A look-up for each letter.
 pub type Lookups = [Lookup; LETTERS];
 
-// The map of all letters of a rule that has m of them. It is made in a wider word, since 2^16 is no u16.
+// The map of all letters of a rule that has m of them. It is made in a wider word, since 2^16 is no u16; the map fits.
 fn all_letters(m: usize) -> u16
     requires { m ≤ max_letters }
     ensures { result ≡ 2 ^ m - 1 }

@@ -20,6 +20,7 @@ pub fn walk_questions(
     ensures { Answers (walk_questions table.now u.now v.now)
         (λ R header. Prepared R header lookups.new u.now v.now) result }
 {
+    // blank, on this stack: see `read_rule`
     let mut cells = [[[NO_TRANSITION; STATES]; STATES]; LETTERS];
     let mut words = [[0; STATES]; LETTERS];
     let header = read_rule(table, &mut cells, &mut words)?;
