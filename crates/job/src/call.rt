@@ -1,12 +1,13 @@
 // One job: its parts, both judges, and the text of the answer.
-ghost use Rattle.std.specs.Prelude.{◌≡◌, ◌≤◌, take};
+ghost use Rattle.std.specs.Prelude.{◌≡◌, take};
 ghost use Rattle.word.specs.Judging.{walk_questions};
-ghost use Rattle.job.specs.JobCall.{JobAnswer, PartsAnswers, text_room};
+ghost use Rattle.job.specs.JobCall.{JobAnswer, PartsAnswers};
 
 use crate::lines::{five_lines, refusal_line};
 use crate::split::split_job;
 use agree::both::judge_both;
 use plain::limits::SCRATCH_LENGTH;
+use std::cmp::min;
 use tree::nodes::Tree;
 
 // The length of a text's array: no answer to a job has more bytes.
@@ -23,10 +24,9 @@ pub struct Text {
 impl Text {
     // The bytes without the zeros.
     pub fn as_bytes(&self) -> &[u8]
-        requires { self.now.length ≤ text_room }
         ensures { result.now ≡ take self.now.length self.now.bytes }
     {
-        &self.bytes[..self.length]
+        &self.bytes[..min(self.length, ROOM)]
     }
 }
 

@@ -13,7 +13,7 @@ fn output_right(job: &[u8], expected: &[u8]) -> bool
     ensures { Tests result (SaysAnswer job.now expected.now) }
 {
     let output = judge_job(job);
-    text_is(expected, &output.bytes[..output.length])
+    text_is(expected, output.as_bytes())
 }
 
 // Is a line right?
