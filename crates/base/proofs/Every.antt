@@ -8,7 +8,8 @@ use native.Mathlib.Omega.{arith}
 use native.Mathlib.Nat.{le_of_suc-le-suc, not-suc-le-zero}
 use borrow.Author.Tests.{ltb-true, lt-ltb, eqb-true, eq-eqb}
 use lib.Dec.{eqb, ltb}
-use lib.ListN.{length, get_or}
+use lib.ListN.{length, get_or, drop}
+use lib.Seq.{drop-cons}
 use Rattle.std.specs.List.{list_any}
 use Rattle.base.specs.Lists.{Every, all_of, any_of, all_below}
 use Rattle.base.proofs.Logic.{clash, and_in, and_both, or_l, or_r, or_in}
@@ -63,6 +64,12 @@ pub any_listed : {A : Type 0} (f : A → Bool) (l : List A) → list_any f l ≡
 unfolding any_of
 any_listed f [] = refl
 any_listed f (x ∷ l) = ap (λ (b : Bool). f x || b) (any_listed f l)
+
+-- the elements from a place on: the one there, then those behind it
+pub any_from : {A : Type 0} (f : A → Bool) (l : List A) (at : ℕ) (d : A) → at < length l
+    → any_of f (drop at l) ≡ (f (get_or l at d) || any_of f (drop (suc at) l))
+unfolding any_of
+any_from f l at d h = rw (drop-cons l at d h)
 
 -- numbers that are found to be below a limit are
 pub below_every : (limit : ℕ) (l : List ℕ) → all_below limit l ≡ true → Every (λ x. x < limit) l

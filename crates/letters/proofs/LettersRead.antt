@@ -75,6 +75,11 @@ module _ (lookups : Lookups) (k : ℕ) (w : List ℕ) where
             reads.holds.number (every_at (HasLookup R lookups) w at 0 reads.has_lookups h).entries next after step).next;
       }
 
+-- letters that are read from a tree, wherever it stands, to a tree that is taken up
+pub reads_taken : (lookups : Lookups) (k : ℕ) (w : List ℕ) {x y first cut : CodeTree} → x ≡ first → cut ≡ y
+    → ReadsTo lookups k w x y → ReadsTo lookups k w first cut
+reads_taken lookups k w from to reads = rw (← from, to) reads
+
 -- FROM A PLACE ON
 
 module _ (lookups : Lookups) (k : ℕ) (w : List ℕ) (x y : CodeTree) (skipped : Option Skipped) (skips : SkipsTo lookups k w x y skipped) where

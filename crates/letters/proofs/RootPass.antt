@@ -26,6 +26,11 @@ use Rattle.letters.specs.Inner.RootPass.{root_by, roots_by, Passable, AloneAt, p
 abbrev pub alone_word : ℕ → Root → ℕ
 alone_word place r = place * 4294967296 + from_bool r.accepted * 16777216 + r.active * 65536 + r.label
 
+-- a truth value as a number is at most 1
+pub bit_small : (b : Bool) → cond b 1 0 ≤ 1
+bit_small true = omega arith
+bit_small false = omega arith
+
 -- a root as it stands where it is alone
 abbrev pub childless : Root → Root
 childless r = record { label = r.label; kids = 0; active = r.active; accepted = r.accepted }
@@ -43,8 +48,8 @@ word_packed place r l a = go r.accepted refl
     parts bit h = (omega arith, omega arith, omega arith, omega arith)
 
     go : (b : Bool) → r.accepted ≡ b → (place_in (alone_word place r) ≡ place) × (root_in (alone_word place r) ≡ childless r)
-    go true e = let (above, label, active, bit) = parts 1 (omega arith) in rw e (above, rw (label, active, bit))
-    go false e = let (above, label, active, bit) = parts 0 (omega arith) in rw e (above, rw (label, active, bit))
+    go true e = let (above, label, active, bit) = parts 1 (bit_small true) in rw e (above, rw (label, active, bit))
+    go false e = let (above, label, active, bit) = parts 0 (bit_small false) in rw e (above, rw (label, active, bit))
 
 -- LETTER BY LETTER
 
@@ -140,7 +145,11 @@ module _ (lookups : Lookups) (k : ℕ) (w : List ℕ) (first : Root) (can : Pass
   parts_small : Every (λ a. a < max_letters) (take n w) × Every (λ a. a < max_letters) (drop n w)
   parts_small = append_every (λ a. a < max_letters) (take n w) (drop n w) (rw (take-append-drop n w) can.letters)
 
-  -- what is behind a first part can be read from the root there
+  -- a first part can be read, and what is behind it, from the root there
+  pub front_passable : Passable k (take n w) first
+  front_passable =
+      record { sets = can.sets; active = can.active; letters = parts_small.0; short = omega (arith, can.short, length-take n w) }
+
   pub rest_passable : (place : ℕ) (r : Root) → r ≡ roots_by lookups k (take place w) first → Passable k (drop n w) r
   rest_passable place r is = record {
     sets = can.sets;

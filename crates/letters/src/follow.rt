@@ -37,13 +37,13 @@ fn carry(buffer: &DoubleBuffer, maps: Maps) -> Maps
     }
 }
 
-// Before the first letter every node of a tree has kept its name, and none was accepting.
-pub fn begin(buffer: &DoubleBuffer) -> Maps
-    requires { buffer.now.count ≤ max_states }
-    ensures { result ≡ all_kept buffer.now.count }
+// Before the first letter every node of a tree that has `count` of them has kept its name, and none was accepting.
+pub fn begin(count: usize) -> Maps
+    requires { count ≤ max_states }
+    ensures { result ≡ all_kept count }
 {
     Maps {
-        kept: (1u16 << buffer.count) - 1,
+        kept: (1u16 << count) - 1,
         witnesses: 0,
     }
 }

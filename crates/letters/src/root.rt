@@ -173,9 +173,10 @@ fn root_on(buffer: &DoubleBuffer) -> Root
     }
 }
 
-// The tree of a root that has no child, put in place: the root alone, or no node.
+// The tree of a root that has no child, put in place: the root alone, or no node. The side stays.
 fn lay_alone(buffer: &mut DoubleBuffer, root: Root)
-    ensures { IsLone (root_as root) (tree_in buffer.new) }
+    ensures lone { IsLone (root_as root) (tree_in buffer.new) }
+    ensures side { buffer.new.side ≡ buffer.old.side }
 {
     let node = Node {
         depth: 0,
@@ -194,11 +195,12 @@ pub struct Skipped {
     pub accepted: bool,
 }
 
-// To a place of w where the root is alone, no other node being read up to there; at none, the tree stands as it is. A stretch longer than a
-// walk's is not read.
+// To a place of w where the root is alone, no other node being read up to there; at none, the tree stands as it is. The side stays. A stretch
+// longer than a walk's is not read.
 fn skip_to_alone(lookups: &Lookups, k: u8, w: &[u8], buffer: &mut DoubleBuffer) -> Option<Skipped>
     requires { Readable lookups.now k w.now (tree_in buffer.old) }
-    ensures { SkipsTo lookups.now k w.now (tree_in buffer.old) (tree_in buffer.new) result }
+    ensures skips { SkipsTo lookups.now k w.now (tree_in buffer.old) (tree_in buffer.new) result }
+    ensures side { buffer.new.side ≡ buffer.old.side }
 {
     if w.len() > MAX_LENGTH {
         return None;
@@ -221,7 +223,8 @@ pub fn skip_while_sparing(
     root_first: &mut bool,
 ) -> Option<Skipped>
     requires { Readable lookups.now k w.now (tree_in buffer.old) }
-    ensures { SkipsTo lookups.now k w.now (tree_in buffer.old) (tree_in buffer.new) result }
+    ensures skips { SkipsTo lookups.now k w.now (tree_in buffer.old) (tree_in buffer.new) result }
+    ensures side { buffer.new.side ≡ buffer.old.side }
 {
     if !*root_first {
         return None;

@@ -7,7 +7,7 @@ use rule::lanes::LANE_WIDTH;
 // The rows of the first `states` states; specs/Inner/Ways.antt says what stands in a row. The rows behind them are not used: an array with
 // its length, since a library has no heap.
 // Behind a `&mut` a row is changed at its place: a slice of them cannot be lent as `&mut` in a proved function, as there is a ghost field.
-#[derive(Drop)]
+#[derive(Clone, Copy)]
 pub struct Matrix {
     pub rows: [u64; LANE_WIDTH],
     pub states: usize,

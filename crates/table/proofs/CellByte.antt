@@ -2,11 +2,15 @@
 use mathlib.Core.Path.{◌≡◌, refl, sym, ◌∙◌, ap}
 use mathlib.Core.Bool.{Bool, true, false}
 use mathlib.Core.List.{List, [], ◌∷◌}
-use Prim.Native.Nat.{ℕ, ◌^◌, ◌<◌}
+use Prim.Native.Nat.{ℕ, suc, ◌-◌, ◌/◌, ◌^◌, ◌≤◌, ◌<◌}
+use native.Mathlib.Omega.{arith}
 use borrow.Author.Tests.{ltb-true}
 use lib.Dec.{ltb}
+use Rattle.base.specs.BitSet.{some}
 use Rattle.base.specs.Outcome.{refused, accepted, ask}
 use Rattle.base.specs.Reading.{Read}
+use Rattle.base.proofs.Tests.{same_below}
+use Rattle.rule.specs.Limits.{max_states}
 use Rattle.table.specs.Table.{read_byte}
 use Rattle.table.specs.Inner.Reader.{next_byte}
 
@@ -24,6 +28,11 @@ byte_there w x [] rest e = cc
 byte_there w x (y ∷ bytes) rest e =
     let pair : ◌≡◌ {A = ℕ × List ℕ} (x, rest) (y, bytes) = cc in
     rw (ap (λ (p : ℕ × List ℕ). p.0) pair, ap (λ (p : ℕ × List ℕ). p.1) pair)
+
+-- the highest byte in which only the bits below w stand
+pub highest : (w : ℕ) → w ≤ max_states → suc (255 / 2 ^ (8 - w)) ≡ 2 ^ w
+unfolding some
+highest w h = same_below 9 (λ w. suc (255 / 2 ^ (8 - w))) (λ w. 2 ^ w) refl w (omega arith)
 
 -- question 5 answered yes, and no
 pub byte_taken : (w x : ℕ) (bytes rest : List ℕ) → accepted (x, rest) ≡ next_byte bytes → ltb x (2 ^ w) ≡ true

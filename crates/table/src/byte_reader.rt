@@ -4,7 +4,7 @@ ghost use Rattle.std.specs.Iterator.{item_count};
 ghost use Rattle.table.specs.Inner.Reader.{ahead, next_as, next_byte};
 
 // The lent bytes of a table, and the place of the byte to be read next.
-#[derive(Drop)]
+#[derive(Clone, Copy)]
 pub struct Reader<'a> {
     src: &'a [u8],
     at: usize,

@@ -7,13 +7,14 @@ ghost use Rattle.table.specs.Table.{read_byte, read_cell, read_row};
 ghost use Rattle.table.specs.Inner.Reader.{ahead, byte_read, progress, read_padded, read_square};
 
 use crate::byte_reader::Reader;
-use crate::header::{Header, fits};
+use crate::header::Header;
 use base::refusal::Refusal;
 use rule::lanes::{in_lane, spread, with_state};
 use rule::limits::{Cells, Row, Square, SquareWords, Words};
 
-// Questions 4 and 5 at one cell byte, in which the bits below `width` may stand.
-#[tactic(auto, using(crate::proofs::CellByte::byte_missing, crate::proofs::CellByte::byte_taken, crate::proofs::CellByte::byte_misfit))]
+// Questions 4 and 5 at one cell byte, in which the bits below `width` may stand: it is not above 255 shifted down to these bits. `fits` would
+// shift each byte; this limit is the same for many.
+#[tactic(auto, using(crate::proofs::CellByte::byte_missing))]
 fn read_byte(reader: &mut Reader<'_>, width: usize) -> Result<u8, Refusal>
     requires { width ≤ max_states }
     ensures { byte_read (ahead reader.new) result ≡ read_byte width (ahead reader.old) }
@@ -21,7 +22,7 @@ fn read_byte(reader: &mut Reader<'_>, width: usize) -> Result<u8, Refusal>
     match reader.next() {
         None => Err(Refusal::CellMissing),
         Some(byte) => {
-            if !fits(u16::from(byte), width) {
+            if 255u16 >> (8 - width) < u16::from(byte) {
                 return Err(Refusal::CellMisfit);
             }
             Ok(byte)

@@ -1,5 +1,5 @@
 // A tree in a double buffer, where letters are read from side to side: a tree is laid there, and the tree that they lead to is taken up.
-ghost use Rattle.std.specs.Prelude.{◌≡◌, ◌<◌, ◌≤◌, ◌∷◌, [], get_or, replicate, take};
+ghost use Rattle.std.specs.Prelude.{◌≡◌, ◌<◌, ◌≤◌, ◌-◌, ◌∷◌, [], get_or, replicate, take};
 ghost use Rattle.tree.specs.Inner.Places.{places, EachPlace};
 
 use crate::nodes::{Node, Preorder, Tree};
@@ -26,7 +26,7 @@ pub struct DoubleBuffer {
 impl DoubleBuffer {
     ghost use Rattle.tree.specs.Inner.Nodes.{blank_node};
     ghost use Rattle.tree.specs.Inner.PackedNodes.{counted_nodes, counted_words, nodes_in};
-    ghost use Rattle.tree.specs.Inner.Sides.{tree_in};
+    ghost use Rattle.tree.specs.Inner.Sides.{tree_in, words_on};
 
     // The words of the nodes that count.
     pub fn nodes(&self) -> &[u64]
@@ -43,11 +43,14 @@ impl DoubleBuffer {
         unpack(self.sides[self.side].nodes[number])
     }
 
-    // One node, or none, in the place of the tree. The count is the one that the buffer keeps; an `Option` would only be counted again.
+    // One node, or none, in the place of the tree, on the side that it stood on. The count is the one that the buffer keeps; an `Option` would
+    // only be counted again.
     pub fn lay_root(&mut self, root: Node, count: usize)
         requires { count ≤ 1 }
-        ensures { (self.new.count ≡ count)
+        ensures laid { (self.new.count ≡ count)
             × (counted_nodes (tree_in self.new) ≡ take count (root ∷ [])) }
+        ensures side { self.new.side ≡ self.old.side }
+        ensures other { words_on self.new (1 - self.new.side) ≡ words_on self.old (1 - self.new.side) }
     {
         self.sides[self.side].nodes[0] = pack(root);
         self.count = count;

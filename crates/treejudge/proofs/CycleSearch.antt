@@ -12,7 +12,7 @@ use Rattle.history.specs.Rounds.{read_letters, round_tree, FirstRepeat}
 use Rattle.history.proofs.Walk.TreesOfWalk.{round_next}
 use Rattle.history.proofs.Repeat.RepeatExists.{repeat_exists}
 use Rattle.history.proofs.Verdict.CycleVerdict.{read_rounds}
-use Rattle.history.proofs.Repeat.CycleFinding.{BrentSoFar, Skips, brent_start, none_skips, brent_more, brent_reset, reset_skips, brent_found, lam_steps, power_doubles}
+use Rattle.history.proofs.Repeat.CycleFinding.{BrentSoFar, Skips, brent_start, none_skips, brent_more, brent_reset, reset_skips, brent_found, lam_steps, power_doubles, brent_measure}
 use Rattle.tree.specs.declared.nodes.Tree.{Tree as CodeTree}
 use Rattle.letters.specs.Inner.Names.{all_kept, Follows, FollowsOn, FollowsTo}
 use Rattle.treejudge.specs.Inner.SameNodes.{same_trees}
@@ -60,10 +60,14 @@ module _ {R : Rule} {u v : List ℕ} {lookups : Lookups} {k : ℕ} {x y : CodeTr
   repeat : (entry : ℕ) × (period : ℕ) × FirstRepeat (round_tree R u v) entry period × (entry + period < 2 ^ 63)
   repeat = let H = S.saved.holds in repeat_exists R H.limits.well H.limits.some_set H.limits.states H.limits.sets u v
 
-  -- so lam fits
+  -- so lam fits, and the loop ends
   pub lam_fits : lam + 1 < 2 ^ 64
   lam_fits =
       let (e, p, F, small) = repeat in lam_steps (round_tree R u v) (read_letters R v) (round_next R u v) e p F small power lam S.brent
+
+  pub search_measure : power + lam < 2 ^ 65
+  search_measure =
+      let (e, p, F, small) = repeat in brent_measure (round_tree R u v) (read_letters R v) (round_next R u v) e p F small power lam S.brent
 
   module _ (next : CodeTree) (n : Maps) (on : FollowsTo lookups k v now m next n) where
     -- it leads to the tree one round further

@@ -32,7 +32,7 @@ pub fn find_cycle(lookups: &Lookups, k: u8, v: &[u8], first: Tree) -> Cycle
     let mut lam = 0u64;
     let mut root_first = true;
     let mut buffer = first.laid();
-    let mut maps = begin(&buffer);
+    let mut maps = begin(buffer.count);
     loop {
         maps = follow_letters(lookups, k, v, &mut buffer, maps, &mut root_first);
         lam += 1;
@@ -52,7 +52,7 @@ pub fn find_cycle(lookups: &Lookups, k: u8, v: &[u8], first: Tree) -> Cycle
             half = power;
             power += power;
             lam = 0;
-            maps = begin(&buffer);
+            maps = begin(buffer.count);
         }
     }
 }

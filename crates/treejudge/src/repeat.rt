@@ -34,7 +34,7 @@ fn early_repeat(lookups: &Lookups, k: u8, head: &[u8], rest: &[u8], first: Tree)
     let mut buffer = first.laid();
     read_letters(lookups, k, head, &mut buffer, &mut true);
     let cut = Tree::taken(&buffer);
-    let begun = begin(&buffer);
+    let begun = begin(buffer.count);
     let second = follow_letters(lookups, k, rest, &mut buffer, begun, &mut true);
     let entry = u64::from(!same_nodes(first.nodes(), buffer.nodes()));
     let again = follow_letters(lookups, k, head, &mut buffer, second, &mut true);

@@ -10,9 +10,9 @@ skip_while_sparing-skipped-requires c =
 pub follow_each_letter-requires : goal.follow_each_letter-requires
 follow_each_letter-requires c =
     rw (c.maps_there-maps.ensures, to_end c.place_of.result c.args.w.now, c.place_of.ensures)
-    (behind_followable _ _ c.args.w.now _ _ c.args.from _ c.skip_while_sparing-skipped.ensures c.requires)
+    (behind_followable _ _ c.args.w.now _ _ c.args.from _ c.skip_while_sparing-skipped.ensures.skips c.requires)
 
 pub returns : goal.returns
 returns c =
-    follows_join _ _ c.args.w.now _ _ c.args.from _ c.skip_while_sparing-skipped.ensures _ _
+    follows_join _ _ c.args.w.now _ _ c.args.from _ c.skip_while_sparing-skipped.ensures.skips _ _
     (rw (c.maps_there-maps.ensures, to_end c.place_of.result c.args.w.now, c.place_of.ensures) at c.follow_each_letter.ensures)

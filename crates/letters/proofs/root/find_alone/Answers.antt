@@ -1,9 +1,13 @@
 -- `find_alone` meets its contract: a place in the part that is tried, or one behind it.
 use Rattle.base.proofs.Flattening.{to_end}
 use Rattle.letters.specs.Inner.RootPass.{root_as, AloneAt}
-use Rattle.letters.proofs.RootPass.{rest_passable, alone_front, alone_behind}
+use Rattle.letters.proofs.RootPass.{front_passable, rest_passable, alone_front, alone_behind}
 use Rattle.letters.proofs.root.find_alone.Goals as goal
 use Rattle.letters.proofs.root.find_alone.Goals.{In_ok-tried}
+
+pub last_alone-requires : goal.last_alone-requires
+last_alone-requires c =
+    front_passable c.args.lookups.now _ _ _ c.requires c.tried_part-part.result
 
 -- the place in the part that is tried is one in the whole
 tried : (c : In_ok-tried) → let args = c.args in

@@ -2,6 +2,6 @@
 use Rattle.letters.proofs.RootTrees.{laid_alone}
 use Rattle.letters.proofs.root.lay_alone.Goals as goal
 
-pub returns : goal.returns
-returns c =
-    laid_alone c.args.root _ _ c.from.ensures c.lay_root.ensures.0 c.lay_root.ensures.1
+pub returns-clause-lone : goal.returns-clause-lone
+returns-clause-lone c =
+    laid_alone c.args.root _ _ c.from.ensures c.lay_root.ensures.laid.0 c.lay_root.ensures.laid.1

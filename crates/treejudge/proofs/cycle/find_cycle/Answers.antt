@@ -12,7 +12,7 @@ use Rattle.treejudge.specs.Inner.Cycles.{FirstRound, CycleFound}
 use Rattle.treejudge.specs.Inner.SameNodes.{same_trees}
 use Rattle.treejudge.proofs.SameTrees.{compared}
 use Rattle.treejudge.proofs.RoundsRead.{round_small}
-use Rattle.treejudge.proofs.CycleSearch.{Searching, search_start, search_follows, lam_fits, search_next, search_found, search_more, power_fits, search_reset}
+use Rattle.treejudge.proofs.CycleSearch.{Searching, search_start, search_follows, lam_fits, search_measure, search_next, search_found, search_more, power_fits, search_reset}
 use Rattle.treejudge.proofs.cycle.find_cycle.Goals as goal
 use Rattle.treejudge.proofs.cycle.find_cycle.Goals.{At-loop-buffer, After-same_nodes}
 
@@ -71,11 +71,19 @@ begin-maps-requires-then-lam-power c =
     let (R, u, S) = search-known (goal.at.begin-maps-requires-then-lam-power c).At-loop-buffer in
     round_small (search_next S _ _ c.follow_letters-maps.ensures)
 
+pub loop-buffer-smaller-then-lam-power : goal.loop-buffer-smaller-then-lam-power
+loop-buffer-smaller-then-lam-power c =
+    let (R, u, S) = search-known (goal.at.loop-buffer-smaller-then-lam-power c).At-loop-buffer in omega (arith, search_measure S)
+
 pub loop-buffer-preserved-then-lam-power : goal.loop-buffer-preserved-then-lam-power
 loop-buffer-preserved-then-lam-power c R u A =
     rw (c.begin-maps-then-lam-power.ensures, c.taken-saved.ensures)
     (search_reset (c.loop-buffer.invariant R u A) _ _ c.follow_letters-maps.ensures
     (same (goal.at.loop-buffer-preserved-then-lam-power c).After-same_nodes c.if-same_nodes.false) c.if-lam-power.true)
+
+pub loop-buffer-smaller : goal.loop-buffer-smaller
+loop-buffer-smaller c =
+    let (R, u, S) = search-known (goal.at.loop-buffer-smaller c).At-loop-buffer in omega (arith, search_measure S)
 
 pub loop-buffer-preserved : goal.loop-buffer-preserved
 loop-buffer-preserved c R u A =

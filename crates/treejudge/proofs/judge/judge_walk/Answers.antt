@@ -5,6 +5,7 @@ use Rattle.word.specs.Inner.Prepared.{Prepared}
 use Rattle.history.specs.Tree.{start_tree}
 use Rattle.tree.specs.Inner.Sides.{tree_in}
 use Rattle.letters.specs.Inner.Reading.{Reads, Readable, ReadsTo}
+use Rattle.letters.proofs.LettersRead.{reads_taken}
 use Rattle.treejudge.specs.Inner.Cycles.{AtRound, FirstRound}
 use Rattle.treejudge.specs.Inner.Repeats.{RepeatFound}
 use Rattle.treejudge.proofs.Judging.{lead_reads, first_round, says_no, some_node, says_yes}
@@ -24,8 +25,8 @@ first_place : (c : After-taken-first) →
     (R : Rule) → Prepared R args.header args.lookups.now args.u.now args.v.now
     → AtRound R args.u.now args.v.now args.lookups.now args.header.sets 0 c.taken-first.result
 first_place c R p =
-    rw c.taken-first.ensures
-    (first_round p _ c.start.ensures _ c.letters_left.ensures _ (rw c.laid-buffer.ensures.tree at c.read_letters.ensures))
+    first_round p _ c.start.ensures _ c.letters_left.ensures _
+    (reads_taken _ _ _ c.laid-buffer.ensures.tree c.taken-first.ensures c.read_letters.ensures)
 
 pub read_letters-requires : goal.read_letters-requires
 unfolding Readable

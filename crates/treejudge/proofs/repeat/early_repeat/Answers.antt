@@ -5,6 +5,7 @@ use Rattle.tree.specs.Inner.Sides.{tree_in}
 use Rattle.tree.proofs.TreeNodes.{tree_small}
 use Rattle.letters.specs.Inner.Reading.{Readable, ReadsTo}
 use Rattle.letters.specs.Inner.Names.{all_kept, Followable, FollowsTo}
+use Rattle.letters.proofs.LettersRead.{reads_taken}
 use Rattle.treejudge.specs.Inner.Cycles.{FirstRound}
 use Rattle.treejudge.specs.Inner.Repeats.{RepeatFound}
 use Rattle.treejudge.proofs.SameTrees.{compared}
@@ -15,7 +16,7 @@ use Rattle.treejudge.proofs.repeat.early_repeat.Goals.{After-read_letters, After
 -- the letters up to the cut lead from t(0) to the tree there
 to-cut : (c : After-read_letters) → let args = c.args in
     ReadsTo args.lookups.now args.k args.head.now args.first (tree_in c.read_letters.new.buffer)
-to-cut c = rw c.laid-buffer.ensures.tree at c.read_letters.ensures
+to-cut c = reads_taken _ _ _ c.laid-buffer.ensures.tree refl c.read_letters.ensures
 
 -- the others lead from there to t(1), and its nodes are followed
 to-second : (c : After-follow_letters-second) → let args = c.args in
