@@ -197,7 +197,12 @@ pub struct Skipped {
 
 // To a place of w where the root is alone, no other node being read up to there; at none, the tree stands as it is. The side stays. A stretch
 // longer than a walk's is not read.
-fn skip_to_alone(lookups: &Lookups, k: u8, w: &[u8], buffer: &mut DoubleBuffer) -> Option<Skipped>
+pub fn skip_to_alone(
+    lookups: &Lookups,
+    k: u8,
+    w: &[u8],
+    buffer: &mut DoubleBuffer,
+) -> Option<Skipped>
     requires { Readable lookups.now k w.now (tree_in buffer.old) }
     ensures skips { SkipsTo lookups.now k w.now (tree_in buffer.old) (tree_in buffer.new) result }
     ensures side { buffer.new.side ≡ buffer.old.side }

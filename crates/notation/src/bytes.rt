@@ -9,44 +9,53 @@ pub(crate) const LONGEST: usize = 33000;
 
 // A byte string: those bytes that stand in front of its end in an array. It is no `Vec`, since memory that runs out would be one more outcome of
 // each contract above.
-#[derive(Drop)]
+#[derive(Clone, Copy)]
 pub struct Bytes {
     room: [u8; LONGEST],
     end: usize,
 }
 
 impl Model for Bytes {
-    ghost use Rattle.std.specs.Prelude.{ℕ, List, ◌≤◌, take};
+    ghost use Rattle.std.specs.Prelude.{◌≤◌, ◌++◌, take, drop};
+    ghost use Rattle.std.proofs.Common.{take-append-drop};
+    ghost use Rattle.notation.specs.Bytes.{Held};
 
-    ghost Value = { List ℕ };
+    ghost Value = { Held };
 
-    ghost view = { λ bytes. take bytes.end bytes.room };
+    ghost view = { λ b. record { bytes = take b.end b.room; spare = drop b.end b.room; end = b.end } };
 
-    ghost invariant = { λ bytes. bytes.end ≤ 33000 };
-}
+    ghost invariant = { λ b. b.end ≤ 33000 };
 
-// Each place has this byte.
-fn filled(byte: u8) -> [u8; LONGEST]
-    ensures { result ≡ replicate longest byte }
-{
-    [byte; LONGEST]
+    ghost inverse = { λ held. record { room = held.bytes ++ held.spare; end = held.end } };
+
+    ghost inverse_ok = { λ b h i. record { room = take-append-drop b.end b.room i; end = b.end } };
 }
 
 impl Bytes {
-    // A byte so many times.
-    pub(crate) fn repeat(byte: u8, count: usize) -> Bytes
-        requires { count ≤ longest }
-        ensures { result ≡ replicate count byte }
+    // No byte.
+    pub(crate) fn empty() -> Bytes
+        ensures { result.bytes ≡ [] }
     {
         Bytes {
-            room: filled(byte),
-            end: count,
+            room: [0; LONGEST],
+            end: 0,
         }
+    }
+
+    // A byte so many times, and no other.
+    #[tactic(auto, unfolding(crate::specs::Hexadecimal::longest))]
+    pub(crate) fn fill(&mut self, byte: u8, count: usize)
+        requires { count ≤ longest }
+        ensures { self.new.bytes ≡ replicate count byte }
+    {
+        self.room[..count].fill(byte);
+        self.end = count;
     }
 
     // One byte more at the end; nothing where there is no room for it.
     pub(crate) fn push(&mut self, byte: u8) -> Option<()>
-        ensures { MatchOption result (longest ≤ length self.old) (λ _. (length self.new ≤ longest) × (self.new ≡ self.old ++ byte ∷ [])) }
+        ensures { MatchOption result (longest ≤ length self.old.bytes)
+            (λ _. (length self.new.bytes ≤ longest) × (self.new.bytes ≡ self.old.bytes ++ byte ∷ [])) }
     {
         if self.end == LONGEST {
             return None;
@@ -58,14 +67,14 @@ impl Bytes {
 
     // All bytes.
     pub fn as_slice(&self) -> &[u8]
-        ensures { result.now ≡ self.now }
+        ensures { result.now ≡ self.now.bytes }
     {
         &self.room[..self.end]
     }
 
     // All bytes, to be written.
     pub fn as_mut_slice(&mut self) -> &mut [u8]
-        ensures { result.now ≡ self.old }
+        ensures { result.now ≡ self.old.bytes }
     {
         &mut self.room[..self.end]
     }

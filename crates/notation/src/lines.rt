@@ -1,5 +1,5 @@
 // Texts in parts: the lines of a file, the fields of a line, the numbers of a field.
-ghost use Rattle.std.specs.Prelude.{◌≡◌, ◌+◌, length};
+ghost use Rattle.std.specs.Prelude.{◌≡◌, ◌+◌, drop, length};
 ghost use Rattle.notation.specs.Parts.{field_at, part_at, parts};
 
 // What stands between the fields of a line.
@@ -15,6 +15,13 @@ pub fn part(text: &[u8], separator: u8, number: usize) -> &[u8]
     text.split(|letter| *letter == separator)
         .nth(number)
         .unwrap_or(&[])
+}
+
+// The first place of a separator from a place on; the text's end where there is none.
+pub fn end_of(text: &[u8], separator: u8, from: usize) -> usize
+    ensures { result ≡ from + length (part_at separator (drop from text.now) 0) }
+{
+    from + part(text.get(from..).unwrap_or(&[]), separator, 0).len()
 }
 
 // A field of a line.

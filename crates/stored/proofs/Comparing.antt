@@ -2,8 +2,10 @@
 use Rattle.std.proofs.Common.{◌≡◌, refl, sym, ◌∙◌, ap, Bool, List, [], ◌∷◌, ℕ, length, get_or, arith, Option, Some, None}
 use Rattle.std.proofs.lemmas.Option.{none-some}
 use Rattle.successors.specs.declared.call.SuccessorsAnswer.{SuccessorsAnswer}
+use Rattle.notation.specs.Bytes.{Held, bytes_in}
 use Rattle.notation.specs.Testing.{Tests, HasNumbers}
 use Rattle.notation.specs.Decimal.{decimal_within}
+use Rattle.notation.specs.Hexadecimal.{byte_string}
 use Rattle.stored.specs.Calls.{successors_numbers, Gives}
 use Rattle.stored.specs.Inner.Comparing.{Compared}
 use Rattle.stored.specs.declared.calls.Call.{Call}
@@ -28,8 +30,13 @@ compared_some call line lent text after same numbers tells gives = record {
 }
 
 -- an argument is there
-pub present : {A : Type 0} {found text : Option A} {a b : A} → found ≡ Some a → found ≡ text → b ≡ a → text ≡ Some b
-present {A} was is same = sym is ∙ was ∙ ap {B = Option A} Some (sym same)
+pub present : {found : Option Held} {text : Option (List ℕ)} {held : Held} {bytes : List ℕ} → found ≡ Some held → bytes_in found ≡ text → bytes ≡ held.bytes
+    → text ≡ Some bytes
+present was is same = sym is ∙ ap bytes_in was ∙ ap {B = Option (List ℕ)} Some (sym same)
+
+pub argument : {found : Option Held} {text there : List ℕ} {held : Held} {bytes : List ℕ} → found ≡ Some held → bytes_in found ≡ byte_string text
+    → text ≡ there → bytes ≡ held.bytes → byte_string there ≡ Some bytes
+argument was is at same = present was (is ∙ ap byte_string at) same
 
 pub number_present : (limit : ℕ) (text field : List ℕ) (found : Option ℕ) (n : ℕ) → found ≡ Some n → found ≡ decimal_within limit text → text ≡ field
     → decimal_within limit field ≡ Some n

@@ -1,8 +1,9 @@
 -- The lines of a file, one after the other.
-use Rattle.std.proofs.Common.{◌≡◌, refl, sym, ◌∙◌, ap, List, [], ◌∷◌, ℕ, suc, ◌+◌, ◌<◌, ◌≤◌, length, drop, get_or, length-drop, drop_of_length-le, add-one, ◌-◌, ◌⊎◌, inl, inr, Option, Some, None, MatchOption, Bor, Bool, true, false, not, cond, eqb, arith}
+use Rattle.std.proofs.Common.{◌≡◌, refl, sym, ◌∙◌, ap, List, [], ◌∷◌, ℕ, suc, ◌+◌, ◌<◌, ◌≤◌, length, drop, take, get_or, length-drop, drop_of_length-le, add-one, ◌-◌, ◌⊎◌, inl, inr, Option, Some, None, MatchOption, Bor, Bool, true, false, not, cond, eqb, arith}
 use Rattle.std.specs.List.{onto_first, starts_with, slice_range}
 use Rattle.std.specs.Option.{unwrap_or}
 use Rattle.std.proofs.Math.Seq.{take_all}
+use Rattle.std.proofs.lemmas.List.{length-take}
 use Rattle.std.proofs.Math.Bool.{and-true}
 use Rattle.std.proofs.lemmas.Bool.{eqb-true, eqb-false, eq-eqb, ne_eqb}
 use Rattle.notation.specs.Parts.{newline, parts, part_at}
@@ -66,6 +67,23 @@ more_letters letter rest before true = empty_line (parts newline rest) (some_par
 more_letters letter rest before false =
     rw first_onto (without_onto letter (parts newline rest) (without_end (parts newline (drop (suc (length (part_at newline rest 0))) rest))) before)
 
+-- the first line is the front of the text, and no longer than it
+line_front : (text : List ℕ) → take (length (part_at newline text 0)) text ≡ part_at newline text 0
+line_front [] = refl
+line_front (letter ∷ rest) = go (eqb letter newline) (parts newline rest) (line_front rest)
+  where
+    first : Bool → List (List ℕ) → List ℕ
+    first t behind = get_or (cond t ([] ∷ behind) (onto_first letter behind)) 0 []
+
+    go : (t : Bool) (behind : List (List ℕ)) → take (length (get_or behind 0 [])) rest ≡ get_or behind 0 []
+        → take (length (first t behind)) (letter ∷ rest) ≡ first t behind
+    go true behind before = refl
+    go false [] before = refl
+    go false (part ∷ more) before = ap {B = List ℕ} (λ l. letter ∷ l) before
+
+pub line_short : (text : List ℕ) → length (part_at newline text 0) ≤ length text
+line_short text = omega (arith, ap length (line_front text), length-take (length (part_at newline text 0)) text)
+
 line_first : (text : List ℕ) → 0 < length text
     → lines_of text ≡ part_at newline text 0 ∷ lines_of (drop (suc (length (part_at newline text 0))) text)
 unfolding lines_of
@@ -74,12 +92,13 @@ line_first (letter ∷ []) h = one_letter letter (eqb letter newline)
 line_first (letter ∷ next ∷ rest) h = more_letters letter (next ∷ rest) (line_first (next ∷ rest) (omega arith)) (eqb letter newline)
 
 -- so the first line, where it ends, and fewer letters behind it
-pub first_line : (text line behind : List ℕ) → 0 < length text → line ≡ part_at newline text 0 → behind ≡ drop (length line + 1) text
-    → (lines_of text ≡ line ∷ lines_of behind) × (length behind < length text)
-first_line text line behind h e b =
+pub first_line : (text behind : List ℕ) (end : ℕ) → 0 < length text → end ≡ length (part_at newline text 0) → behind ≡ drop (end + 1) text
+    → (lines_of text ≡ take end text ∷ lines_of behind) × (length behind < length text)
+first_line text behind end h e b =
     let size = length (part_at newline text 0) in
+    let line : take end text ≡ part_at newline text 0 = ap (λ (n : ℕ). take n text) e ∙ line_front text in
     let there : behind ≡ drop (suc size) text = b ∙ rw (e, add-one) in
-    (rw (e, there) (line_first text h), rw there (omega (arith, length-drop (suc size) text)))
+    (rw (line, there) (line_first text h), rw there (omega (arith, length-drop (suc size) text)))
 
 -- the text from a place on, or nothing past its end
 pub rest_or : (found : Option (Bor (List ℕ))) (other : Bor (List ℕ)) (text : List ℕ) (n : ℕ) → other.now ≡ []

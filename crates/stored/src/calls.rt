@@ -119,7 +119,8 @@ pub fn call_right(line: &[u8]) -> bool
     if separators(line, TAB) != arguments + 3 {
         return false;
     }
-    let Some(mut lent) = field_bytes(line, arguments + 1) else {
+    let mut found = field_bytes(line, arguments + 1);
+    let Some(lent) = &mut found else {
         return false;
     };
     lent_right(call, line, lent.as_mut_slice())

@@ -1,5 +1,6 @@
 // The fields of a line that have byte strings.
 ghost use Rattle.std.specs.Prelude.{◌≡◌};
+ghost use Rattle.notation.specs.Bytes.{bytes_in};
 ghost use Rattle.notation.specs.Hexadecimal.{byte_string};
 ghost use Rattle.notation.specs.Parts.{field_at};
 
@@ -9,7 +10,7 @@ use notation::lines::field;
 
 // The byte string that a field has.
 pub fn field_bytes(line: &[u8], number: usize) -> Option<Bytes>
-    ensures { result ≡ byte_string (field_at line.now number) }
+    ensures { bytes_in result ≡ byte_string (field_at line.now number) }
 {
     bytes_of(field(line, number))
 }

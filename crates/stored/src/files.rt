@@ -4,9 +4,10 @@ ghost use Rattle.std.specs.Fn.{FnReturnsAt};
 ghost use Rattle.stored.specs.Tallies.{Kind, Tallied, TestsLines, has_case, lines_of};
 ghost use Rattle.stored.specs.Inner.Comparing.{LineTallied};
 
-use notation::lines::{NEWLINE, part};
+use notation::lines::{NEWLINE, end_of};
+use program::console::read_full;
 use std::fs;
-use std::io::{Eprint, Print, Read};
+use std::io::{Eprint, Print};
 use std::rt::Files;
 
 // How many cases a file has, and how many of them differ.
@@ -30,12 +31,12 @@ fn next_line(text: &[u8]) -> Option<(&[u8], &[u8])>
     if text.is_empty() {
         return None;
     }
-    let line = part(text, NEWLINE, 0);
-    Some((line, text.get(line.len() + 1..).unwrap_or(&[])))
+    let end = end_of(text, NEWLINE, 0);
+    Some((&text[..end], text.get(end + 1..).unwrap_or(&[])))
 }
 
-// Runs the case of a line, if it has one, and counts it. A difference is named by file and line. That the test can be called is asked in each
-// function: the type of a function cannot carry it.
+// Runs the case of a line, if it has one, and counts it. A difference is named by file and line. That the test can be called, and that it tests the
+// lines of some kind, is asked in each function: the type of a function cannot carry it.
 fn run_line<P: Print, F: Fn(&[u8]) -> bool>(
     rt: &P,
     name: &str,
@@ -46,6 +47,7 @@ fn run_line<P: Print, F: Fn(&[u8]) -> bool>(
 ) -> Tally
     requires few { (tally.differences ≤ tally.cases) × (tally.cases < number) }
     requires callable { F.IsAlwaysCallable right.now }
+    requires tests { (kind : Kind) × TestsLines (FnReturnsAt F.Fn right.now) kind }
     ensures few { (result.differences ≤ result.cases) × (result.cases ≤ tally.cases + 1) }
     ensures counted { (kind : Kind) → TestsLines (FnReturnsAt F.Fn right.now) kind → LineTallied kind line.now tally result }
 {
@@ -63,7 +65,8 @@ fn run_line<P: Print, F: Fn(&[u8]) -> bool>(
 
 // Runs the cases of all lines.
 fn run_lines<P: Print, F: Fn(&[u8]) -> bool>(rt: &P, name: &str, right: &F, text: &[u8]) -> Tally
-    requires { F.IsAlwaysCallable right.now }
+    requires callable { F.IsAlwaysCallable right.now }
+    requires tests { (kind : Kind) × TestsLines (FnReturnsAt F.Fn right.now) kind }
     ensures { (kind : Kind) → TestsLines (FnReturnsAt F.Fn right.now) kind → Tallied kind (lines_of text.now) result.cases result.differences }
 {
     let mut tally = Tally {
@@ -84,16 +87,18 @@ fn run_lines<P: Print, F: Fn(&[u8]) -> bool>(rt: &P, name: &str, right: &F, text
 // Room for a file and a byte more. One that fills it may be longer.
 const ROOM: usize = 1200000;
 
+fn room() -> [u8; ROOM]
+    ensures { 1200000 ≡ length result }
+{
+    [0; ROOM]
+}
+
 // Runs the cases of a file. None is run of a file that is missing, or for which there is no room.
-pub fn run_file<R: Files + Alloc + Print + Eprint, F: Fn(&[u8]) -> bool>(
-    rt: &R,
-    name: &str,
-    right: F,
-)
+pub fn run_file<R: Files + Print + Eprint, F: Fn(&[u8]) -> bool>(rt: &R, name: &str, right: F)
     requires callable { F.IsAlwaysCallable right }
     requires tests { (kind : Kind) × TestsLines (FnReturnsAt F.Fn right) kind }
 {
-    let file = match fs::open(rt, name) {
+    let mut file = match fs::open(rt, name) {
         Ok(file) => file,
         Err(error) => {
             let _ = eprintln!(rt; "{name}: {error}");
@@ -101,17 +106,16 @@ pub fn run_file<R: Files + Alloc + Print + Eprint, F: Fn(&[u8]) -> bool>(
             return;
         }
     };
-    // std has no `From` of `usize` to `u64`
-    let mut text = Vec::new(rt.alloc());
-    if file.take(ROOM as u64).read_to_end(&mut text).is_err() {
+    let mut text = room();
+    let Ok(length) = read_full(&mut file, &mut text) else {
         let _ = println!(rt; "{name}: not read");
         return;
-    }
-    if text.len() >= ROOM {
+    };
+    if length == ROOM {
         let _ = println!(rt; "{name}: longer than the room");
         return;
     }
-    let tally = run_lines(rt, name, &right, &text);
+    let tally = run_lines(rt, name, &right, &text[..length]);
     let cases = tally.cases;
     let differences = tally.differences;
     let _ = println!(rt; "{name}: {cases} cases, {differences} differences");

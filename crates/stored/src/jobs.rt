@@ -23,7 +23,8 @@ pub fn job_right(line: &[u8]) -> bool
     if separators(line, TAB) != 1 {
         return false;
     }
-    let Some(job) = field_bytes(line, 0) else {
+    let found = field_bytes(line, 0);
+    let Some(job) = &found else {
         return false;
     };
     output_right(job.as_slice(), field(line, 1))

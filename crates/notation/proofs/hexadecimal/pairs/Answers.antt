@@ -7,16 +7,16 @@ use Rattle.notation.proofs.hexadecimal.pairs.Goals as goal
 
 pub loop-rest-init : goal.loop-rest-init
 loop-rest-init c =
-    laid_none _ _ c.repeat-bytes.ensures
+    laid_none _ _ c.requires
 
 pub returns-in_err-pair : goal.returns-in_err-pair
 returns-in_err-pair c =
-    c.from_residual.ensures ∙ sym (laid_no_pair c.loop-rest.invariant c.in-len2-up.len_at_least (sym c.pair.ensures ∙ c.in_err-pair.was))
+    rw c.from_residual.ensures (sym (laid_no_pair c.loop-rest.invariant c.in-len2-up.len_at_least (sym c.pair.ensures ∙ c.in_err-pair.was)))
 
 pub returns-in_err-push : goal.returns-in_err-push
 returns-in_err-push c =
-    c.from_residual-in_err-push.ensures
-    ∙ sym (laid_full c.loop-rest.invariant c.in-len2-up.len_at_least _ (sym c.pair.ensures ∙ c.in_ok-pair.was) c.in_err-push.ensures)
+    rw c.from_residual-in_err-push.ensures
+    (sym (laid_full c.loop-rest.invariant c.in-len2-up.len_at_least _ (sym c.pair.ensures ∙ c.in_ok-pair.was) c.in_err-push.ensures))
 
 pub loop-rest-preserved : goal.loop-rest-preserved
 loop-rest-preserved c =

@@ -7,14 +7,14 @@ use Rattle.notation.proofs.hexadecimal.run.Goals as goal
 pub returns-in_err-count : goal.returns-in_err-count
 unfolding longest
 returns-in_err-count c =
-    c.from_residual.ensures ∙ sym (run_none c.args.byte _ (sym c.number_of.ensures ∙ c.in_err-count.was))
+    rw c.from_residual.ensures (sym (run_none c.args.byte _ (sym c.number_of.ensures ∙ c.in_err-count.was)))
 
-pub repeat-requires : goal.repeat-requires
+pub fill-requires : goal.fill-requires
 unfolding longest
-repeat-requires c =
+fill-requires c =
     (run_some c.args.byte _ _ (sym c.number_of.ensures ∙ c.in_ok-count.was)).0
 
 pub returns : goal.returns
 unfolding longest
 returns c =
-    ap {B = Option (List ℕ)} Some c.repeat.ensures ∙ sym (run_some c.args.byte _ _ (sym c.number_of.ensures ∙ c.in_ok-count.was)).1
+    ap {B = Option (List ℕ)} Some c.fill.ensures ∙ sym (run_some c.args.byte _ _ (sym c.number_of.ensures ∙ c.in_ok-count.was)).1

@@ -1,6 +1,7 @@
 -- A stored job: its line.
-use Rattle.std.proofs.Common.{◌∙◌, sym, arith}
+use Rattle.std.proofs.Common.{◌∙◌, sym, ap, arith}
 use Rattle.std.proofs.lemmas.Option.{none-some}
+use Rattle.notation.specs.Bytes.{bytes_in}
 use Rattle.notation.proofs.Testing.{tests_no}
 use Rattle.stored.proofs.Comparing.{present}
 use Rattle.stored.proofs.RightLines.{job_tests}
@@ -12,9 +13,9 @@ returns-then-separators-ne1 c =
 
 pub returns-in_default : goal.returns-in_default
 returns-in_default c =
-    tests_no (λ R. none-some _ (sym c.in_default.is ∙ c.field_bytes.ensures ∙ R.has_job))
+    tests_no (λ R. none-some _ (sym (ap bytes_in c.in_default.is) ∙ c.field_bytes-found.ensures ∙ R.has_job))
 
 pub returns : goal.returns
 returns c =
     job_tests _ _ _ _ (omega (arith, c.if-separators-ne1.false, c.separators.ensures)) c.field.ensures
-    (present c.in-Some.is c.field_bytes.ensures c.as_slice.ensures) c.output_right.ensures
+    (present c.in-Some.is c.field_bytes-found.ensures c.as_slice.ensures) c.output_right.ensures

@@ -3,12 +3,12 @@ use Rattle.std.proofs.Common.{◌∙◌, sym, arith}
 use Rattle.notation.specs.Hexadecimal.{byte_string, no_longer}
 use Rattle.notation.proofs.Testing.{tests_not}
 use Rattle.notation.proofs.ByteTexts.{empty_fits, a_dash, a_star, only_pairs}
-use Rattle.notation.proofs.hexadecimal.bytes_of.Goals as goal
+use Rattle.notation.proofs.hexadecimal.put.Goals as goal
 
 pub returns-then-same : goal.returns-then-same
 unfolding byte_string
 returns-then-same c =
-    rw (a_dash _ (c.same.ensures.0 c.if-same.true), c.repeat.ensures) (sym empty_fits)
+    rw (a_dash _ (c.same.ensures.0 c.if-same.true), c.requires) (sym empty_fits)
 
 pub returns-in_default : goal.returns-in_default
 unfolding byte_string
@@ -26,7 +26,7 @@ pub returns-in_err-pair : goal.returns-in_err-pair
 unfolding byte_string no_longer
 returns-in_err-pair c =
     let star = a_star c.args.text.now c.in-len3-up.len_at_least c.if-third-ne42.false in
-    c.from_residual.ensures ∙ rw (star, ← c.pair.ensures, c.in_err-pair.was)
+    rw (c.from_residual.ensures, star, ← c.pair.ensures, c.in_err-pair.was)
 
 pub returns : goal.returns
 unfolding byte_string
