@@ -68,7 +68,7 @@ more_letters letter rest before false =
     rw first_onto (without_onto letter (parts newline rest) (without_end (parts newline (drop (suc (length (part_at newline rest 0))) rest))) before)
 
 -- the first line is the front of the text, and no longer than it
-line_front : (text : List ℕ) → take (length (part_at newline text 0)) text ≡ part_at newline text 0
+pub line_front : (text : List ℕ) → take (length (part_at newline text 0)) text ≡ part_at newline text 0
 line_front [] = refl
 line_front (letter ∷ rest) = go (eqb letter newline) (parts newline rest) (line_front rest)
   where

@@ -84,7 +84,7 @@ fn run_lines<P: Print, F: Fn(&[u8]) -> bool>(rt: &P, name: &str, right: &F, text
     tally
 }
 
-// Room for a file and a byte more. One that fills it may be longer.
+// Room for a file and a byte more. One that fills it may be longer. It is an array, so that no heap is asked, which can run out.
 const ROOM: usize = 1200000;
 
 fn room() -> [u8; ROOM]

@@ -1,6 +1,6 @@
 // Reading the cells of a table (questions 4 and 5) into arrays of arrays, and each state's images into a word.
-ghost use Rattle.std.specs.Prelude.{◌≡◌, ◌^◌, ◌<◌, ◌≤◌, IfOk};
-ghost use Rattle.rule.specs.Limits.{max_sets, max_states};
+ghost use Rattle.std.specs.Prelude.{◌≡◌, ◌<◌, ◌≤◌, IfOk};
+ghost use Rattle.rule.specs.Limits.{max_states};
 ghost use Rattle.rule.specs.Inner.Padded.{blank_cells, blank_row, blank_square};
 ghost use Rattle.rule.specs.Inner.Lookup.{grid_words, row_word, square_words};
 ghost use Rattle.table.specs.Table.{read_byte, read_cell, read_row};
@@ -12,8 +12,8 @@ use base::refusal::Refusal;
 use rule::lanes::{in_lane, spread, with_state};
 use rule::limits::{Cells, Row, Square, SquareWords, Words};
 
-// Questions 4 and 5 at one cell byte, in which the bits below `width` may stand: it is not above 255 shifted down to these bits. `fits` would
-// shift each byte; this limit is the same for many.
+// Questions 4 and 5 at one cell byte, in which the bits below `width` may stand: it is not above 255 shifted down to these bits. This
+// limit is the same for many bytes; compiled, `fits` shifts each byte.
 #[tactic(auto, using(crate::proofs::CellByte::byte_missing))]
 fn read_byte(reader: &mut Reader<'_>, width: usize) -> Result<u8, Refusal>
     requires { width ≤ max_states }
