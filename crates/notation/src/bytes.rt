@@ -33,13 +33,20 @@ impl Model for Bytes {
 
 impl Bytes {
     // No byte.
-    pub(crate) fn empty() -> Bytes
+    pub fn empty() -> Bytes
         ensures { result.bytes ≡ [] }
     {
         Bytes {
             room: [0; LONGEST],
             end: 0,
         }
+    }
+
+    // No byte any more.
+    pub(crate) fn clear(&mut self)
+        ensures { self.new.bytes ≡ [] }
+    {
+        self.end = 0;
     }
 
     // A byte so many times, and no other.

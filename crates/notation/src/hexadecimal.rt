@@ -43,11 +43,11 @@ fn run(byte: u8, count: &[u8], bytes: &mut Bytes) -> Option<()>
     Some(())
 }
 
-// The byte string that a text has, put where no byte is: each is long, and this way none is moved but once.
-fn put(text: &[u8], bytes: &mut Bytes) -> Option<()>
-    requires { bytes.old.bytes ≡ [] }
+// The byte string that a text has, put in place of another: each has a long array, and so none is moved.
+pub fn put(text: &[u8], bytes: &mut Bytes) -> Option<()>
     ensures { option_map (λ _. bytes.new.bytes) result ≡ byte_string text.now }
 {
+    bytes.clear();
     if same(text, b"-") {
         return Some(());
     }

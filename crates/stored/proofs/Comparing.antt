@@ -5,7 +5,6 @@ use Rattle.successors.specs.declared.call.SuccessorsAnswer.{SuccessorsAnswer}
 use Rattle.notation.specs.Bytes.{Held, bytes_in}
 use Rattle.notation.specs.Testing.{Tests, HasNumbers}
 use Rattle.notation.specs.Decimal.{decimal_within}
-use Rattle.notation.specs.Hexadecimal.{byte_string}
 use Rattle.stored.specs.Calls.{successors_numbers, Gives}
 use Rattle.stored.specs.Inner.Comparing.{Compared}
 use Rattle.stored.specs.declared.calls.Call.{Call}
@@ -33,10 +32,6 @@ compared_some call line lent text after same numbers tells gives = record {
 pub present : {found : Option Held} {text : Option (List ℕ)} {held : Held} {bytes : List ℕ} → found ≡ Some held → bytes_in found ≡ text → bytes ≡ held.bytes
     → text ≡ Some bytes
 present was is same = sym is ∙ ap bytes_in was ∙ ap {B = Option (List ℕ)} Some (sym same)
-
-pub argument : {found : Option Held} {text there : List ℕ} {held : Held} {bytes : List ℕ} → found ≡ Some held → bytes_in found ≡ byte_string text
-    → text ≡ there → bytes ≡ held.bytes → byte_string there ≡ Some bytes
-argument was is at same = present was (is ∙ ap byte_string at) same
 
 pub number_present : (limit : ℕ) (text field : List ℕ) (found : Option ℕ) (n : ℕ) → found ≡ Some n → found ≡ decimal_within limit text → text ≡ field
     → decimal_within limit field ≡ Some n

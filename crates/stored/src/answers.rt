@@ -5,9 +5,9 @@ ghost use Rattle.stored.specs.Calls.{successors_numbers};
 ghost use Rattle.stored.specs.Inner.Comparing.{Compared};
 ghost use Rattle.stored.specs.declared.calls.Call.TheVariants.{Plain, Read, Same, Start, Step, Successors, Tree, Write};
 
+use crate::fields::field_bytes;
 use crate::rules::rule_of;
 use notation::decimal::{number_of, numbers_are};
-use notation::hexadecimal::bytes_of;
 use notation::lines::field;
 use plain::judge::plain_judge;
 use spelling::same::same_walk;
@@ -28,7 +28,7 @@ use treejudge::judge::tree_judge;
 pub fn read_right(line: &[u8], numbers: &[u8], buffer: &mut [u8]) -> Option<bool>
     ensures { Compared Read line.now buffer.old numbers.now buffer.new result }
 {
-    let table = bytes_of(field(line, 1));
+    let table = field_bytes(line, 1);
     let table = table.as_ref()?;
     let given = read(table.as_slice(), buffer);
     let answer = [
@@ -46,7 +46,7 @@ pub fn write_right(line: &[u8], numbers: &[u8], buffer: &mut [u8]) -> Option<boo
     ensures { Compared Write line.now buffer.old numbers.now buffer.new result }
 {
     let rule = rule_of(field(line, 1))?;
-    let grid = bytes_of(field(line, 2));
+    let grid = field_bytes(line, 2);
     let grid = grid.as_ref()?;
     let given = write(rule.n, rule.m, rule.k, rule.start, grid.as_slice(), buffer);
     let answer = [u64::from(given.number), given.written as u64];
@@ -57,7 +57,7 @@ pub fn write_right(line: &[u8], numbers: &[u8], buffer: &mut [u8]) -> Option<boo
 pub fn start_right(line: &[u8], numbers: &[u8], buffer: &mut [u8]) -> Option<bool>
     ensures { Compared Start line.now buffer.old numbers.now buffer.new result }
 {
-    let table = bytes_of(field(line, 1));
+    let table = field_bytes(line, 1);
     let table = table.as_ref()?;
     let given = start(table.as_slice(), buffer);
     let answer = [u64::from(given.number), given.written as u64];
@@ -68,10 +68,10 @@ pub fn start_right(line: &[u8], numbers: &[u8], buffer: &mut [u8]) -> Option<boo
 pub fn step_right(line: &[u8], numbers: &[u8], buffer: &mut [u8]) -> Option<bool>
     ensures { Compared Step line.now buffer.old numbers.now buffer.new result }
 {
-    let table = bytes_of(field(line, 1));
+    let table = field_bytes(line, 1);
     let table = table.as_ref()?;
     let letter = number_of(field(line, 2), 255)?;
-    let bytes = bytes_of(field(line, 3));
+    let bytes = field_bytes(line, 3);
     let bytes = bytes.as_ref()?;
     let given = step(table.as_slice(), letter as u8, bytes.as_slice(), buffer);
     let answer = [
@@ -87,11 +87,11 @@ pub fn step_right(line: &[u8], numbers: &[u8], buffer: &mut [u8]) -> Option<bool
 pub fn tree_right(line: &[u8], numbers: &[u8], buffer: &mut [u8]) -> Option<bool>
     ensures { Compared Tree line.now buffer.old numbers.now buffer.new result }
 {
-    let table = bytes_of(field(line, 1));
+    let table = field_bytes(line, 1);
     let table = table.as_ref()?;
-    let u = bytes_of(field(line, 2));
+    let u = field_bytes(line, 2);
     let u = u.as_ref()?;
-    let v = bytes_of(field(line, 3));
+    let v = field_bytes(line, 3);
     let v = v.as_ref()?;
     let given = tree_judge(table.as_slice(), u.as_slice(), v.as_slice(), buffer);
     let answer = [
@@ -108,11 +108,11 @@ pub fn tree_right(line: &[u8], numbers: &[u8], buffer: &mut [u8]) -> Option<bool
 pub fn plain_right(line: &[u8], numbers: &[u8], buffer: &mut [u8]) -> Option<bool>
     ensures { Compared Plain line.now buffer.old numbers.now buffer.new result }
 {
-    let table = bytes_of(field(line, 1));
+    let table = field_bytes(line, 1);
     let table = table.as_ref()?;
-    let u = bytes_of(field(line, 2));
+    let u = field_bytes(line, 2);
     let u = u.as_ref()?;
-    let v = bytes_of(field(line, 3));
+    let v = field_bytes(line, 3);
     let v = v.as_ref()?;
     let given = plain_judge(table.as_slice(), u.as_slice(), v.as_slice(), buffer);
     let answer = [u64::from(given.number), u64::from(given.verdict)];
@@ -123,13 +123,13 @@ pub fn plain_right(line: &[u8], numbers: &[u8], buffer: &mut [u8]) -> Option<boo
 pub fn same_right(line: &[u8], numbers: &[u8], buffer: &mut [u8]) -> Option<bool>
     ensures { Compared Same line.now buffer.old numbers.now buffer.new result }
 {
-    let u = bytes_of(field(line, 1));
+    let u = field_bytes(line, 1);
     let u = u.as_ref()?;
-    let v = bytes_of(field(line, 2));
+    let v = field_bytes(line, 2);
     let v = v.as_ref()?;
-    let u2 = bytes_of(field(line, 3));
+    let u2 = field_bytes(line, 3);
     let u2 = u2.as_ref()?;
-    let v2 = bytes_of(field(line, 4));
+    let v2 = field_bytes(line, 4);
     let v2 = v2.as_ref()?;
     let given = same_walk(u.as_slice(), v.as_slice(), u2.as_slice(), v2.as_slice());
     let answer = [u64::from(given.number), u64::from(given.same)];
@@ -155,7 +155,7 @@ fn successors_numbers(given: SuccessorsAnswer) -> [u64; 6]
 pub fn successors_right(line: &[u8], numbers: &[u8], buffer: &mut [u8]) -> Option<bool>
     ensures { Compared Successors line.now buffer.old numbers.now buffer.new result }
 {
-    let table = bytes_of(field(line, 1));
+    let table = field_bytes(line, 1);
     let table = table.as_ref()?;
     let letter = number_of(field(line, 2), 255)?;
     let states = number_of(field(line, 3), 65535)?;

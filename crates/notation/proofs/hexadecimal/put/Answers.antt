@@ -8,7 +8,7 @@ use Rattle.notation.proofs.hexadecimal.put.Goals as goal
 pub returns-then-same : goal.returns-then-same
 unfolding byte_string
 returns-then-same c =
-    rw (a_dash _ (c.same.ensures.0 c.if-same.true), c.requires) (sym empty_fits)
+    rw (a_dash _ (c.same.ensures.0 c.if-same.true), c.clear.ensures) (sym empty_fits)
 
 pub returns-in_default : goal.returns-in_default
 unfolding byte_string

@@ -1,7 +1,7 @@
 -- The comparison of two walks, its answer compared.
 use Rattle.std.proofs.Common.{sym, refl, ◌∷◌, []}
 use Rattle.stored.specs.declared.calls.Call.TheVariants.{Same}
-use Rattle.stored.proofs.Comparing.{argument, compared_some}
+use Rattle.stored.proofs.Comparing.{compared_some, present}
 use Rattle.stored.proofs.answers.same_right.Goals as goal
 
 pub returns : goal.returns
@@ -12,10 +12,10 @@ returns c =
       v = c.as_slice-2.result.now;
       u' = c.as_slice-3.result.now;
       v' = c.as_slice-4.result.now;
-      has_lead = argument (sym c.in_ok-u.ensures.value) c.bytes_of-u.ensures c.field.ensures c.as_slice.ensures;
-      has_tail = argument (sym c.in_ok-v.ensures.value) c.bytes_of-v.ensures c.field-2.ensures c.as_slice-2.ensures;
-      has_lead' = argument (sym c.in_ok-u2.ensures.value) c.bytes_of-u2.ensures c.field-3.ensures c.as_slice-3.ensures;
-      has_tail' = argument (sym c.in_ok-v2.ensures.value) c.bytes_of-v2.ensures c.field-4.ensures c.as_slice-4.ensures;
+      has_lead = present (sym c.in_ok-u.ensures.value) c.field_bytes-u.ensures c.as_slice.ensures;
+      has_tail = present (sym c.in_ok-v.ensures.value) c.field_bytes-v.ensures c.as_slice-2.ensures;
+      has_lead' = present (sym c.in_ok-u2.ensures.value) c.field_bytes-u2.ensures c.as_slice-3.ensures;
+      has_tail' = present (sym c.in_ok-v2.ensures.value) c.field_bytes-v2.ensures c.as_slice-4.ensures;
       answer = c.same_walk-given.result;
       compared = c.same_walk-given.ensures;
       answers = rw (c.from.ensures, c.from-2.ensures);

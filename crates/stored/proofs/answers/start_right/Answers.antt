@@ -2,7 +2,7 @@
 use Rattle.std.proofs.Common.{sym, ap, ◌∷◌, []}
 use Rattle.stored.specs.Calls.{start_numbers}
 use Rattle.stored.specs.declared.calls.Call.TheVariants.{Start}
-use Rattle.stored.proofs.Comparing.{argument, compared_some}
+use Rattle.stored.proofs.Comparing.{compared_some, present}
 use Rattle.stored.proofs.answers.start_right.Goals as goal
 
 pub returns : goal.returns
@@ -11,7 +11,7 @@ returns c =
     compared_some Start _ _ _ _ _ (c.from.result ∷ given.written ∷ []) c.numbers_are.ensures
     (record {
       table = c.as_slice.result.now;
-      has_table = argument (sym c.in_ok-table.ensures.value) c.bytes_of-table.ensures c.field.ensures c.as_slice.ensures;
+      has_table = present (sym c.in_ok-table.ensures.value) c.field_bytes-table.ensures c.as_slice.ensures;
       answers = rw c.from.ensures (ap start_numbers c.start-given.ensures.0);
       leaves = c.start-given.ensures.1;
     })

@@ -3,7 +3,7 @@ use Rattle.std.proofs.Common.{◌∙◌, sym, ap, arith, ◌∷◌, []}
 use Rattle.notation.proofs.DecimalDigits.{limit_kept}
 use Rattle.stored.specs.Calls.{step_numbers}
 use Rattle.stored.specs.declared.calls.Call.TheVariants.{Step}
-use Rattle.stored.proofs.Comparing.{argument, compared_some, number_present}
+use Rattle.stored.proofs.Comparing.{compared_some, present, number_present}
 use Rattle.stored.proofs.answers.step_right.Goals as goal
 
 pub overflow_cast-letter : goal.overflow_cast-letter
@@ -18,9 +18,9 @@ returns c =
       table = c.as_slice.result.now;
       letter = c.in_ok-letter.letter;
       bytes = c.as_slice-2.result.now;
-      has_table = argument (sym c.in_ok-table.ensures.value) c.bytes_of-table.ensures c.field.ensures c.as_slice.ensures;
-      has_letter = number_present 255 _ _ _ _ c.in_ok-letter.was c.number_of.ensures c.field-2.ensures;
-      has_bytes = argument (sym c.in_ok-bytes.ensures.value) c.bytes_of-bytes.ensures c.field-3.ensures c.as_slice-2.ensures;
+      has_table = present (sym c.in_ok-table.ensures.value) c.field_bytes-table.ensures c.as_slice.ensures;
+      has_letter = number_present 255 _ _ _ _ c.in_ok-letter.was c.number_of.ensures c.field.ensures;
+      has_bytes = present (sym c.in_ok-bytes.ensures.value) c.field_bytes-bytes.ensures c.as_slice-2.ensures;
       answers = rw (c.from.ensures, c.from-2.ensures, c.from-3.ensures) (ap step_numbers c.step-given.ensures.0);
       leaves = c.step-given.ensures.1;
     })

@@ -3,7 +3,7 @@ use Rattle.std.proofs.Common.{◌∙◌, sym, refl, ap, arith}
 use Rattle.notation.proofs.DecimalDigits.{limit_kept}
 use Rattle.stored.specs.Calls.{successors_numbers}
 use Rattle.stored.specs.declared.calls.Call.TheVariants.{Successors}
-use Rattle.stored.proofs.Comparing.{argument, compared_some, number_present}
+use Rattle.stored.proofs.Comparing.{compared_some, present, number_present}
 use Rattle.stored.proofs.answers.successors_right.Goals as goal
 
 pub overflow_cast-letter : goal.overflow_cast-letter
@@ -21,9 +21,9 @@ returns c =
       table = c.as_slice.result.now;
       letter = c.in_ok-letter.letter;
       states = c.in_ok-states.states;
-      has_table = argument (sym c.in_ok-table.ensures.value) c.bytes_of-table.ensures c.field.ensures c.as_slice.ensures;
-      has_letter = number_present 255 _ _ _ _ c.in_ok-letter.was c.number_of.ensures c.field-2.ensures;
-      has_states = number_present 65535 _ _ _ _ c.in_ok-states.was c.number_of-2.ensures c.field-3.ensures;
+      has_table = present (sym c.in_ok-table.ensures.value) c.field_bytes-table.ensures c.as_slice.ensures;
+      has_letter = number_present 255 _ _ _ _ c.in_ok-letter.was c.number_of.ensures c.field.ensures;
+      has_states = number_present 65535 _ _ _ _ c.in_ok-states.was c.number_of-2.ensures c.field-2.ensures;
       answers = c.successors_numbers.ensures ∙ ap successors_numbers c.successors-given.ensures;
       leaves = refl;
     })

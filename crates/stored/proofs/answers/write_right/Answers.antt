@@ -2,7 +2,7 @@
 use Rattle.std.proofs.Common.{sym, ap, subst, ◌∷◌, []}
 use Rattle.stored.specs.Calls.{write_numbers, RuleText}
 use Rattle.stored.specs.declared.calls.Call.TheVariants.{Write}
-use Rattle.stored.proofs.Comparing.{argument, compared_none, compared_some}
+use Rattle.stored.proofs.Comparing.{compared_none, compared_some, present}
 use Rattle.stored.proofs.answers.write_right.Goals as goal
 
 pub returns-in_err-rule : goal.returns-in_err-rule
@@ -23,7 +23,7 @@ returns c =
       start = rule.start;
       grid = c.as_slice.result.now;
       has_rule = subst (λ text. RuleText text rule.n rule.m rule.k rule.start) c.field.ensures c.in_ok-rule.ensures;
-      has_grid = argument (sym c.in_ok-grid.ensures.value) c.bytes_of-grid.ensures c.field-2.ensures c.as_slice.ensures;
+      has_grid = present (sym c.in_ok-grid.ensures.value) c.field_bytes-grid.ensures c.as_slice.ensures;
       answers = rw c.from.ensures (ap write_numbers c.write-given.ensures.0);
       leaves = c.write-given.ensures.1;
     })
